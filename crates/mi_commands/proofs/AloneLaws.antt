@@ -27,12 +27,12 @@ use Rattle.mi_model.specs.OneTable as one
 use Rattle.mi_model.specs.OneTable.{OneTable, IsAsOneTable, in_catalog}
 use Rattle.mi_model.proofs.OneTableLaws.{one_table_as_before}
 use Rattle.mi_request.specs.Json.{has_only, needed}
-use Rattle.mi_request.specs.Commands.{Form, keeps_out}
+use Rattle.mi_request.specs.Commands.{Form, keeps_out, names_table}
 use Rattle.mi_request.proofs.FormLemmas.{forms_name_none}
 use Rattle.mi_request.specs.Lines.{json_of, request_by, form_in, request_in, request_or_refusal, command_line}
 use Rattle.mi_request.specs.declared.request.Request.{Request}
 use Rattle.mi_request.specs.declared.request.Request.TheVariants as request
-use Rattle.mi_protocol.specs.FirstTable.{names_table, IsOverFirst}
+use Rattle.mi_protocol.specs.FirstTable.{IsOverFirst}
 use Rattle.mi_protocol.proofs.FirstTableLaws.{no_name_is_the_first}
 use Rattle.mi_protocol.specs.Binding.{bound_command}
 use Rattle.mi_protocol.specs.Replies as say

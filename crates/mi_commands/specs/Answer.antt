@@ -4,7 +4,7 @@ use Rattle.mi_value.specs.declared.refusal.Refusal.{Refusal}
 use Rattle.mi_value.specs.declared.refusal.Refusal.TheVariants.{Line, Busy, Memory}
 use Rattle.mi_protocol.specs.Lines.{command_line}
 use Rattle.mi_protocol.specs.Commands.{keeps_out}
-use Rattle.mi_protocol.specs.Binding.{bound_command, binds_without, table_of}
+use Rattle.mi_protocol.specs.Binding.{bound_command, binds_without, over_table}
 use Rattle.mi_protocol.specs.Replies.{Said, refused, reply_text}
 use Rattle.mi_request.specs.Short.{short_line}
 use Rattle.mi_request.specs.declared.request.Request.{Request}
@@ -51,7 +51,7 @@ done_without command.Start = false
 done_without (command.Reserve changes sessions) = false
 done_without (command.Size table) = true
 done_without (command.Rank table index id) = true
-done_without c = is_none (table_of c)
+done_without c = is_none (over_table c)
 
 -- a line that takes no memory from its first byte to its reply: one of these, as it is written without spaces
 abbrev pub TakesNone : List ℕ → Type 0

@@ -40,7 +40,7 @@ use Rattle.mi_protocol.specs.Binding.{and_then, table_number, of_kind, index_num
 use Rattle.mi_protocol.specs.Binding.{bound_modify, named_key, bound_ends, bound_range, bound_relocate, bound_command, FitsCatalog}
 use Rattle.mi_request.specs.declared.request.End.{End}
 use Rattle.mi_request.specs.declared.request.End.TheVariants.{Open, With, Without}
-use Rattle.mi_request.specs.declared.request.Place.{Place}
+use Rattle.mi_request.specs.declared.request.NamedPlace.{NamedPlace}
 use Rattle.mi_request.specs.declared.request.Request.{Request}
 use Rattle.mi_request.specs.declared.request.Request.TheVariants as request
 use Rattle.mi_protocol.specs.declared.binding.Command.{Command}
@@ -220,7 +220,7 @@ index-fits kinds s name =
 abbrev IsPlaceOf : Shape → Option (ℕ × ℕ) → Type 0
 IsPlaceOf s at = IfSome at (λ p. (index_at s p.0).kind ≡ Sequenced)
 
-place-fits : (s : Shape) (p : Option Place) → Holds (bound_place s p) (IsPlaceOf s)
+place-fits : (s : Shape) (p : Option NamedPlace) → Holds (bound_place s p) (IsPlaceOf s)
 place-fits s None = tt
 place-fits s (Some p) = then (IsIndexOf is_sequenced s) (IsPlaceOf s) _ (index_number is_sequenced s p.index)
     (index-fits is_sequenced s p.index) (λ x h. sequenced (index_at s x).kind h.1)
@@ -251,7 +251,7 @@ AreEditsOf s edits = AreEdits s.columns edits
 abbrev IsKeyOf : Shape → ℕ → Bool → List Value → Type 0
 IsKeyOf s x whole key = fits_key s.columns (index_at s x).parts whole key ≡ true
 
-insert-fits : (c : CatalogShape) (n : ℕ) (row : Members) (before : Option Place)
+insert-fits : (c : CatalogShape) (n : ℕ) (row : Members) (before : Option NamedPlace)
     → n < length c.tables → Holds (bound_insert (schema_at c n) n row before) (FitsCatalog c)
 insert-fits c n row before there =
     then (IsPlaceOf (schema_at c n)) (FitsCatalog c) _ (bound_place (schema_at c n) before) (place-fits (schema_at c n) before)

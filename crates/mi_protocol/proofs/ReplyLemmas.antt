@@ -3,7 +3,7 @@ use Rattle.std.proofs.Common.{◌≡◌, ◌≢◌, ℕ, zero, suc, ◌<◌, ◌
 use Rattle.std.proofs.Common.{not, ◌&&◌, ◌||◌, ◌⊎◌, inl, inr, refl, sym, ap, ◌∙◌, arith, append_assoc, codes, decimal, true≢false, rules}
 use Rattle.std.specs.List.{list_all}
 use Rattle.std.specs.Str.{bytes_eq}
-use Rattle.std.proofs.lemmas.Bool.{leb-true, eqb-true}
+use Rattle.std.proofs.lemmas.Bool.{leb-true, eqb-true, and_parts, or_cases}
 use Rattle.std.proofs.lemmas.Bool.Decides.{eqb_tells}
 use Rattle.std.proofs.lemmas.Slice.Eq.{bytes_eq-Decides}
 use Rattle.json.specs.Print.{escape, escape_byte}
@@ -20,18 +20,10 @@ use Rattle.mi_protocol.specs.ReplyJson.{refusal_data, modify_refusal_data, reply
 
 -- ---- tests
 
-and_true : (a b : Bool) → (a && b) ≡ true → (a ≡ true) × (b ≡ true)
-and_true true b h = (refl, h)
-and_true false b h = absurd (true≢false (sym h))
-
-or_true : (a b : Bool) → (a || b) ≡ true → (a ≡ true) ⊎ (b ≡ true)
-or_true true b h = inl refl
-or_true false b h = inr h
-
 all_at : {A : Type 0} (p : A → Bool) (xs : List A) (i : ℕ) (d : A) → list_all p xs ≡ true → i < length xs → p (slice_index_or xs i d) ≡ true
 all_at p [] i d h lt = absurd (omega arith)
-all_at p (x ∷ xs) zero d h lt = (and_true (p x) _ h).0
-all_at p (x ∷ xs) (suc i) d h lt = all_at p xs i d (and_true (p x) _ h).1 (omega arith)
+all_at p (x ∷ xs) zero d h lt = (and_parts (p x) _ h).0
+all_at p (x ∷ xs) (suc i) d h lt = all_at p xs i d (and_parts (p x) _ h).1 (omega arith)
 
 abbrev all_below : (ℕ → Bool) → ℕ → Bool
 all_below p zero = true
@@ -47,7 +39,7 @@ below_place p n i here before (inr less) = before less
 below_at : (p : ℕ → Bool) (n i : ℕ) → all_below p n ≡ true → i < n → p i ≡ true
 below_at p zero i h lt = absurd (omega arith)
 below_at p (suc n) i h lt =
-    let t = and_true (p n) (all_below p n) h in
+    let t = and_parts (p n) (all_below p n) h in
     below_place p n i t.0 (below_at p n i t.1) (last i n lt)
 
 -- ---- names
@@ -61,16 +53,16 @@ unfolding escape_byte
 all_plain = refl
 
 small : (b : ℕ) → continues_name b ≡ true → b < 123
-small b h = elim (or_true (starts_name b) (nat_le 48 b && nat_le b 57) h) [
-  | inl starts ↦ elim (or_true (nat_le 97 b && nat_le b 122) (b == 95) starts) [
-    | inl letter ↦ let le : b ≤ 122 = leb-true b 122 (and_true (nat_le 97 b) (nat_le b 122) letter).1 in omega arith
+small b h = elim (or_cases (starts_name b) (nat_le 48 b && nat_le b 57) h) [
+  | inl starts ↦ elim (or_cases (nat_le 97 b && nat_le b 122) (b == 95) starts) [
+    | inl letter ↦ let le : b ≤ 122 = leb-true b 122 (and_parts (nat_le 97 b) (nat_le b 122) letter).1 in omega arith
     | inr line ↦ let is : b ≡ 95 = eqb-true b 95 line in omega arith
   ]
-  | inr digit ↦ let le : b ≤ 57 = leb-true b 57 (and_true (nat_le 48 b) (nat_le b 57) digit).1 in omega arith
+  | inr digit ↦ let le : b ≤ 57 = leb-true b 57 (and_parts (nat_le 48 b) (nat_le b 57) digit).1 in omega arith
 ]
 
 plain_byte : (b : ℕ) → continues_name b ≡ true → escape_byte b ≡ b ∷ []
-plain_byte b h = elim (or_true (not (continues_name b)) (bytes_eq (escape_byte b) (b ∷ [])) (below_at is_plain 123 b all_plain (small b h))) [
+plain_byte b h = elim (or_cases (not (continues_name b)) (bytes_eq (escape_byte b) (b ∷ [])) (below_at is_plain 123 b all_plain (small b h))) [
   | inl other ↦ absurd (true≢false (sym (sym (ap not h) ∙ other)))
   | inr same ↦ (bytes_eq-Decides (escape_byte b) (b ∷ [])).0 same
 ]
@@ -78,14 +70,14 @@ plain_byte b h = elim (or_true (not (continues_name b)) (bytes_eq (escape_byte b
 plain_name : (name : List ℕ) → list_all continues_name name ≡ true → escape name ≡ name
 plain_name [] h = refl
 plain_name (b ∷ bs) h =
-    let p = and_true (continues_name b) _ h in
+    let p = and_parts (continues_name b) _ h in
     λ i. plain_byte b p.0 i ++ plain_name bs p.1 i
 
 of_name : (name : List ℕ) → is_name name ≡ true → list_all continues_name name ≡ true
 of_name [] h = absurd (true≢false (sym h))
 of_name (b ∷ bs) h =
-    let p = and_true (starts_name b) (list_all continues_name bs)
-    (and_true (starts_name b && list_all continues_name bs) (nat_le (length (b ∷ bs)) MAX_NAME) h).0 in
+    let p = and_parts (starts_name b) (list_all continues_name bs)
+    (and_parts (starts_name b && list_all continues_name bs) (nat_le (length (b ∷ bs)) MAX_NAME) h).0 in
     ap (λ t. (t || (nat_le 48 b && nat_le b 57)) && list_all continues_name bs) p.0 ∙ p.1
 
 index_plain : (n : ℕ) (is : List Index) (x : ℕ) (d : Index) → are_indexes n is ≡ true
@@ -103,7 +95,7 @@ index_plain n (i ∷ is) (suc x) d h lt =
 schema_indexes : (s : Shape) → is_schema s ≡ true → are_indexes (length s.columns) s.indexes ≡ true
 schema_indexes s h =
     let named = is_name s.table_name && are_columns s.columns in
-    (and_true named (are_indexes (length s.columns) s.indexes) (and_true (named && are_indexes (length s.columns) s.indexes) (are_numbers s) h).0).1
+    (and_parts named (are_indexes (length s.columns) s.indexes) (and_parts (named && are_indexes (length s.columns) s.indexes) (are_numbers s) h).0).1
 
 name_plain : (c : CatalogShape) (n x : ℕ) → is_catalog c ≡ true → n < length c.tables
     → x < length (schema_at c n).indexes → escape (index_name c n x) ≡ index_name c n x

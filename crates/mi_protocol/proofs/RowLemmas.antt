@@ -4,6 +4,7 @@ use Rattle.std.proofs.Common.{Option, Some, None, ◌++◌, option_map, option_a
 use Rattle.std.proofs.Common.{if◌then◌else◌}
 use Rattle.std.specs.List.{list_any, list_all}
 use Rattle.std.specs.Str.{bytes_eq}
+use Rattle.std.proofs.lemmas.Bool.{and_parts}
 use Rattle.std.proofs.lemmas.Slice.Eq.{bytes_eq-Decides}
 use Rattle.serde_json.specs.Data.{Members, no_members, put}
 use Rattle.mi_value.specs.declared.value.Value.{Value}
@@ -29,18 +30,9 @@ pub one_more : (front : List ValueRef) (v : ValueRef) (r : Option (List Value))
 one_more front v None = refl
 one_more front v (Some vs) = ap Some (append_one front v vs)
 
--- nothing in front
-pub in_front_none : (r : Option (List Value)) → option_map (λ vs. [] ++ vs) r ≡ r
-in_front_none None = refl
-in_front_none (Some vs) = refl
-
 not_or : (a b : Bool) → not (a || b) ≡ true → (a ≡ false) × (not b ≡ true)
 not_or true b h = absurd (true≢false (sym h))
 not_or false b h = (refl, h)
-
-and_true : (a b : Bool) → (a && b) ≡ true → (a ≡ true) × (b ≡ true)
-and_true true b h = (refl, h)
-and_true false b h = absurd (true≢false (sym h))
 
 -- ---- members in the columns' order
 
@@ -73,7 +65,7 @@ values_pairwise : (cs : List Column) (ms : List Member) (found : Members) → na
 values_pairwise [] ms found same h = refl
 values_pairwise (c ∷ cs) [] found same h = absurd (cc)
 values_pairwise (c ∷ cs) (m ∷ ms) found same h =
-    let p = and_true _ _ h in
+    let p = and_parts _ _ h in
     let first : m.0.now ≡ c.name = ap first_of_names same in
     let rest : names ms ≡ names_of cs = ap others_of_names same in
     let alone = none_of c.name ms (subst (λ ns. not (list_any (λ n. bytes_eq c.name n) ns) ≡ true) (sym rest) p.0) in

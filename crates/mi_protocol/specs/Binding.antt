@@ -17,7 +17,7 @@ use Rattle.mi_catalog.specs.Kinds.{has_keys, is_sequenced, is_sorted, is_ranked,
 use Rattle.mi_protocol.specs.Values.{bound_row}
 use Rattle.mi_request.specs.Commands.{table_member}
 use Rattle.mi_request.specs.declared.request.End.{End}
-use Rattle.mi_request.specs.declared.request.Place.{Place}
+use Rattle.mi_request.specs.declared.request.NamedPlace.{NamedPlace}
 use Rattle.mi_request.specs.declared.request.Request.{Request}
 use Rattle.mi_request.specs.declared.request.Request.TheVariants as request
 use Rattle.mi_protocol.specs.declared.binding.Command.{Command}
@@ -42,12 +42,12 @@ abbrev pub index_number : (IndexKind → Bool) → Shape → List ℕ → Result
 index_number kinds s name = and_then (of_kind kinds s) (ok_or (find_index s name) Index)
 
 -- the place that is named, if one is
-abbrev pub bound_place : Shape → Option Place → Result (Option (ℕ × ℕ)) Refusal
+abbrev pub bound_place : Shape → Option NamedPlace → Result (Option (ℕ × ℕ)) Refusal
 bound_place s None = Ok None
 bound_place s (Some p) = and_then (λ x. Ok (Some (x, p.id))) (index_number is_sequenced s p.index)
 
 -- an insert into table n, whose place is bound before its row
-abbrev pub bound_insert : Shape → ℕ → Members → Option Place → Result Command Refusal
+abbrev pub bound_insert : Shape → ℕ → Members → Option NamedPlace → Result Command Refusal
 bound_insert s n row before =
     and_then (λ at. and_then (λ values. Ok (command.Insert n values at)) (ok_or (bound_row s.columns row) Row)) (bound_place s before)
 
@@ -148,21 +148,21 @@ FitsCatalog c (command.Size n) = HasTable c n
 FitsCatalog c session = Unit {0}
 
 -- the table that a command is over; one over sessions has none
-abbrev pub table_of : Command → Option ℕ
-table_of (command.Insert n row before) = Some n
-table_of (command.Replace n id row) = Some n
-table_of (command.Modify n id edits rollback) = Some n
-table_of (command.Erase n id) = Some n
-table_of (command.EraseKey n x key) = Some n
-table_of (command.Relocate n x id before) = Some n
-table_of (command.Get n id) = Some n
-table_of (command.Find n x key) = Some n
-table_of (command.Nth t x n) = Some t
-table_of (command.Count n x key) = Some n
-table_of (command.Range n x low high reverse limit) = Some n
-table_of (command.List n x after limit) = Some n
-table_of (command.Rank n x id) = Some n
-table_of (command.LowerRank n x key) = Some n
-table_of (command.UpperRank n x key) = Some n
-table_of (command.Size n) = Some n
-table_of session = None
+abbrev pub over_table : Command → Option ℕ
+over_table (command.Insert n row before) = Some n
+over_table (command.Replace n id row) = Some n
+over_table (command.Modify n id edits rollback) = Some n
+over_table (command.Erase n id) = Some n
+over_table (command.EraseKey n x key) = Some n
+over_table (command.Relocate n x id before) = Some n
+over_table (command.Get n id) = Some n
+over_table (command.Find n x key) = Some n
+over_table (command.Nth t x n) = Some t
+over_table (command.Count n x key) = Some n
+over_table (command.Range n x low high reverse limit) = Some n
+over_table (command.List n x after limit) = Some n
+over_table (command.Rank n x id) = Some n
+over_table (command.LowerRank n x key) = Some n
+over_table (command.UpperRank n x key) = Some n
+over_table (command.Size n) = Some n
+over_table session = None

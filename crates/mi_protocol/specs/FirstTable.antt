@@ -1,19 +1,14 @@
 -- Lines that name no table: they are over the first, as if the catalog had no other.
-use Rattle.std.specs.Prelude.{◌≡◌, Bool, false, [], ◌∷◌, IfOk, IfSome, is_some}
-use Rattle.std.specs.Option.{option_map_or}
+use Rattle.std.specs.Prelude.{◌≡◌, false, [], ◌∷◌, IfOk, IfSome}
 use Rattle.mi_catalog.specs.Shape.{CatalogShape, schema_at}
-use Rattle.mi_request.specs.Commands.{table_member}
+use Rattle.mi_request.specs.Commands.{names_table}
 use Rattle.mi_request.specs.declared.request.Request.{Request}
 use Rattle.mi_protocol.specs.declared.binding.Command.{Command}
-use Rattle.mi_protocol.specs.Binding.{bound_command, table_of}
-
--- whether a request has the member `table`, which requests of sessions never have
-abbrev pub names_table : Request → Bool
-names_table r = option_map_or is_some (table_member r) false
+use Rattle.mi_protocol.specs.Binding.{bound_command, over_table}
 
 -- a command over the first table, or over sessions
 abbrev pub IsOverFirst : Command → Type 0
-IsOverFirst c = IfSome (table_of c) (λ n. n ≡ 0)
+IsOverFirst c = IfSome (over_table c) (λ n. n ≡ 0)
 
 -- a request that names no table is a command over the first
 abbrev pub NoNameIsTheFirst : Type 0

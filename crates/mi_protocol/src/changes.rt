@@ -8,7 +8,7 @@ use crate::edits::bind_edits;
 use crate::indexes::{bind_place, sequenced_index, whole_key};
 use crate::row::bind_row;
 use mi_catalog::Catalog;
-use mi_request::{Array, Name, Object, Place};
+use mi_request::{Array, Name, NamedPlace, Object};
 use mi_value::Refusal;
 use std::alloc::Global;
 
@@ -17,7 +17,7 @@ pub(crate) fn bind_insert(
     alloc: Global,
     table: Option<Name>,
     row: Object,
-    before: Option<Place>,
+    before: Option<NamedPlace>,
     catalog: &Catalog,
 ) -> Result<Command, Refusal>
     ensures { IsAnswer result (bound_command catalog.now (request.Insert table.entry row.entry before.entry)) }

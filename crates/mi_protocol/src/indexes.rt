@@ -9,7 +9,7 @@ ghost use Rattle.mi_catalog.specs.Kinds as kinds;
 
 use crate::keys::bind_key;
 use mi_catalog::Schema;
-use mi_request::{Array, Name, Place};
+use mi_request::{Array, Name, NamedPlace};
 use mi_value::{Key, Refusal};
 use std::alloc::Global;
 
@@ -115,7 +115,7 @@ pub(crate) fn ranked_key(
 
 /// The sequenced index and the id that a place names.
 pub(crate) fn bind_place(
-    place: Option<Place>,
+    place: Option<NamedPlace>,
     schema: &Schema,
 ) -> Result<Option<(usize, u64)>, Refusal>
     ensures { result ≡ bound_place schema.now place.entry }

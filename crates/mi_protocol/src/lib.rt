@@ -19,6 +19,6 @@ pub use binding::{Command, bind};
 pub use edits::Edits;
 pub use labels::ReplyLabels;
 pub use laws::{lines_edit_columns_once, lines_without_a_table, replies_are_compact_json};
-pub use mi_request::{Array, End, Json, LineReader, Name, Object, Place, Request};
+pub use mi_request::{Array, End, Json, LineReader, Name, NamedPlace, Object, Request};
 pub use reply::Reply;
 pub use text::ReplyText;

@@ -1,12 +1,12 @@
 -- The request of members without `table` names no table.
-use Rattle.std.proofs.Common.{◌≡◌, ℕ, List, Bool, false, Option, Some, None, IfSome, is_some, codes, refl, sym, ap, subst}
-use Rattle.std.specs.Option.{option_map, option_and_then, option_map_or}
+use Rattle.std.proofs.Common.{◌≡◌, ℕ, List, Bool, false, Option, Some, None, IfSome, codes, refl, sym, ap, subst}
+use Rattle.std.specs.Option.{option_map, option_and_then}
 use Rattle.serde_json.specs.Data.{Members, no_members}
 use Rattle.serde_json.specs.Find.{get_member, as_object, as_str, as_bool}
 use Rattle.mi_value.specs.declared.limits.TheConstants.{MAX_RESERVED_CHANGES, MAX_RESERVED_SESSIONS}
 use Rattle.mi_request.specs.Bare.{asked_bare}
 use Rattle.mi_request.specs.Json.{natural, needed, optional, default, option_map₂, option_map₃, option_map₄, option_map₅, option_map₆, if_there}
-use Rattle.mi_request.specs.Commands.{Form, form_of, command_named, table_member, table_in, index_in, id_in}
+use Rattle.mi_request.specs.Commands.{Form, form_of, command_named, names_table, table_in, index_in, id_in}
 use Rattle.mi_request.specs.Commands.{key_in, limit_in, lower_end, upper_end, up_to, place_or_none, natural_or_null}
 use Rattle.mi_request.specs.declared.bare.Bare.{Bare}
 use Rattle.mi_request.specs.declared.bare.Bare.TheVariants as bare
@@ -15,10 +15,6 @@ use Rattle.mi_request.specs.declared.command.CommandName.TheVariants as name
 use Rattle.mi_request.specs.declared.request.End.TheVariants.{Open}
 use Rattle.mi_request.specs.declared.request.Request.{Request}
 use Rattle.mi_request.specs.declared.request.Request.TheVariants as request
-
--- whether a request has the member `table`
-abbrev names_table : Request → Bool
-names_table r = option_map_or is_some (table_member r) false
 
 abbrev NoName : Option Request → Type 0
 NoName o = IfSome o (λ r. names_table r ≡ false)

@@ -30,7 +30,7 @@ use Rattle.mi_request.specs.Bare.{asked_bare, bare_of, bare_name, bare_text, bar
 use Rattle.mi_request.specs.Commands.{look_up_named, step_named}
 use Rattle.mi_request.specs.Json.{has_only}
 use Rattle.mi_request.specs.Lines.{request_of, request_or_refusal, command_line}
-use Rattle.mi_request.specs.Short.{name, maybe_name, whole, maybe_whole, Member, is_name_byte, is_name, is_word, are_words, name_front, whole_front}
+use Rattle.mi_request.specs.Short.{name, maybe_name, whole, maybe_whole, Member, is_name_byte, are_name_bytes, is_word, are_words, name_front, whole_front}
 use Rattle.mi_request.specs.Short.{members_text, command_front, line_text, table_is, index_is, id_is, written, short_line}
 use Rattle.mi_request.specs.ShortCode.{IsRead, a_name, perhaps_name, a_whole, perhaps_whole}
 use Rattle.mi_request.specs.declared.bare.Bare.{Bare}
@@ -57,19 +57,19 @@ line_tokens c ms = begin_object ∷ (key (codes "cmd") ∷ (string c ∷ tokens_
 -- the members have names without escapes
 abbrev are_named : List Member → Bool
 are_named [] = true
-are_named (m ∷ ms) = is_name m.0 && are_named ms
+are_named (m ∷ ms) = are_name_bytes m.0 && are_named ms
 
-escape_name : (s : List ℕ) → is_name s ≡ true → escape s ≡ s
+escape_name : (s : List ℕ) → are_name_bytes s ≡ true → escape s ≡ s
 escape_name [] all = refl
 escape_name (x ∷ s) all =
-    let p = and_parts (is_name_byte x) (is_name s) all in
+    let p = and_parts (is_name_byte x) (are_name_bytes s) all in
     let byte = name_byte x p.0 in
     ap₂ (λ a b. a ++ b) (escape_byte_plain x (λ e. omega (arith, byte.0, e)) byte.2 (omega (arith, byte.0))) (escape_name s p.1)
 
 colon_joined : (m rest : List ℕ) → ((m ++ (34 ∷ [])) ++ (58 ∷ [])) ++ rest ≡ m ++ (34 ∷ (58 ∷ rest))
 colon_joined m rest = append_assoc (m ++ (34 ∷ [])) (58 ∷ []) rest ∙ append_assoc m (34 ∷ []) (58 ∷ rest)
 
-printed_name : (m s : List ℕ) (ms : List Member) → is_name m ≡ true → is_name s ≡ true → print_from true (tokens_of ms) ≡ members_text ms
+printed_name : (m s : List ℕ) (ms : List Member) → are_name_bytes m ≡ true → are_name_bytes s ≡ true → print_from true (tokens_of ms) ≡ members_text ms
     → print_from true (key m ∷ (string s ∷ tokens_of ms)) ≡ name_front m ++ (s ++ (34 ∷ members_text ms))
 unfolding print_from
 printed_name m s ms named word rest =
@@ -81,7 +81,7 @@ printed_name m s ms named word rest =
 small : (n : ℕ) → nat_lt n (2 ^ 63) ≡ true → n < 2 ^ 64
 small n word = let below = ltb-true n (2 ^ 63) word in omega (arith, below)
 
-printed_whole : (m : List ℕ) (n : ℕ) (ms : List Member) → is_name m ≡ true → print_from true (tokens_of ms) ≡ members_text ms
+printed_whole : (m : List ℕ) (n : ℕ) (ms : List Member) → are_name_bytes m ≡ true → print_from true (tokens_of ms) ≡ members_text ms
     → print_from true (key m ∷ (number (decimal n) ∷ tokens_of ms)) ≡ whole_front m ++ (decimal n ++ members_text ms)
 unfolding print_from
 printed_whole m n ms named rest =
@@ -89,11 +89,11 @@ printed_whole m n ms named rest =
     (ap (λ l. 44 ∷ (34 ∷ l)) (colon_joined m (decimal n ++ members_text ms) ∙ sym (append_assoc m (34 ∷ (58 ∷ [])) (decimal n ++ members_text ms))))
 
 module _ (m : Member) (ms : List Member) where
-  head_named : are_named (m ∷ ms) ≡ true → is_name m.0 ≡ true
-  head_named e = (and_parts (is_name m.0) (are_named ms) e).0
+  head_named : are_named (m ∷ ms) ≡ true → are_name_bytes m.0 ≡ true
+  head_named e = (and_parts (are_name_bytes m.0) (are_named ms) e).0
 
   rest_named : are_named (m ∷ ms) ≡ true → are_named ms ≡ true
-  rest_named e = (and_parts (is_name m.0) (are_named ms) e).1
+  rest_named e = (and_parts (are_name_bytes m.0) (are_named ms) e).1
 
   head_word : are_words (m ∷ ms) ≡ true → is_word m.1 ≡ true
   head_word e = (and_parts (is_word m.1) (are_words ms) e).0
@@ -215,7 +215,7 @@ line_data c ms = value_of.object (data_of ms (value_of.member (codes "cmd") (val
 
 -- ---- a line of names and numbers
 
-module _ (c : List ℕ) (ms : List Member) (command : is_name c ≡ true) (named : are_named ms ≡ true) (words : are_words ms ≡ true) where
+module _ (c : List ℕ) (ms : List Member) (command : are_name_bytes c ≡ true) (named : are_named ms ≡ true) (words : are_words ms ≡ true) where
   line_printed : print (line_tokens c ms) ≡ line_text c ms
   unfolding print_from escape_byte
   line_printed = rw (escape_name c command, printed ms named words) refl
@@ -231,15 +231,15 @@ module _ (c : List ℕ) (ms : List Member) (command : is_name c ≡ true) (named
       ∙ ap (λ o. option_and_then of_json (option_and_then (λ p. if_last p.0 p.1) o)) (value_read c ms)
       ∙ ap (option_map value_of.object) (data_is ms (value_of.member (codes "cmd") (value_of.string c) no_members) words)
 
-front_utf8 : (m rest : List ℕ) → is_name m ≡ true → IsUtf8 rest → IsUtf8 (codes ",\"" ++ (m ++ rest))
+front_utf8 : (m rest : List ℕ) → are_name_bytes m ≡ true → IsUtf8 rest → IsUtf8 (codes ",\"" ++ (m ++ rest))
 front_utf8 m rest named u = IsUtf8-append (codes ",\"") (m ++ rest) (IsUtf8-are_ascii _ refl) (IsUtf8-append m rest (utf8_name m named) u)
 
-named_utf8 : (m s rest : List ℕ) → is_name m ≡ true → is_name s ≡ true → IsUtf8 rest → IsUtf8 (name_front m ++ (s ++ (34 ∷ rest)))
+named_utf8 : (m s rest : List ℕ) → are_name_bytes m ≡ true → are_name_bytes s ≡ true → IsUtf8 rest → IsUtf8 (name_front m ++ (s ++ (34 ∷ rest)))
 named_utf8 m s rest named word u =
     IsUtf8-append (name_front m) _ (front_utf8 m (codes "\":\"") named (IsUtf8-are_ascii _ refl))
     (IsUtf8-append s _ (utf8_name s word) (IsUtf8-append (34 ∷ []) rest (IsUtf8-are_ascii _ refl) u))
 
-whole_utf8 : (m : List ℕ) (n : ℕ) (rest : List ℕ) → is_name m ≡ true → nat_lt n (2 ^ 63) ≡ true → IsUtf8 rest → IsUtf8 (whole_front m ++ (decimal n ++ rest))
+whole_utf8 : (m : List ℕ) (n : ℕ) (rest : List ℕ) → are_name_bytes m ≡ true → nat_lt n (2 ^ 63) ≡ true → IsUtf8 rest → IsUtf8 (whole_front m ++ (decimal n ++ rest))
 whole_utf8 m n rest named word u =
     IsUtf8-append (whole_front m) _ (front_utf8 m (codes "\":") named (IsUtf8-are_ascii _ refl))
     (IsUtf8-append (decimal n) rest (IsUtf8-from_ascii (decimal n) (IsAscii-decimal n (small n word))) u)
@@ -261,14 +261,14 @@ members_utf8 ((m, maybe_whole (Some n)) ∷ ms) named words =
     let k : Member = (m, maybe_whole (Some n)) in
     whole_utf8 m n (members_text ms) (head_named k ms named) (head_word k ms words) (members_utf8 ms (rest_named k ms named) (rest_words k ms words))
 
-line_utf8 : (c : List ℕ) (ms : List Member) → is_name c ≡ true → are_named ms ≡ true → are_words ms ≡ true → IsUtf8 (line_text c ms)
+line_utf8 : (c : List ℕ) (ms : List Member) → are_name_bytes c ≡ true → are_named ms ≡ true → are_words ms ≡ true → IsUtf8 (line_text c ms)
 line_utf8 c ms command named words =
     IsUtf8-append (command_front c) (members_text ms)
     (IsUtf8-append (codes "{\"cmd\":\"") (c ++ codes "\"") (IsUtf8-are_ascii _ refl) (IsUtf8-append c (codes "\"") (utf8_name c command) (IsUtf8-are_ascii _ refl)))
     (members_utf8 ms named words)
 
 -- a line means the request of its members
-meant_by : (c : List ℕ) (ms : List Member) (line : List ℕ) (r : Request) → is_name c ≡ true → are_named ms ≡ true → written (c, ms) ≡ Some line
+meant_by : (c : List ℕ) (ms : List Member) (line : List ℕ) (r : Request) → are_name_bytes c ≡ true → are_named ms ≡ true → written (c, ms) ≡ Some line
     → (are_words ms ≡ true → request_of (line_data c ms) ≡ Some r) → command_line line ≡ Ok r
 meant_by c ms line r command named is asked =
     let p = cond_some (are_words ms) (line_text c ms) line is in
@@ -392,10 +392,6 @@ request_in q (Err e) = q
 pub one_request : (q r : Request) (line : List ℕ) → short_line q ≡ Some line → short_line r ≡ Some line → q ≡ r
 one_request q r line first second_is = ap (request_in q) (sym (short_means q line first) ∙ short_means r line second_is)
 
--- the undo line is short
-pub undo_is_short : (line : List ℕ) → line ≡ codes "{\"cmd\":\"undo\"}" → short_line request.Undo ≡ Some line
-undo_is_short line is = ap Some (sym is)
-
 -- ---- which line it can be, by the third letter of its command
 
 pub data Which : Type 0 where
@@ -469,33 +465,6 @@ told (request.Commit n) line d is =
     let ms = (codes "revision", whole n) ∷ [] in
     at_letter line d 109 (lettered (codes "commit") ms line d 109 is (λ rest. refl)) (λ o done. line-read (codes "commit") ms line o done refl is)
 told r line d is = by_bare (λ q t. Found (which (get_or t 10 d)) t) (bare_told d) r line (bare_of r) (asked_back r) is
-
--- ---- how long they are
-
-abbrev IsLong : Request → List ℕ → Type 0
-IsLong r line = 10 < length line
-
-long : (c : List ℕ) (ms : List Member) (line : List ℕ) → written (c, ms) ≡ Some line → nat_le 11 (length (command_front c)) ≡ true → 10 < length line
-long c ms line is le =
-    let p = cond_some (are_words ms) (line_text c ms) line is in
-    let most = leb-true 11 (length (command_front c)) le in
-    omega (arith, ap length p.1, length-append (command_front c) (members_text ms), most)
-
-bare_long : (b : Bare) → IsLong (asked_bare b) (bare_text b)
-bare_long bare.Undo = leb-true 11 (length (bare_text bare.Undo)) refl
-bare_long b = leb-true 11 (length (bare_text b)) refl
-
--- a short line has at least 11 bytes
-pub short_length : (r : Request) (line : List ℕ) → short_line r ≡ Some line → 10 < length line
-short_length (request.Get t id) line is = long (codes "get") (table_is t ∷ id_is id ∷ []) line is refl
-short_length (request.Erase t id) line is = long (codes "erase") (table_is t ∷ id_is id ∷ []) line is refl
-short_length (request.Size t) line is = long (codes "size") (table_is t ∷ []) line is refl
-short_length (request.Rank t index id) line is = long (codes "rank") (table_is t ∷ index_is index ∷ id_is id ∷ []) line is refl
-short_length (request.Nth t index n) line is = long (codes "nth") (table_is t ∷ index_is index ∷ (codes "n", whole n) ∷ []) line is refl
-short_length (request.Relocate t index id before) line is =
-    long (codes "relocate") (table_is t ∷ index_is index ∷ id_is id ∷ (codes "before", maybe_whole before) ∷ []) line is refl
-short_length (request.Commit n) line is = long (codes "commit") ((codes "revision", whole n) ∷ []) line is refl
-short_length r line is = by_bare IsLong bare_long r line (bare_of r) (asked_back r) is
 
 -- ---- which request is found
 

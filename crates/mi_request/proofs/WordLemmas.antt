@@ -24,7 +24,7 @@ use Rattle.std.specs.List.{prefix_len, list_all}
 use Rattle.std.specs.Option.{MatchOption}
 use Rattle.std.specs.Str.{all_ascii_digits}
 use Rattle.std.specs.Str.Parse.{digits_value}
-use Rattle.mi_request.specs.Short.{Word, name, maybe_name, whole, maybe_whole, Member, is_name_byte, is_name, is_word, are_words}
+use Rattle.mi_request.specs.Short.{Word, name, maybe_name, whole, maybe_whole, Member, is_name_byte, are_name_bytes, is_word, are_words}
 use Rattle.mi_request.specs.Short.{name_front, whole_front, member_text, members_text, command_front, line_text, written, words_of, short_line}
 use Rattle.mi_request.specs.ShortCode.{behind, name_at, natural_of, whole_at, needed_at, present_or, Kind, a_name, perhaps_name, a_whole, perhaps_whole, kind_of}
 use Rattle.mi_request.specs.ShortCode.{Template, template, made, read_member, read_members, read_line, IsRead}
@@ -85,13 +85,13 @@ run_all p (x ∷ t) = run_from p x t (p x) refl (run_all p t)
 
 -- ---- names
 
-pub name-written : (s rest : List ℕ) → is_name s ≡ true → name_at (s ++ (34 ∷ rest)) ≡ Some (s, rest)
+pub name-written : (s rest : List ℕ) → are_name_bytes s ≡ true → name_at (s ++ (34 ∷ rest)) ≡ Some (s, rest)
 unfolding name_at behind is_name_byte
 name-written s rest all =
     let n = run_length is_name_byte s 34 rest all refl in
     rw n (rw (take_at s (34 ∷ rest) (length s) refl, drop_at s (34 ∷ rest) (length s) refl) refl)
 
-pub name-read : (t s rest : List ℕ) → name_at t ≡ Some (s, rest) → (t ≡ s ++ (34 ∷ rest)) × (is_name s ≡ true)
+pub name-read : (t s rest : List ℕ) → name_at t ≡ Some (s, rest) → (t ≡ s ++ (34 ∷ rest)) × (are_name_bytes s ≡ true)
 unfolding name_at
 name-read t s rest e =
     let k = prefix_len is_name_byte t in
@@ -99,7 +99,7 @@ name-read t s rest e =
     (λ r found is.
     let p = some_pair_parts (take k t) s r rest is in
     let after : drop k t ≡ 34 ∷ rest = front-behind (34 ∷ []) (drop k t) r found ∙ ap (λ l. 34 ∷ l) p.1 in
-    (sym (take-append-drop k t) ∙ ap₂ (λ a b. a ++ b) p.0 after, sym (ap is_name p.0) ∙ run_all is_name_byte t))
+    (sym (take-append-drop k t) ∙ ap₂ (λ a b. a ++ b) p.0 after, sym (ap are_name_bytes p.0) ∙ run_all is_name_byte t))
 
 -- a byte of a name is ASCII, and needs no escape
 pub name_byte : (x : ℕ) → is_name_byte x ≡ true → (47 < x) × (x < 123) × (x ≡ 92 → ⊥)
@@ -120,14 +120,14 @@ name_byte x is = elim (or_cases (nat_le 97 x && nat_le x 122) _ is) [
   ]
 ]
 
-ascii_name : (s : List ℕ) → is_name s ≡ true → are_ascii s ≡ true
+ascii_name : (s : List ℕ) → are_name_bytes s ≡ true → are_ascii s ≡ true
 ascii_name [] all = refl
 ascii_name (x ∷ s) all =
-    let p = and_parts (is_name_byte x) (is_name s) all in
+    let p = and_parts (is_name_byte x) (are_name_bytes s) all in
     let byte = name_byte x p.0 in
     and_from (nat_lt x 128) (are_ascii s) (lt-ltb x 128 (omega (arith, byte.1))) (ascii_name s p.1)
 
-pub utf8_name : (s : List ℕ) → is_name s ≡ true → IsUtf8 s
+pub utf8_name : (s : List ℕ) → are_name_bytes s ≡ true → IsUtf8 s
 utf8_name s all = IsUtf8-are_ascii s (ascii_name s all)
 
 -- what the code finds of a name
@@ -481,10 +481,10 @@ line-read c ms line o read apart is =
 -- ---- one member after another
 
 -- what the code finds, as it is seen
-abbrev pub Place : Type 0 → Type 0
-Place A = A × Bor (List ℕ)
+abbrev pub Found : Type 0 → Type 0
+Found A = A × Bor (List ℕ)
 
-module _ {A : Type 0} (word : A → Word) (r : Option (Place A)) (v w : Option (A × List ℕ))
+module _ {A : Type 0} (word : A → Word) (r : Option (Found A)) (v w : Option (A × List ℕ))
     (seen : option_map {U = A × List ℕ} (λ p. (p.0, p.1.now)) r ≡ v) (same : v ≡ w) where
   pub word_there : (a : A) (x : Bor (List ℕ)) → r ≡ Some (a, x) → made word w ≡ Some (word a, x.now)
   word_there a x is = ap (made word) (sym (seen ∙ same) ∙ ap (option_map {U = A × List ℕ} (λ p. (p.0, p.1.now))) is)

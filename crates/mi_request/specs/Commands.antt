@@ -1,6 +1,7 @@
 -- The table of commands: the members of each, and the request that they are.
 use Rattle.std.specs.Prelude.{ℕ, List, [], ◌∷◌, Bool, true, false, ◌&&◌, nat_le, if◌then◌else◌}
-use Rattle.std.specs.Prelude.{Option, Some, None, option_map, option_and_then, codes, bytes_eq}
+use Rattle.std.specs.Prelude.{Option, Some, None, is_some, option_map, option_and_then, codes, bytes_eq}
+use Rattle.std.specs.Option.{option_map_or}
 use Rattle.serde_json.specs.Data.{Data, null, boolean, number, string, array, object, Items, Members, no_members}
 use Rattle.serde_json.specs.Find.{get_member, as_str, as_array, as_bool, as_object}
 use Rattle.mi_request.specs.Bare.{asked_bare, bare_named}
@@ -10,7 +11,7 @@ use Rattle.mi_request.specs.declared.command.CommandName.{CommandName}
 use Rattle.mi_request.specs.declared.command.CommandName.TheVariants as name
 use Rattle.mi_request.specs.declared.request.End.{End}
 use Rattle.mi_request.specs.declared.request.End.TheVariants.{Open, With, Without}
-use Rattle.mi_request.specs.declared.request.Place.{Place}
+use Rattle.mi_request.specs.declared.request.NamedPlace.{NamedPlace}
 use Rattle.mi_request.specs.declared.request.Request.{Request}
 use Rattle.mi_request.specs.declared.request.Request.TheVariants as request
 
@@ -51,18 +52,18 @@ command_named t =
     else if bytes_eq t (codes "relocate") then Some name.Relocate
     else look_up_named t
 
-abbrev pub make_place : List ℕ → ℕ → Place
+abbrev pub make_place : List ℕ → ℕ → NamedPlace
 make_place index id = record { index = index; id = id }
 
 -- the place that an object with exactly `index` and `id` names
-abbrev pub place_of : Members → Option Place
+abbrev pub place_of : Members → Option NamedPlace
 place_of ms =
     if has_only (codes "index" ∷ codes "id" ∷ []) ms
     then option_map₂ make_place (needed as_str (codes "index") ms) (needed natural (codes "id") ms)
     else None
 
 -- a place, or null for none
-abbrev pub place_or_none : Data → Option (Option Place)
+abbrev pub place_or_none : Data → Option (Option NamedPlace)
 place_or_none null = Some None
 place_or_none (object ms) = option_map Some (place_of ms)
 place_or_none (boolean b) = None
@@ -236,3 +237,7 @@ table_member (request.LowerRank table index key) = Some table
 table_member (request.UpperRank table index key) = Some table
 table_member (request.Size table) = Some table
 table_member session = None
+
+-- whether a request names its table
+abbrev pub names_table : Request → Bool
+names_table r = option_map_or is_some (table_member r) false

@@ -119,12 +119,3 @@ first_members ps = no_members
 abbrev pub members_code : Coded Members
 members_code = code_by (List Piece) (coded_list (coded⊎ (coded× coded_ℕ (coded_list coded_ℕ)) num_code))
     (λ ms. members_pieces ms []) (λ ps. first_members (parts ps)) (λ ms. ap first_members (parts-members_pieces ms []))
-
-abbrev first_value : List Part → Data
-first_value (value d ∷ ps) = d
-first_value ps = null
-
-abbrev pub data_code : Coded Data
-data_code =
-    code_by (List Piece) (coded_list (coded⊎ (coded× coded_ℕ (coded_list coded_ℕ)) num_code))
-    (λ d. pieces d []) (λ ps. first_value (parts ps)) (λ d. ap first_value (parts-pieces d []))

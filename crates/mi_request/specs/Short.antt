@@ -22,8 +22,9 @@ Member = List ℕ × Word
 unfoldable pub is_name_byte : ℕ → Bool
 is_name_byte b = (nat_le 97 b && nat_le b 122) || ((nat_le 48 b && nat_le b 57) || (b == 95))
 
-abbrev pub is_name : List ℕ → Bool
-is_name = list_all is_name_byte
+-- what a name may have in such a line
+abbrev pub are_name_bytes : List ℕ → Bool
+are_name_bytes = list_all is_name_byte
 
 -- a whole number from 0 to 2^63 - 1
 abbrev pub is_whole : ℕ → Bool
@@ -31,9 +32,9 @@ is_whole n = nat_lt n (2 ^ 63)
 
 -- what can stand in such a line
 abbrev pub is_word : Word → Bool
-is_word (name s) = is_name s
+is_word (name s) = are_name_bytes s
 is_word (maybe_name None) = true
-is_word (maybe_name (Some s)) = is_name s
+is_word (maybe_name (Some s)) = are_name_bytes s
 is_word (whole n) = is_whole n
 is_word (maybe_whole None) = true
 is_word (maybe_whole (Some n)) = is_whole n

@@ -23,4 +23,4 @@ pub use line_reader::LineReader;
 pub use mi_tokens::Json;
 pub use name::Name;
 pub use object::Object;
-pub use request::{End, Place, Request};
+pub use request::{End, NamedPlace, Request};

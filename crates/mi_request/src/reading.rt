@@ -12,7 +12,7 @@ ghost use Rattle.mi_value.specs.declared.limits.TheConstants.{MAX_PAGE};
 use crate::array::Array;
 use crate::name::Name;
 use crate::object::Object;
-use crate::request::{End, Place};
+use crate::request::{End, NamedPlace};
 use mi_tokens::Json;
 use mi_value::limits::MAX_PAGE;
 
@@ -165,7 +165,7 @@ pub(crate) fn array<'a>(object: &Object<'a>, name: &str) -> Option<Array<'a>>
 }
 
 /// The place that an object with exactly `index` and `id` names.
-fn place_of<'a>(object: &Object<'a>) -> Option<Place<'a>>
+fn place_of<'a>(object: &Object<'a>) -> Option<NamedPlace<'a>>
     ensures { result ≡ commands.place_of object.now }
 {
     if !object.has_only(&["index", "id"]) {
@@ -173,10 +173,10 @@ fn place_of<'a>(object: &Object<'a>) -> Option<Place<'a>>
     }
     let index = text(object, "index")?;
     let id = natural(object, "id")?;
-    Some(Place { index, id })
+    Some(NamedPlace { index, id })
 }
 
-fn place_or_null<'a>(value: &Json<'a>) -> Option<Option<Place<'a>>>
+fn place_or_null<'a>(value: &Json<'a>) -> Option<Option<NamedPlace<'a>>>
     ensures { result ≡ commands.place_or_none (meaning value.now) }
 {
     if value.is_null() {
@@ -186,7 +186,7 @@ fn place_or_null<'a>(value: &Json<'a>) -> Option<Option<Place<'a>>>
 }
 
 /// The place before which a record is inserted; null is as absent.
-pub(crate) fn place<'a>(object: &Object<'a>, name: &str) -> Option<Option<Place<'a>>>
+pub(crate) fn place<'a>(object: &Object<'a>, name: &str) -> Option<Option<NamedPlace<'a>>>
     ensures { result ≡ default None commands.place_or_none name.now object.now }
 {
     match object.get(name) {

@@ -17,7 +17,7 @@ use mi_tokens::Json;
 
 /// A place in a sequenced index, by its name: directly before the record of this id, 0 to 2^63 - 1.
 #[derive(Drop)]
-pub struct Place<'a> {
+pub struct NamedPlace<'a> {
     pub index: Name<'a>,
     pub id: u64,
 }
@@ -37,7 +37,7 @@ pub enum Request<'a> {
     Insert {
         table: Option<Name<'a>>,
         row: Object<'a>,
-        before: Option<Place<'a>>,
+        before: Option<NamedPlace<'a>>,
     },
     Replace {
         table: Option<Name<'a>>,

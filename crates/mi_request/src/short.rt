@@ -38,7 +38,7 @@ fn record_of(text: &[u8]) -> Option<RecordIn<'_>>
 
 /// A number in an index: the members of a rank and of an nth.
 #[derive(Drop)]
-struct PlaceIn<'a> {
+struct NumberIn<'a> {
     table: Option<Name<'a>>,
     index: Name<'a>,
     n: u64,
@@ -46,7 +46,7 @@ struct PlaceIn<'a> {
 
 /// Its members, the number behind this front, to the end of the line.
 #[inline(always)]
-fn place_of<'a>(front: &[u8], text: &'a [u8]) -> Option<PlaceIn<'a>>
+fn number_of<'a>(front: &[u8], text: &'a [u8]) -> Option<NumberIn<'a>>
     ensures { (name : List ℕ) → front.now ≡ whole_front name
         → option_map (λ m. table_is m.table ∷ index_is m.index ∷ (name, whole m.n) ∷ []) result
         ≡ read_members ((codes "table", perhaps_name) ∷ (codes "index", a_name) ∷ (name, a_whole) ∷ []) text.now }
@@ -55,7 +55,7 @@ fn place_of<'a>(front: &[u8], text: &'a [u8]) -> Option<PlaceIn<'a>>
     let (index, rest) = name_behind(b",\"index\":\"".as_slice(), rest)?;
     let (n, rest) = whole_behind(front, rest)?;
     if is_end(rest) {
-        Some(PlaceIn { table, index, n })
+        Some(NumberIn { table, index, n })
     } else {
         None
     }
@@ -91,7 +91,7 @@ fn rank(line: &[u8]) -> Option<Request<'_>>
     ensures { IsRead (codes "rank") ((codes "table", perhaps_name) ∷ (codes "index", a_name) ∷ (codes "id", a_whole) ∷ []) line.now result }
 {
     let rest = behind(b"{\"cmd\":\"rank\"".as_slice(), line)?;
-    let members = place_of(b",\"id\":".as_slice(), rest)?;
+    let members = number_of(b",\"id\":".as_slice(), rest)?;
     Some(Request::Rank {
         table: members.table,
         index: members.index,
@@ -105,7 +105,7 @@ fn nth(line: &[u8]) -> Option<Request<'_>>
     ensures { IsRead (codes "nth") ((codes "table", perhaps_name) ∷ (codes "index", a_name) ∷ (codes "n", a_whole) ∷ []) line.now result }
 {
     let rest = behind(b"{\"cmd\":\"nth\"".as_slice(), line)?;
-    let members = place_of(b",\"n\":".as_slice(), rest)?;
+    let members = number_of(b",\"n\":".as_slice(), rest)?;
     Some(Request::Nth {
         table: members.table,
         index: members.index,
@@ -164,8 +164,8 @@ fn relocate(line: &[u8]) -> Option<Request<'_>>
     }
 }
 
-/// The request that a short line with members asks, where it is written as `short_line` writes it, and a size. The third letter of the
-/// command's name tells which it can be.
+/// The request of a line that is written as `short_line` writes it, where its command may have members; none of any other line. The
+/// third letter of the command's name tells which it can be.
 #[inline(always)]
 pub(crate) fn short_of(line: &[u8]) -> Option<Request<'_>>
     ensures value { IfSome result (λ r. short_line r ≡ Some line.now) }

@@ -9,8 +9,8 @@ use Rattle.json.specs.Lex.{between, lex, class, operator, operator_lexeme}
 use Rattle.json.proofs.Grammar.{value_is}
 use Rattle.mi_tokens.specs.Ends.{is_end}
 use Rattle.mi_tokens.specs.Tokens.{place_of, tokens_at, Begins, Closes, end_token, Opens, IsWordOf}
-use Rattle.mi_tokens.specs.declared.tokens.Place as own
-use Rattle.mi_tokens.specs.declared.tokens.Place.TheVariants.{Fresh, AfterComma}
+use Rattle.mi_tokens.specs.declared.tokens.Context.{Context}
+use Rattle.mi_tokens.specs.declared.tokens.Context.TheVariants.{Fresh, AfterComma}
 use Rattle.mi_tokens.proofs.LexemeLemmas.{end_no_colon, lex_true, lex_false, lex_null}
 
 allowed : (b : Bool) (t : Token) (k : Place → List Token) (next : Place) → b ≡ true → if_allowed b t k next ≡ t ∷ k next
@@ -88,12 +88,12 @@ pub after_comma_token : (t u : List ℕ) → head t ≡ 44 → lex between t ≡
 after_comma_token t u e first =
     sym (ap (punctuate after_value) (first ∙ ap (λ x. operator_lexeme x ∷ lex between u) e) ∙ passes_comma (lex between u))
 
-pub closed : (t u v : List ℕ) (place : own.Place) → (head t ≡ 125) ⊎ (head t ≡ 93) → lex between t ≡ operator_lexeme (head t) ∷ lex between u
-    → tokens_at place v ≡ punctuate after_value (lex between u) → Closes t (end_token (head t)) place v
-closed t u v place (inl e) first after p may =
+pub closed : (t u v : List ℕ) (context : Context) → (head t ≡ 125) ⊎ (head t ≡ 93) → lex between t ≡ operator_lexeme (head t) ∷ lex between u
+    → tokens_at context v ≡ punctuate after_value (lex between u) → Closes t (end_token (head t)) context v
+closed t u v context (inl e) first after p may =
     ap (punctuate p) (first ∙ ap (λ x. operator_lexeme x ∷ lex between u) e) ∙ closes_object p (lex between u) may
     ∙ ap₂ (λ k ts. k ∷ ts) (ap end_token (sym e)) (sym after)
-closed t u v place (inr e) first after p may =
+closed t u v context (inr e) first after p may =
     ap (punctuate p) (first ∙ ap (λ x. operator_lexeme x ∷ lex between u) e) ∙ closes_array p (lex between u) may
     ∙ ap₂ (λ k ts. k ∷ ts) (ap end_token (sym e)) (sym after)
 
@@ -103,14 +103,14 @@ named t m u s first e second p may =
     ap (punctuate p) (first ∙ ap (λ ls. token (string s) ∷ ls) (second ∙ ap (λ x. operator_lexeme x ∷ lex between u) e))
     ∙ begins_key p s (lex between u) may
 
-pub text_begins : (t m u s : List ℕ) (place : own.Place) → lex between t ≡ token (string s) ∷ lex between m → is_end (head m) ≡ true
-    → tokens_at place u ≡ punctuate after_value (lex between m) → Begins t (string s) place u
-text_begins t m u s place first e after p may =
+pub text_begins : (t m u s : List ℕ) (context : Context) → lex between t ≡ token (string s) ∷ lex between m → is_end (head m) ≡ true
+    → tokens_at context u ≡ punctuate after_value (lex between m) → Begins t (string s) context u
+text_begins t m u s context first e after p may =
     ap (punctuate p) first ∙ begins_string p s (lex between m) may (end_no_colon m e) ∙ ap (λ ts. string s ∷ ts) (sym after)
 
-pub number_begins : (t m u s : List ℕ) (place : own.Place) → lex between t ≡ token (number s) ∷ lex between m
-    → tokens_at place u ≡ punctuate after_value (lex between m) → Begins t (number s) place u
-number_begins t m u s place first after p may =
+pub number_begins : (t m u s : List ℕ) (context : Context) → lex between t ≡ token (number s) ∷ lex between m
+    → tokens_at context u ≡ punctuate after_value (lex between m) → Begins t (number s) context u
+number_begins t m u s context first after p may =
     ap (punctuate p) first ∙ begins_number p s (lex between m) may ∙ ap (λ ts. number s ∷ ts) (sym after)
 
 pub bracket_begins : (t u : List ℕ) (k : Token) → Opens (head t) k → lex between t ≡ operator_lexeme (head t) ∷ lex between u → Begins t k Fresh u
@@ -125,25 +125,25 @@ bracket_begins t u (boolean b) e first p may = absurd e
 bracket_begins t u null e first p may = absurd e
 bracket_begins t u bad e first p may = absurd e
 
-pub word_begins : (t m u w : List ℕ) (k : Token) (place : own.Place) → IsWordOf k w → t ≡ w ++ m → ends_word m ≡ true
-    → tokens_at place u ≡ punctuate after_value (lex between m) → Begins t k place u
-word_begins t m u w (boolean true) place is parts ended after p may =
+pub word_begins : (t m u w : List ℕ) (k : Token) (context : Context) → IsWordOf k w → t ≡ w ++ m → ends_word m ≡ true
+    → tokens_at context u ≡ punctuate after_value (lex between m) → Begins t k context u
+word_begins t m u w (boolean true) context is parts ended after p may =
     ap (punctuate p) (ap (lex between) (parts ∙ ap (λ x. x ++ m) is) ∙ lex_true m ended) ∙ begins_boolean p true (lex between m) may
     ∙ ap (λ ts. boolean true ∷ ts) (sym after)
-word_begins t m u w (boolean false) place is parts ended after p may =
+word_begins t m u w (boolean false) context is parts ended after p may =
     ap (punctuate p) (ap (lex between) (parts ∙ ap (λ x. x ++ m) is) ∙ lex_false m ended) ∙ begins_boolean p false (lex between m) may
     ∙ ap (λ ts. boolean false ∷ ts) (sym after)
-word_begins t m u w null place is parts ended after p may =
+word_begins t m u w null context is parts ended after p may =
     ap (punctuate p) (ap (lex between) (parts ∙ ap (λ x. x ++ m) is) ∙ lex_null m ended) ∙ begins_null p (lex between m) may
     ∙ ap (λ ts. null ∷ ts) (sym after)
-word_begins t m u w begin_object place is parts ended after p may = absurd is
-word_begins t m u w begin_array place is parts ended after p may = absurd is
-word_begins t m u w end_object place is parts ended after p may = absurd is
-word_begins t m u w end_array place is parts ended after p may = absurd is
-word_begins t m u w (key s) place is parts ended after p may = absurd is
-word_begins t m u w (string s) place is parts ended after p may = absurd is
-word_begins t m u w (number s) place is parts ended after p may = absurd is
-word_begins t m u w bad place is parts ended after p may = absurd is
+word_begins t m u w begin_object context is parts ended after p may = absurd is
+word_begins t m u w begin_array context is parts ended after p may = absurd is
+word_begins t m u w end_object context is parts ended after p may = absurd is
+word_begins t m u w end_array context is parts ended after p may = absurd is
+word_begins t m u w (key s) context is parts ended after p may = absurd is
+word_begins t m u w (string s) context is parts ended after p may = absurd is
+word_begins t m u w (number s) context is parts ended after p may = absurd is
+word_begins t m u w bad context is parts ended after p may = absurd is
 
 pub opens_mark : (t : List ℕ) (k : Token) → Opens (head t) k → class (head t) ≡ operator
 opens_mark t begin_object e = ap class e
@@ -158,6 +158,6 @@ opens_mark t null e = absurd e
 opens_mark t bad e = absurd e
 
 -- behind a value, at the end of the text, no token is left
-pub all_passed : (place : own.Place) (t : List ℕ) → may_close (place_of place) ≡ true → t ≡ [] → tokens_at place t ≡ []
+pub all_passed : (context : Context) (t : List ℕ) → may_close (place_of context) ≡ true → t ≡ [] → tokens_at context t ≡ []
 unfolding lex
-all_passed place t may empty = ap (tokens_at place) empty ∙ none_left (place_of place) may
+all_passed context t may empty = ap (tokens_at context) empty ∙ none_left (place_of context) may

@@ -6,11 +6,11 @@ use Rattle.json.specs.Lex as grammar
 use Rattle.std.specs.Fmt.{signed_decimal}
 use Rattle.mi_tokens.specs.declared.tokens.Start.{Start}
 use Rattle.mi_tokens.specs.declared.tokens.Start.TheVariants as start
-use Rattle.mi_tokens.specs.declared.tokens.Place.{Place}
-use Rattle.mi_tokens.specs.declared.tokens.Place.TheVariants.{Fresh, AfterValue, AfterComma}
+use Rattle.mi_tokens.specs.declared.tokens.Context.{Context}
+use Rattle.mi_tokens.specs.declared.tokens.Context.TheVariants.{Fresh, AfterValue, AfterComma}
 
--- the place of the grammar
-abbrev pub place_of : Place → grammar.Place
+-- where the grammar is in such a context
+abbrev pub place_of : Context → grammar.Place
 place_of Fresh = fresh
 place_of AfterValue = after_value
 place_of AfterComma = after_comma
@@ -24,17 +24,17 @@ token_of (start.Whole z) = number (signed_decimal z)
 token_of (start.Bool b) = boolean b
 token_of start.Null = null
 
--- the tokens of a text that is read from this place on
-abbrev pub tokens_at : Place → List ℕ → List Token
-tokens_at place text = punctuate (place_of place) (lex between text)
+-- the tokens of a text that is read from this context on
+abbrev pub tokens_at : Context → List ℕ → List Token
+tokens_at context text = punctuate (place_of context) (lex between text)
 
 -- wherever a value may begin, the text `old` gives t and then what `new` gives
-abbrev pub Begins : List ℕ → Token → Place → List ℕ → Type 0
-Begins old t place new = (p : grammar.Place) → may_begin p ≡ true → punctuate p (lex between old) ≡ t ∷ tokens_at place new
+abbrev pub Begins : List ℕ → Token → Context → List ℕ → Type 0
+Begins old t context new = (p : grammar.Place) → may_begin p ≡ true → punctuate p (lex between old) ≡ t ∷ tokens_at context new
 
 -- the same wherever an array or an object may end
-abbrev pub Closes : List ℕ → Token → Place → List ℕ → Type 0
-Closes old t place new = (p : grammar.Place) → may_close p ≡ true → punctuate p (lex between old) ≡ t ∷ tokens_at place new
+abbrev pub Closes : List ℕ → Token → Context → List ℕ → Type 0
+Closes old t context new = (p : grammar.Place) → may_close p ≡ true → punctuate p (lex between old) ≡ t ∷ tokens_at context new
 
 -- the token of the bracket or the brace that ends
 abbrev pub end_token : ℕ → Token

@@ -1,5 +1,5 @@
-//! JSON texts written as a writer gives them, read in one pass without an index: lexemes, tokens, and the value as a tree.
-//! It knows no command and no catalog, and gives up at what a writer doesn't give.
+//! JSON texts written as a writer gives them, read in one pass without an index: lexemes, tokens, and the value, which
+//! lends its parts. It knows no command and no catalog, and gives up at what a writer doesn't give.
 #![tactic(auto)]
 
 mod lexemes;

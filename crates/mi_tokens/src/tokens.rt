@@ -7,32 +7,32 @@ ghost use Rattle.json.specs.Word.{head};
 ghost use Rattle.json.specs.Lex.{between, lex, after_value, may_begin, may_close, punctuate, tokens};
 ghost use Rattle.json.specs.Json.{after_end_array, read_key};
 ghost use Rattle.mi_tokens.specs.Tokens.{place_of, tokens_at, token_of, Begins, Closes, end_token, IsWordOf, Opens};
-ghost use Rattle.mi_tokens.specs.declared.tokens.Place.TheVariants.{Fresh};
+ghost use Rattle.mi_tokens.specs.declared.tokens.Context.TheVariants.{Fresh};
 
 use crate::lexemes::{Lexemes, is_end};
 use std::marker::Model;
 
-/// What may stand next.
+/// What stood before, which tells what may stand next.
 #[derive(Clone, Copy, Drop)]
-pub(crate) enum Place {
+pub(crate) enum Context {
     Fresh,
     AfterValue,
     AfterComma,
 }
 
-impl Place {
+impl Context {
     #[inline(always)]
     fn may_begin(self) -> bool
         ensures { result ≡ may_begin (place_of self) }
     {
-        matches!(self, Place::Fresh | Place::AfterComma)
+        matches!(self, Context::Fresh | Context::AfterComma)
     }
 
     #[inline(always)]
     fn may_close(self) -> bool
         ensures { result ≡ may_close (place_of self) }
     {
-        matches!(self, Place::Fresh | Place::AfterValue)
+        matches!(self, Context::Fresh | Context::AfterValue)
     }
 }
 
@@ -50,20 +50,20 @@ pub(crate) enum Start<'a> {
 
 /// Passes the comma that may follow a value.
 #[inline(always)]
-fn after_value(lexemes: &mut Lexemes<'_>) -> Place
+fn after_value(lexemes: &mut Lexemes<'_>) -> Context
     ensures { tokens_at result lexemes.new ≡ punctuate after_value (lex between lexemes.old) }
 {
     if lexemes.peek() == b',' {
         lexemes.pass_spaced();
-        Place::AfterComma
+        Context::AfterComma
     } else {
-        Place::AfterValue
+        Context::AfterValue
     }
 }
 
 /// Passes the bracket or the brace that ends an array or an object, and the comma that may follow.
 #[inline(always)]
-fn close(lexemes: &mut Lexemes<'_>) -> Place
+fn close(lexemes: &mut Lexemes<'_>) -> Context
     requires { (head lexemes.old ≡ 125) ⊎ (head lexemes.old ≡ 93) }
     ensures { Closes lexemes.old (end_token (head lexemes.old)) result lexemes.new }
 {
@@ -87,7 +87,7 @@ fn key<'a>(lexemes: &mut Lexemes<'a>) -> Option<&'a str>
 
 /// A text that is a value.
 #[inline(always)]
-fn string<'a>(lexemes: &mut Lexemes<'a>) -> Option<(Start<'a>, Place)>
+fn string<'a>(lexemes: &mut Lexemes<'a>) -> Option<(Start<'a>, Context)>
     requires { head lexemes.old ≡ 34 }
     ensures { IfSome result (λ t. Begins lexemes.old (token_of t.0) t.1 lexemes.new) }
 {
@@ -100,7 +100,7 @@ fn string<'a>(lexemes: &mut Lexemes<'a>) -> Option<(Start<'a>, Place)>
 
 /// A whole number.
 #[inline(always)]
-fn number<'a>(lexemes: &mut Lexemes<'a>) -> Option<(Start<'a>, Place)>
+fn number<'a>(lexemes: &mut Lexemes<'a>) -> Option<(Start<'a>, Context)>
     ensures { IfSome result (λ t. Begins lexemes.old (token_of t.0) t.1 lexemes.new) }
 {
     let n = lexemes.number()?;
@@ -109,7 +109,11 @@ fn number<'a>(lexemes: &mut Lexemes<'a>) -> Option<(Start<'a>, Place)>
 
 /// True, false or null, by its word.
 #[inline(always)]
-fn word<'a>(lexemes: &mut Lexemes<'a>, text: &[u8], token: Start<'a>) -> Option<(Start<'a>, Place)>
+fn word<'a>(
+    lexemes: &mut Lexemes<'a>,
+    text: &[u8],
+    token: Start<'a>,
+) -> Option<(Start<'a>, Context)>
     requires { IsWordOf (token_of token) text.now }
     ensures { IfSome result (λ t. Begins lexemes.old (token_of t.0) t.1 lexemes.new) }
 {
@@ -121,17 +125,17 @@ fn word<'a>(lexemes: &mut Lexemes<'a>, text: &[u8], token: Start<'a>) -> Option<
 
 /// The bracket or the brace that begins an array or an object.
 #[inline(always)]
-fn open<'a>(lexemes: &mut Lexemes<'a>, token: Start<'a>) -> Option<(Start<'a>, Place)>
+fn open<'a>(lexemes: &mut Lexemes<'a>, token: Start<'a>) -> Option<(Start<'a>, Context)>
     requires { Opens (head lexemes.old) (token_of token) }
     ensures { IfSome result (λ t. Begins lexemes.old (token_of t.0) t.1 lexemes.new) }
 {
     lexemes.pass();
-    Some((token, Place::Fresh))
+    Some((token, Context::Fresh))
 }
 
 /// The token with which a value begins, and what may stand behind it.
 #[inline(always)]
-fn begin<'a>(lexemes: &mut Lexemes<'a>) -> Option<(Start<'a>, Place)>
+fn begin<'a>(lexemes: &mut Lexemes<'a>) -> Option<(Start<'a>, Context)>
     ensures { IfSome result (λ t. Begins lexemes.old (token_of t.0) t.1 lexemes.new) }
 {
     match lexemes.peek() {
@@ -150,7 +154,7 @@ fn begin<'a>(lexemes: &mut Lexemes<'a>) -> Option<(Start<'a>, Place)>
 #[derive(Drop)]
 pub(crate) struct Tokens<'a> {
     lexemes: Lexemes<'a>,
-    place: Place,
+    context: Context,
 }
 
 impl<'a> Model for Tokens<'a> {
@@ -162,7 +166,7 @@ impl<'a> Model for Tokens<'a> {
 
     ghost coded = { tokens_code };
 
-    ghost view = { λ a. tokens_at a.place a.lexemes };
+    ghost view = { λ a. tokens_at a.context a.lexemes };
 }
 
 impl<'a> Tokens<'a> {
@@ -173,7 +177,7 @@ impl<'a> Tokens<'a> {
     {
         Tokens {
             lexemes: Lexemes::new(text),
-            place: Place::Fresh,
+            context: Context::Fresh,
         }
     }
 
@@ -182,7 +186,7 @@ impl<'a> Tokens<'a> {
     pub(crate) fn is_done(&self) -> bool
         ensures { IsTrue result → self.now ≡ [] }
     {
-        self.place.may_close() && self.lexemes.is_done()
+        self.context.may_close() && self.lexemes.is_done()
     }
 
     /// The name of a member with its colon, or none at the brace that ends an object.
@@ -191,13 +195,13 @@ impl<'a> Tokens<'a> {
         ensures { IfSome result (λ k. read_key self.old ≡ Some (option_map (λ s. s.now) k, self.new)) }
     {
         let byte = self.lexemes.peek();
-        if byte == b'"' && self.place.may_begin() {
+        if byte == b'"' && self.context.may_begin() {
             let name = key(&mut self.lexemes)?;
-            self.place = Place::Fresh;
+            self.context = Context::Fresh;
             return Some(Some(name));
         }
-        if byte == b'}' && self.place.may_close() {
-            self.place = close(&mut self.lexemes);
+        if byte == b'}' && self.context.may_close() {
+            self.context = close(&mut self.lexemes);
             return Some(None);
         }
         None
@@ -208,10 +212,10 @@ impl<'a> Tokens<'a> {
     pub(crate) fn take_end_array(&mut self) -> bool
         ensures { MatchBool result (after_end_array self.old ≡ Some self.new) (self.new ≡ self.old) }
     {
-        if self.lexemes.peek() != b']' || !self.place.may_close() {
+        if self.lexemes.peek() != b']' || !self.context.may_close() {
             return false;
         }
-        self.place = close(&mut self.lexemes);
+        self.context = close(&mut self.lexemes);
         true
     }
 
@@ -220,11 +224,11 @@ impl<'a> Tokens<'a> {
     pub(crate) fn next(&mut self) -> Option<Start<'a>>
         ensures { IfSome result (λ t. self.old ≡ token_of t ∷ self.new) }
     {
-        if !self.place.may_begin() {
+        if !self.context.may_begin() {
             return None;
         }
-        let (token, place) = begin(&mut self.lexemes)?;
-        self.place = place;
+        let (token, context) = begin(&mut self.lexemes)?;
+        self.context = context;
         Some(token)
     }
 }

@@ -1,6 +1,6 @@
 //! Random lines, read to values that lend and by `serde_json` alone: both read the same.
 use mi_random::Random;
-use mi_request::{Array, End, Json as Lent, LineReader, Name, Object, Place, Request};
+use mi_request::{Array, End, Json as Lent, LineReader, Name, Object, NamedPlace, Request};
 use mi_value::Refusal;
 use serde_json::{Map, Value as Json};
 use std::alloc::{AllocError, Global};
@@ -251,7 +251,7 @@ fn is_end(
     }
 }
 
-fn is_place(member: Option<&Json>, place: Option<&Place<'_>>) -> bool {
+fn is_place(member: Option<&Json>, place: Option<&NamedPlace<'_>>) -> bool {
     match (member, place) {
         (Some(value), Some(place)) => is_name(value.get("index"), Some(&place.index))
             && is_number(value.get("id"), place.id),
@@ -397,7 +397,7 @@ fn is_insert(
     read: &Json,
     table: Option<Name<'_>>,
     row: Object<'_>,
-    before: Option<Place<'_>>,
+    before: Option<NamedPlace<'_>>,
 ) -> Result<bool, AllocError> {
     Ok(
         is_named(read, "insert", table.as_ref(), None)

@@ -5,7 +5,8 @@ use Rattle.serde_json.specs.Find.{get_member}
 use Rattle.mi_request.specs.Json.{option_map₂}
 use Rattle.mi_protocol.specs.Values.{fitting, values_of}
 use Rattle.mi_value.specs.Lent.{lent}
-use Rattle.mi_protocol.proofs.RowLemmas.{one_more, in_front_none}
+use Rattle.mi_protocol.proofs.KeyLemmas.{in_front_none}
+use Rattle.mi_protocol.proofs.RowLemmas.{one_more}
 use Rattle.mi_protocol.proofs.row.record_of.Goals as goal
 
 pub columns-init : goal.columns-init

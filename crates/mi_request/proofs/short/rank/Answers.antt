@@ -3,14 +3,14 @@ use Rattle.std.proofs.Common.{◌≡◌, ◌∷◌, [], List, None, codes, optio
 use Rattle.mi_request.specs.Short.{Member, whole, table_is, index_is}
 use Rattle.mi_request.specs.ShortCode.{a_name, a_whole, perhaps_name, Template}
 use Rattle.mi_request.specs.declared.request.Request.TheVariants as request
-use Rattle.mi_request.specs.declared.short.PlaceIn.{PlaceIn}
+use Rattle.mi_request.specs.declared.short.NumberIn.{NumberIn}
 use Rattle.mi_request.proofs.WordLemmas.{line_from, not_read, was_read}
 use Rattle.mi_request.proofs.short.rank.Goals as goal
 
 abbrev members : Template
 members = (codes "table", perhaps_name) ∷ (codes "index", a_name) ∷ (codes "id", a_whole) ∷ []
 
-abbrev words : PlaceIn → List Member
+abbrev words : NumberIn → List Member
 words m = table_is m.table ∷ index_is m.index ∷ (codes "id", whole m.n) ∷ []
 
 pub returns-in_err-members : goal.returns-in_err-members
@@ -20,7 +20,7 @@ returns-in_err-members c =
     let nothing : c.from_residual-in_err-members.result ≡ None = search rules in
     not_read (codes "rank") members c.args.line.now c.from_residual-in_err-members.result nothing
     (line_from (codes "rank") members c.args.line.now c.as_slice.result.now c.behind.result c.behind.ensures command c.in_ok-rest.rest c.in_ok-rest.was
-    ∙ sym (c.place_of.ensures (codes "id") number) ∙ ap (option_map words) c.in_err-members.was)
+    ∙ sym (c.number_of.ensures (codes "id") number) ∙ ap (option_map words) c.in_err-members.was)
 
 pub returns : goal.returns
 returns c =
@@ -29,4 +29,4 @@ returns c =
     let m = c.in_ok-members.members in
     was_read (codes "rank") members c.args.line.now (request.Rank m.table m.index m.n) (words m) refl
     (line_from (codes "rank") members c.args.line.now c.as_slice.result.now c.behind.result c.behind.ensures command c.in_ok-rest.rest c.in_ok-rest.was
-    ∙ sym (c.place_of.ensures (codes "id") number) ∙ ap (option_map words) c.in_ok-members.was)
+    ∙ sym (c.number_of.ensures (codes "id") number) ∙ ap (option_map words) c.in_ok-members.was)

@@ -8,6 +8,6 @@ use Rattle.mi_tokens.proofs.tokens.Tokens.is_done.Goals as goal
 pub returns-then-may_close : goal.returns-then-may_close
 returns-then-may_close c is =
     let a = c.self.inside in
-    let may : may_close (place_of a.place) ≡ true = grind arith in
+    let may : may_close (place_of a.context) ≡ true = grind arith in
     let empty : a.lexemes ≡ [] = grind arith in
-    sym c.self.view_is ∙ all_passed a.place a.lexemes may empty
+    sym c.self.view_is ∙ all_passed a.context a.lexemes may empty

@@ -7,5 +7,5 @@ use Rattle.mi_tokens.proofs.tokens.Tokens.next.Goals as goal
 pub returns : goal.returns
 returns c =
     let a = c.self.inside in
-    let may : may_begin (place_of a.place) ≡ true = grind arith in
-    sym c.self.view_is ∙ c.in_ok-token.ensures (place_of a.place) may
+    let may : may_begin (place_of a.context) ≡ true = grind arith in
+    sym c.self.view_is ∙ c.in_ok-token.ensures (place_of a.context) may

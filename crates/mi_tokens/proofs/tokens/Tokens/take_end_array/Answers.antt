@@ -9,6 +9,6 @@ use Rattle.mi_tokens.proofs.tokens.Tokens.take_end_array.Goals as goal
 pub returns : goal.returns
 returns c =
     let a = c.self.inside in
-    let may : may_close (place_of a.place) ≡ true = grind arith in
+    let may : may_close (place_of a.context) ≡ true = grind arith in
     let bracket : head a.lexemes ≡ 93 = grind arith in
-    ap after_end_array (sym c.self.view_is ∙ c.close-self-inside.ensures (place_of a.place) may ∙ ap (λ x. end_token x ∷ tokens_at c.close-self-inside.result c.close-self-inside.new.lexemes) bracket)
+    ap after_end_array (sym c.self.view_is ∙ c.close-self-inside.ensures (place_of a.context) may ∙ ap (λ x. end_token x ∷ tokens_at c.close-self-inside.result c.close-self-inside.new.lexemes) bracket)
