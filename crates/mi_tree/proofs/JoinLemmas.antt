@@ -1,5 +1,5 @@
 -- What a new link of one node does to the trees.
-use Rattle.std.proofs.Common.{◌≡◌, ℕ, ◌+◌, ◌^◌, ◌<◌, ◌==◌, true, false, max, List, [], ◌∷◌, ◌++◌, Option, Some, None, refl, sym, ap, ◌∙◌, subst, arith}
+use Rattle.std.proofs.Common.{◌≡◌, ℕ, ◌+◌, ◌^◌, ◌<◌, ◌==◌, true, false, List, [], ◌∷◌, ◌++◌, Option, Some, None, refl, sym, ap, ◌∙◌, subst, arith}
 use Rattle.mi_node.specs.Pool.{Pooled, IsHeld, link_of, with_link, Keeps}
 use Rattle.mi_node.specs.declared.link.Link.{Link}
 use Rattle.mi_node.specs.declared.link.Tag.{Tag}
@@ -8,7 +8,7 @@ use Rattle.mi_node.proofs.KeepingLemmas.{keeps_link, held_kept}
 use Rattle.mi_node.specs.Refs.{Ref, IsOut, IsApart, AreOut}
 use Rattle.mi_node.proofs.RefLemmas.{out_left, out_right, between, are_out_none, are_out_cons}
 use Rattle.mi_tree.specs.BinaryTree.{BinaryTree, Tip, Fork, nodes, forks, height, height_at, fork_link, Stands, IsRooted}
-use Rattle.mi_tree.specs.Joining.{Two, IsFork, IsSized, read, Three, Four}
+use Rattle.mi_tree.specs.Joining.{Two, IsFork, IsSized, Counts, read, Three, Four, IsDown, IsUp, IsBoth}
 use Rattle.mi_tree.specs.declared.parts.Sub.{Sub}
 use Rattle.mi_tree.specs.Sorted.{SameTags}
 use Rattle.mi_tree.proofs.BinaryTreeLemmas.{size-root, height-root}
@@ -80,10 +80,14 @@ module _ {T : Type 0} where
         | false ↦ λ is. ap (λ (z : Link). z.tag) (link_there m x.name s y k s is)
       ]) refl
 
-  pub fork_of : {s : ℕ} {m : Pooled T} {x : Ref} {y : Link} (a b : Sub) {A B : BinaryTree} → Two m s y.back x y.forth A B → IsSized a A → IsSized b B
-      → y.size ≡ a.size + b.size + 1 → y.height ≡ max a.height b.height + 1 → y.tag ≡ (link_of m x.name s).tag → IsFork m s x y A B
-  fork_of a b h f g e i t =
-      record { two = h; size_is = e ∙ (λ k. f.0 k + g.0 k + 1); height_is = i ∙ (λ k. max (f.1 k) (g.1 k) + 1); tag_is = t }
+  pub fork_counted : {s : ℕ} {m : Pooled T} {x : Ref} {y : Link} {A B : BinaryTree} → Two m s y.back x y.forth A B
+      → Counts y (link_of m x.name s).tag A B → IsFork m s x y A B
+  fork_counted h c = record { two = h; size_is = c.size_is; height_is = c.height_is; tag_is = c.tag_is }
+
+  -- no tag has changed
+  pub counted_after : (s : ℕ) (m n : Pooled T) (x : Ref) {y : Link} {A B : BinaryTree} → SameTags m n s
+      → Counts y (link_of m x.name s).tag A B → Counts y (link_of n x.name s).tag A B
+  counted_after s m n x t c = record { size_is = c.size_is; height_is = c.height_is; tag_is = c.tag_is ∙ sym (t x.name) }
 
   -- a subtree whose root was read is sized, and stands under the same root
   pub sized : {s : ℕ} {m : Pooled T} {a : Sub} {at : Option Ref} {A : BinaryTree} → a ≡ read m s at → IsRooted m s at A → IsSized a A
@@ -94,14 +98,6 @@ module _ {T : Type 0} where
 
   pub at_root : {s : ℕ} {m : Pooled T} {o at : Option Ref} {A : BinaryTree} → o ≡ at → IsRooted m s at A → IsRooted m s o A
   at_root e h = record { root = e ∙ h.root; stands = h.stands }
-
-  -- the root of a subtree that has one is its node
-  pub stood : {s : ℕ} {m : Pooled T} {o : Option Ref} {l : BinaryTree} {x : Ref} {q : BinaryTree} → IsRooted m s o (Fork l x q) → IsRooted m s (Some x) (Fork l x q)
-  stood h = record { root = refl; stands = h.stands }
-
-  pub stood_high : {s : ℕ} {m : Pooled T} (a : Sub) {l : BinaryTree} {x : Ref} {q : BinaryTree} → IsRooted m s a.root (Fork l x q) × IsSized a (Fork l x q)
-      → a.height ≡ height_at m s (Some x)
-  stood_high {s} {m} a {l} {x} {q} h = h.1.1 ∙ sym (height-root m s (Some x) (Fork l x q) (stood h.0))
 
   -- two trees and a node that stand apart and are small enough may be put together
   pub two : {m : Pooled T} {s : ℕ} {a : Option Ref} {x : Ref} {b : Option Ref} {A B : BinaryTree} → IsRooted m s a A → IsHeld m x → IsRooted m s b B
@@ -131,15 +127,6 @@ module _ {T : Type 0} where
     fits = fits;
     low = low;
   }
-
-  -- the same under roots that were read
-  pub three_at : {m : Pooled T} {s : ℕ} {a b c u v w : Option Ref} {x y : Ref} {A B C : BinaryTree} → u ≡ a → v ≡ b → w ≡ c
-      → Three m s a x b y c A B C → Three m s u x v y w A B C
-  three_at e f g h = three (at_root e h.first) h.held_x (at_root f h.second) h.held_y (at_root g h.third) h.apart h.fits h.low
-
-  pub four_at : {m : Pooled T} {s : ℕ} {a b c d t u v w : Option Ref} {x y z : Ref} {A B C D : BinaryTree} → t ≡ a → u ≡ b → v ≡ c → w ≡ d
-      → Four m s a x b y c z d A B C D → Four m s t x u y v z w A B C D
-  four_at e f g i h = four (at_root e h.first) h.held_x (at_root f h.second) h.held_y (at_root g h.third) h.held_z (at_root i h.fourth) h.apart h.fits h.low
 
   module _ {m : Pooled T} {s : ℕ} {a : Option Ref} {x : Ref} {b : Option Ref} {y : Ref} {c : Option Ref} {A B C : BinaryTree}
       (h : Three m s a x b y c A B C) where
@@ -179,3 +166,22 @@ module _ {T : Type 0} where
         let z_out = (thrice (nodes A ++ x ∷ nodes B) y (nodes C) z (nodes D) halves.turned).y_A in
         two (rooted_past s n o z v (Fork A x B) l z_out r) (held_kept s n o (z ∷ []) y l (held_kept s m n (x ∷ []) y k h.held_y)) u
         halves.turned (omega arith) (omega arith, omega arith)
+
+  -- what is above is a fork, once what is below stands
+  pub down_upper : {m n : Pooled T} {s : ℕ} {x : Ref} {u : Link} {y : Ref} {v : Link} {A B C : BinaryTree} → IsDown m s x u y v A B C
+      → Keeps m n s (y ∷ []) → SameTags m n s → IsRooted n s (Some y) (Fork B y C) → IsFork n s x u A (Fork B y C)
+  down_upper {m} {n} {s} {x} h k t r = fork_counted (down_high h.three k (at_root h.under r)) (counted_after s m n x t h.high)
+
+  pub up_upper : {m n : Pooled T} {s : ℕ} {x : Ref} {u : Link} {y : Ref} {v : Link} {A B C : BinaryTree} → IsUp m s x u y v A B C
+      → Keeps m n s (x ∷ []) → SameTags m n s → IsRooted n s (Some x) (Fork A x B) → IsFork n s y v (Fork A x B) C
+  up_upper {m} {n} {s} {y = y} h k t r = fork_counted (up_high h.three k (at_root h.under r)) (counted_after s m n y t h.high)
+
+  pub both_after : {m n : Pooled T} {s : ℕ} {x : Ref} {u : Link} {y : Ref} {v : Link} {z : Ref} {w : Link} {A B C D : BinaryTree}
+      → IsBoth m s x u y v z w A B C D → Keeps m n s (x ∷ []) → SameTags m n s → IsFork n s z w C D
+  both_after {m} {n} {s} {z = z} h k t = fork_counted (both_right h.four k) (counted_after s m n z t h.second)
+
+  pub both_upper : {m n o : Pooled T} {s : ℕ} {x : Ref} {u : Link} {y : Ref} {v : Link} {z : Ref} {w : Link} {A B C D : BinaryTree}
+      → IsBoth m s x u y v z w A B C D → Keeps m n s (x ∷ []) → SameTags m n s → IsRooted n s (Some x) (Fork A x B)
+      → Keeps n o s (z ∷ []) → SameTags n o s → IsRooted o s (Some z) (Fork C z D) → IsFork o s y v (Fork A x B) (Fork C z D)
+  both_upper {m} {n} {o} {s} {y = y} h k t r l i q =
+      fork_counted (both_top h.four k (at_root h.back r) l (at_root h.forth q)) (counted_after s n o y i (counted_after s m n y t h.whole))

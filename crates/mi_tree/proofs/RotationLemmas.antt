@@ -1,13 +1,14 @@
 -- Turning a tree whose one side is two levels higher.
-use Rattle.std.proofs.Common.{◌≡◌, ℕ, ◌+◌, ◌<◌, ◌≤◌, List, [], ◌∷◌, ◌++◌, Option, Some, refl, sym, ap, ◌∙◌, subst, arith, append_assoc}
+use Rattle.std.proofs.Common.{◌≡◌, ℕ, ◌+◌, ◌-◌, ◌<◌, ◌≤◌, max, List, [], ◌∷◌, ◌++◌, Option, Some, refl, sym, ap, ◌∙◌, subst, arith, append_assoc}
 use Rattle.mi_node.specs.Pool.{Pooled, link_of, Keeps}
 use Rattle.mi_node.specs.declared.link.Link.{Link}
+use Rattle.mi_node.specs.declared.link.Tag.{Tag}
 use Rattle.mi_node.specs.Refs.{Ref, IsOut, IsApart}
 use Rattle.mi_node.proofs.KeepingLemmas.{keeps_more}
 use Rattle.mi_node.proofs.RefLemmas.{out_left, out_right}
 use Rattle.mi_tree.specs.BinaryTree.{BinaryTree, Fork, nodes, forks, height, DifferByAtMost, IsEven, IsRooted}
 use Rattle.mi_tree.specs.Sorted.{SameTags}
-use Rattle.mi_tree.specs.Joining.{IsSized, read, Two, Three, Four, Rebalanced, AreSides, IsBalanced}
+use Rattle.mi_tree.specs.Joining.{IsSized, read, Two, Three, Four, IsDown, IsUp, IsBoth, Rebalanced, AreSides, AreLinked, IsBalanced}
 use Rattle.mi_tree.specs.declared.parts.Sub.{Sub}
 use Rattle.mi_tree.proofs.HeightLemmas.{low_enough}
 use Rattle.mi_tree.proofs.BinaryTreeLemmas.{Sides, sides}
@@ -118,6 +119,120 @@ module _ {T : Type 0} where
             ∙ ap (λ u. nodes A ++ x ∷ u) (append_assoc (nodes o.A) (y ∷ nodes o.B) (z ∷ nodes D))) h.apart)
             (omega arith) (omega arith, omega arith, omega arith, omega arith),
       )
+
+  -- a link that is made of two subtrees that were read
+  pub linked_by : {m : Pooled T} {s : ℕ} {left right : Sub} {x : Ref} {l q : BinaryTree} {tag : Tag} {n h : ℕ}
+      → AreSides m s left.root x right.root l q → IsSized left l → IsSized right q → tag ≡ (link_of m x.name s).tag → n ≡ left.size + right.size + 1
+      → AreLinked m s x (record { back = left.root; forth = right.root; size = n; height = h; tag = tag }) l q
+  linked_by h a b t n = record { sides = h; size_is = omega arith; tag_is = t }
+
+  -- the left side, opened, by a link that counts both
+  pub record LeftTurn (m : Pooled T) (s : ℕ) (x : Ref) (link : Link) (l q : BinaryTree) (r : Ref) (over : Link) : Type 0 where
+    pub o : Sides m s r over l
+    pub three : Three m s over.back r over.forth x link.forth o.A o.B q
+    pub size_is : link.size ≡ forks o.A + forks o.B + 1 + forks q + 1
+    pub part_is : over.size ≡ forks o.A + forks o.B + 1
+    pub tag_is : link.tag ≡ (link_of m x.name s).tag
+    pub over_tag : over.tag ≡ (link_of m r.name s).tag
+
+  pub left_turn : {m : Pooled T} {s : ℕ} {x : Ref} {link : Link} {l q : BinaryTree} {r : Ref} {over : Link}
+      → AreLinked m s x link l q → link.back ≡ Some r → over ≡ link_of m r.name s → LeftTurn m s x link l q r over
+  left_turn h e i =
+      let k = left_opened h.sides e i in let size = ap forks k.0.is in let all = h.size_is in record {
+        o = k.0;
+        three = k.1;
+        size_is = omega arith;
+        part_is = k.0.size_is;
+        tag_is = h.tag_is;
+        over_tag = ap (λ (z : Link). z.tag) i;
+      }
+
+  -- the right side
+  pub record RightTurn (m : Pooled T) (s : ℕ) (x : Ref) (link : Link) (l q : BinaryTree) (r : Ref) (over : Link) : Type 0 where
+    pub o : Sides m s r over q
+    pub three : Three m s link.back x over.back r over.forth l o.A o.B
+    pub size_is : link.size ≡ forks l + (forks o.A + forks o.B + 1) + 1
+    pub part_is : over.size ≡ forks o.A + forks o.B + 1
+    pub tag_is : link.tag ≡ (link_of m x.name s).tag
+    pub over_tag : over.tag ≡ (link_of m r.name s).tag
+
+  pub right_turn : {m : Pooled T} {s : ℕ} {x : Ref} {link : Link} {l q : BinaryTree} {r : Ref} {over : Link}
+      → AreLinked m s x link l q → link.forth ≡ Some r → over ≡ link_of m r.name s → RightTurn m s x link l q r over
+  right_turn h e i =
+      let k = right_opened h.sides e i in let size = ap forks k.0.is in let all = h.size_is in record {
+        o = k.0;
+        three = k.1;
+        size_is = omega arith;
+        part_is = k.0.size_is;
+        tag_is = h.tag_is;
+        over_tag = ap (λ (z : Link). z.tag) i;
+      }
+
+  -- the links that the nodes get where one turn is enough
+  pub down_put : {m : Pooled T} {s : ℕ} {x : Ref} {link : Link} {l q : BinaryTree} {r : Ref} {over : Link} (inner : Sub) {outer beside n low high : ℕ}
+      (k : LeftTurn m s x link l q r over) → outer ≡ height k.o.A → IsSized inner k.o.B → beside ≡ height q
+      → n ≡ link.size - over.size + inner.size → low ≡ max inner.height beside + 1 → high ≡ max outer low + 1
+      → IsDown m s r (record { back = over.back; forth = Some x; size = link.size; height = high; tag = over.tag })
+      x (record { back = over.forth; forth = link.forth; size = n; height = low; tag = link.tag }) k.o.A k.o.B q
+  down_put inner k a b d size low high =
+      let all = k.size_is in let part = k.part_is in record {
+        three = k.three;
+        under = refl;
+        low = record { size_is = omega arith; height_is = omega arith; tag_is = k.tag_is };
+        high = record { size_is = omega arith; height_is = omega arith; tag_is = k.over_tag };
+      }
+
+  pub up_put : {m : Pooled T} {s : ℕ} {x : Ref} {link : Link} {l q : BinaryTree} {r : Ref} {over : Link} (inner : Sub) {outer beside n low high : ℕ}
+      (k : RightTurn m s x link l q r over) → outer ≡ height k.o.B → IsSized inner k.o.A → beside ≡ height l
+      → n ≡ link.size - over.size + inner.size → low ≡ max beside inner.height + 1 → high ≡ max low outer + 1
+      → IsUp m s x (record { back = link.back; forth = over.back; size = n; height = low; tag = link.tag })
+      r (record { back = Some x; forth = over.forth; size = link.size; height = high; tag = over.tag }) l k.o.A k.o.B
+  up_put inner k a b d size low high =
+      let all = k.size_is in let part = k.part_is in record {
+        three = k.three;
+        under = refl;
+        low = record { size_is = omega arith; height_is = omega arith; tag_is = k.tag_is };
+        high = record { size_is = omega arith; height_is = omega arith; tag_is = k.over_tag };
+      }
+
+  -- the same where there are two turns
+  pub left_both_put : {m : Pooled T} {s : ℕ} {x : Ref} {link : Link} {l q : BinaryTree} {r : Ref} {over : Link} {z : Ref} {inner : Link}
+      (near far : Sub) {outer beside n j low high top : ℕ} (k : LeftTurn m s x link l q r over) (u : Sides m s z inner k.o.B)
+      → Four m s over.back r inner.back z inner.forth x link.forth k.o.A u.A u.B q → inner.tag ≡ (link_of m z.name s).tag
+      → outer ≡ height k.o.A → IsSized near u.A → IsSized far u.B → beside ≡ height q
+      → n ≡ over.size - inner.size + near.size → j ≡ link.size - over.size + far.size
+      → low ≡ max outer near.height + 1 → high ≡ max far.height beside + 1 → top ≡ max low high + 1
+      → IsBoth m s r (record { back = over.back; forth = inner.back; size = n; height = low; tag = over.tag })
+      z (record { back = Some r; forth = Some x; size = link.size; height = top; tag = inner.tag })
+      x (record { back = inner.forth; forth = link.forth; size = j; height = high; tag = link.tag }) k.o.A u.A u.B q
+  left_both_put near far k u f t a b e d first second low high top =
+      let all = k.size_is in let part = k.part_is in let mid = u.size_is in let whole = ap forks u.is in record {
+        four = f;
+        back = refl;
+        forth = refl;
+        first = record { size_is = omega arith; height_is = omega arith; tag_is = k.over_tag };
+        second = record { size_is = omega arith; height_is = omega arith; tag_is = k.tag_is };
+        whole = record { size_is = omega arith; height_is = omega arith; tag_is = t };
+      }
+
+  pub right_both_put : {m : Pooled T} {s : ℕ} {x : Ref} {link : Link} {l q : BinaryTree} {r : Ref} {over : Link} {z : Ref} {inner : Link}
+      (near far : Sub) {outer beside n j low high top : ℕ} (k : RightTurn m s x link l q r over) (u : Sides m s z inner k.o.A)
+      → Four m s link.back x inner.back z inner.forth r over.forth l u.A u.B k.o.B → inner.tag ≡ (link_of m z.name s).tag
+      → outer ≡ height k.o.B → IsSized near u.A → IsSized far u.B → beside ≡ height l
+      → n ≡ link.size - over.size + near.size → j ≡ over.size - inner.size + far.size
+      → low ≡ max beside near.height + 1 → high ≡ max far.height outer + 1 → top ≡ max low high + 1
+      → IsBoth m s x (record { back = link.back; forth = inner.back; size = n; height = low; tag = link.tag })
+      z (record { back = Some x; forth = Some r; size = link.size; height = top; tag = inner.tag })
+      r (record { back = inner.forth; forth = over.forth; size = j; height = high; tag = over.tag }) l u.A u.B k.o.B
+  right_both_put near far k u f t a b e d first second low high top =
+      let all = k.size_is in let part = k.part_is in let mid = u.size_is in let whole = ap forks u.is in record {
+        four = f;
+        back = refl;
+        forth = refl;
+        first = record { size_is = omega arith; height_is = omega arith; tag_is = k.tag_is };
+        second = record { size_is = omega arith; height_is = omega arith; tag_is = k.over_tag };
+        whole = record { size_is = omega arith; height_is = omega arith; tag_is = t };
+      }
 
   -- what the calls give, which set links of the nodes us alone
   balanced : {m n : Pooled T} {s : ℕ} {l : BinaryTree} {x : Ref} {q : BinaryTree} {root : Ref} {t : BinaryTree} {us : List Ref}

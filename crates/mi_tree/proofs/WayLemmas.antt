@@ -16,7 +16,7 @@ use Rattle.mi_node.proofs.EntryLemmas.{flip, link_here}
 use Rattle.mi_node.proofs.KeepingLemmas.{keeps_none, keeps_link, keeps_then, keeps_more, held_kept}
 use Rattle.mi_node.proofs.RefLemmas.{out_left, out_right, between, are_out_cons, are_out_none, are_out_flip}
 use Rattle.mi_tree.specs.BinaryTree.{BinaryTree, Tip, Fork, nodes, top, forks, height, DifferByAtMost, IsEven, Stands, IsRooted, height_at}
-use Rattle.mi_tree.specs.Joining.{AreSides, IsBalanced, IsFork, IsSettled}
+use Rattle.mi_tree.specs.Joining.{AreSides, AreLinked, IsBalanced, IsFork, IsSettled}
 use Rattle.mi_tree.specs.Sorted.{NoneAre, Rising, AreTagged, SameTags, IsPutIn, CanPut, HasPut, CanTake, side}
 use Rattle.mi_tree.specs.Ways.{Frame, way_of, forked, forked_size, forked_height, forked_link, rehung, plug}
 use Rattle.mi_tree.specs.Ways.{risen, IsLevel, AreEven, IsRootOf, Above, Falls, HasFallen, Climbs, HasClimbed, AreRejoined}
@@ -384,6 +384,33 @@ module _ {T : Type 0} where
   rejoined_fork {m} {s} {turn} {below} {y} {z} {l} {q} n r i e f =
       subst (λ (w : Link). IsFork m s turn.node (record { back = w.back; forth = w.forth; size = w.size; height = n; tag = w.tag }) l q) (sym e)
       (record { two = plain_parts r.sides; size_is = r.size_is; height_is = f; tag_is = ap (λ (w : Link). w.tag) i })
+
+  -- the link with another child names and counts both sides
+  pub rejoined_linked : {m : Pooled T} {s : ℕ} {turn : Turn} {below : Option Ref} {y z : Link} {l q : BinaryTree}
+      → AreRejoined m s turn below y l q → y ≡ link_of m turn.node.name s → z ≡ rehung turn.left below y → AreLinked m s turn.node z l q
+  rejoined_linked {m} {s} {turn} {l = l} {q} r i e = subst (λ (w : Link). AreLinked m s turn.node w l q) (sym e)
+      (record { sides = r.sides; size_is = r.size_is; tag_is = ap (λ (w : Link). w.tag) i })
+
+  -- which side is how high
+  high_left : {m : Pooled T} {s : ℕ} {x : Ref} {l q : BinaryTree} {k j : ℕ} (b : Bool) (below : Option Ref) (y : Link)
+      → AreSides m s (cond b below y.back) x (cond b y.forth below) l q → b ≡ true
+      → k ≡ height_at m s below → j ≡ height_at m s (cond (not b) y.back y.forth) → (k ≡ height l) × (j ≡ height q)
+  high_left {m} {s} {l = l} {q} true below y h e f g = (f ∙ height-root m s below l h.left_is, g ∙ height-root m s y.forth q h.right_is)
+  high_left false below y h e f g = absurd cc
+
+  high_right : {m : Pooled T} {s : ℕ} {x : Ref} {l q : BinaryTree} {k j : ℕ} (b : Bool) (below : Option Ref) (y : Link)
+      → AreSides m s (cond b below y.back) x (cond b y.forth below) l q → b ≡ false
+      → k ≡ height_at m s below → j ≡ height_at m s (cond (not b) y.back y.forth) → (j ≡ height l) × (k ≡ height q)
+  high_right true below y h e f g = absurd cc
+  high_right {m} {s} {l = l} {q} false below y h e f g = (g ∙ height-root m s y.back l h.left_is, f ∙ height-root m s below q h.right_is)
+
+  pub rejoined_left : {m : Pooled T} {s : ℕ} {turn : Turn} {below : Option Ref} {y : Link} {l q : BinaryTree} {k j : ℕ} → AreRejoined m s turn below y l q
+      → turn.left ≡ true → k ≡ height_at m s below → j ≡ height_at m s (cond (not turn.left) y.back y.forth) → (k ≡ height l) × (j ≡ height q)
+  rejoined_left {turn = turn} {below = below} {y = y} r e f g = high_left turn.left below y r.sides e f g
+
+  pub rejoined_right : {m : Pooled T} {s : ℕ} {turn : Turn} {below : Option Ref} {y : Link} {l q : BinaryTree} {k j : ℕ} → AreRejoined m s turn below y l q
+      → turn.left ≡ false → k ≡ height_at m s below → j ≡ height_at m s (cond (not turn.left) y.back y.forth) → (j ≡ height l) × (k ≡ height q)
+  rejoined_right {turn = turn} {below = below} {y = y} r e f g = high_right turn.left below y r.sides e f g
 
   -- nothing is above
   pub climbed_none : {m : Pooled T} {s : ℕ} {root below : Option Ref} {items : List Turn} {fs : List Frame} {at : Option Ref} {h : ℕ} {u : BinaryTree}

@@ -3,6 +3,7 @@ use Rattle.std.specs.Prelude.{◌≡◌, ℕ, zero, suc, ◌/◌, ◌%◌, ◌==
 use Rattle.mi_node.specs.Refs.{Ref}
 use Rattle.mi_tree.specs.declared.turns.Turn.{Turn}
 use Rattle.mi_tree.specs.declared.turns.Depth.{Depth}
+use Rattle.mi_tree.specs.declared.walk.TheConstants.{MAX_LEVELS}
 
 -- what a place beyond the array would have
 abbrev pub anyone : Ref
@@ -18,4 +19,4 @@ turns nodes d = turns_of nodes d.lefts d.len
 
 -- there is room, and no bit more than turns
 abbrev pub AreBits : List Ref → Depth → Type 0
-AreBits nodes d = (length nodes ≡ 45) × (d.len ≤ 45) × (d.lefts < 2 ^ d.len)
+AreBits nodes d = (length nodes ≡ MAX_LEVELS) × (d.len ≤ MAX_LEVELS) × (d.lefts < 2 ^ d.len)

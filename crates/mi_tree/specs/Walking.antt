@@ -13,6 +13,7 @@ use Rattle.mi_tree.specs.BinaryTree.{BinaryTree, nodes, height, IsRooted}
 use Rattle.mi_tree.specs.declared.walk.Direction.{Direction}
 use Rattle.mi_tree.specs.declared.walk.Direction.TheVariants.{Ascending, Descending}
 use Rattle.mi_tree.specs.declared.walk.Walk.{Walk}
+use Rattle.mi_tree.specs.declared.walk.TheConstants.{MAX_LEVELS}
 
 abbrev pub beyond : Direction → List Ref → List Ref → List Ref
 beyond Ascending xs ys = ys
@@ -62,12 +63,12 @@ module _ {T : Type 0} where
     pub goes : Goes m s d levels items xs
     pub rooted : IsRooted m s at t
     pub room : height t + length xs ≤ levels
-    pub low : levels ≤ 45
+    pub low : levels ≤ MAX_LEVELS
 
   -- the walk has the nodes us ahead, and its path has at most that many levels
   pub record IsWalk (w : Walk) (m : Pooled T) (levels : ℕ) (us : List Ref) : Type 0 where
     pub xs : List Pending
     pub goes : Goes m w.slot w.direction levels w.path.items xs
     pub ahead_is : ahead w.direction xs ≡ us
-    pub low : levels ≤ 45
+    pub low : levels ≤ MAX_LEVELS
     pub has_slot : w.slot < m.slots

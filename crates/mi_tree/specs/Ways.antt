@@ -17,6 +17,7 @@ use Rattle.mi_tree.specs.BinaryTree.{BinaryTree, Tip, Fork, nodes, top, forks, h
 use Rattle.mi_tree.specs.Joining.{AreSides, IsSettled}
 use Rattle.mi_tree.specs.Sorted.{AreTagged, SameTags, IsPutIn, CanPut, CanTake}
 use Rattle.mi_tree.specs.declared.turns.Turn.{Turn}
+use Rattle.mi_tree.specs.declared.walk.TheConstants.{MAX_LEVELS}
 
 -- a node on a way, whether the way goes on to its left, and its other side. The last one of a way is the first of a list of frames
 pub record Frame : Type 0 where
@@ -90,7 +91,7 @@ module _ {T : Type 0} where
     pub beside : AreEven fs (height t)
     pub apart : IsApart (nodes (plug fs t))
     pub places : (u : BinaryTree) → IsPutIn (R x) x (nodes t) (nodes u) → IsPutIn (R x) x (nodes (plug fs t)) (nodes (plug fs u))
-    pub room : height t + length fs ≤ 45
+    pub room : height t + length fs ≤ MAX_LEVELS
 
   -- the way of the whole tree to where x belongs
   pub record HasFallen (m n : Pooled T) (s : ℕ) (R : Ref → Ref → Ordering)
@@ -114,7 +115,7 @@ module _ {T : Type 0} where
     pub beside : AreEven fs (height t)
     pub apart : IsApart (nodes (plug fs t))
     pub places : (u : BinaryTree) → nodes u ≡ xs ++ ys → nodes (plug fs u) ≡ vs ++ ws
-    pub room : height t + length fs ≤ 45
+    pub room : height t + length fs ≤ MAX_LEVELS
 
   -- the way of the whole tree to x, which has the sides A and B
   pub record HasSunk (m n : Pooled T) (s : ℕ) (items : List Turn) (xs : List Ref) (x : Ref)

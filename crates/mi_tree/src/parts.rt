@@ -4,7 +4,7 @@ ghost use Rattle.std.specs.Prelude.{◌≡◌, ◌<◌, [], ◌∷◌, Some};
 ghost use Rattle.mi_node.specs.Cells.{sided};
 ghost use Rattle.mi_node.specs.Pool.{IsHeldIf, Keeps, link_of};
 ghost use Rattle.mi_tree.specs.BinaryTree.{BinaryTree, Fork, IsRooted, size_at, height_at};
-ghost use Rattle.mi_tree.specs.Joining.{Two, IsFork, IsSized, read, Three, Four};
+ghost use Rattle.mi_tree.specs.Joining.{IsFork, read, IsDown, IsUp, IsBoth};
 ghost use Rattle.mi_tree.specs.Sorted.{SameTags};
 
 use mi_node::{Link, NodeRef, Pool};
@@ -37,7 +37,7 @@ pub(crate) fn height<T>(p: &Pool<T>, slot: usize, at: Option<NodeRef>) -> u8
 #[derive(Clone, Copy)]
 pub(crate) struct Sub {
     pub(crate) root: Option<NodeRef>,
-    size: u32,
+    pub(crate) size: u32,
     pub(crate) height: u8,
 }
 
@@ -63,31 +63,6 @@ impl Sub {
                 }
             }
         }
-    }
-}
-
-/// The node gets these two sides. The subtree of all.
-pub(crate) fn join<T>(p: &mut Pool<T>, slot: usize, a: Sub, x: NodeRef, b: Sub) -> Sub
-    requires slot { slot < p.old.slots }
-    requires parts { (A : BinaryTree) × (B : BinaryTree) × Two p.old slot a.root x b.root A B × IsSized a A × IsSized b B }
-    ensures tree { (A : BinaryTree) (B : BinaryTree) → Two p.old slot a.root x b.root A B → IsSized a A → IsSized b B
-        → IsRooted p.new slot result.root (Fork A x B) × IsSized result (Fork A x B) }
-    ensures slots { p.new.slots ≡ p.old.slots }
-    ensures keeps { Keeps p.old p.new slot (x ∷ []) }
-    ensures tags { SameTags p.old p.new slot }
-{
-    let size = a.size + b.size + 1;
-    let height = a.height.max(b.height) + 1;
-    let mut link = p.link(x, slot);
-    link.back = a.root;
-    link.forth = b.root;
-    link.size = size;
-    link.height = height;
-    set_fork(p, slot, x, link);
-    Sub {
-        root: Some(x),
-        size,
-        height,
     }
 }
 
@@ -123,75 +98,68 @@ pub(crate) fn set_side<T>(
     p.set_side(x, slot, left, side, height);
 }
 
-/// `x` is above `y`.
-pub(crate) fn join_down<T>(
+/// `x` gets a link by which it is above `y`, which gets the other one.
+pub(crate) fn set_down<T>(
     p: &mut Pool<T>,
     slot: usize,
-    a: Sub,
     x: NodeRef,
-    b: Sub,
+    upper: Link,
     y: NodeRef,
-    c: Sub,
-) -> Sub
+    lower: Link,
+)
     requires slot { slot < p.old.slots }
-    requires parts { (A : BinaryTree) × (B : BinaryTree) × (C : BinaryTree) × Three p.old slot a.root x b.root y c.root A B C
-        × IsSized a A × IsSized b B × IsSized c C }
-    ensures tree { (A : BinaryTree) (B : BinaryTree) (C : BinaryTree) → Three p.old slot a.root x b.root y c.root A B C
-        → IsSized a A → IsSized b B → IsSized c C → IsRooted p.new slot result.root (Fork A x (Fork B y C)) × IsSized result (Fork A x (Fork B y C)) }
+    requires parts { (A : BinaryTree) × (B : BinaryTree) × (C : BinaryTree) × IsDown p.old slot x upper y lower A B C }
+    ensures tree { (A : BinaryTree) (B : BinaryTree) (C : BinaryTree) → IsDown p.old slot x upper y lower A B C
+        → IsRooted p.new slot (Some x) (Fork A x (Fork B y C)) }
     ensures slots { p.new.slots ≡ p.old.slots }
     ensures keeps { Keeps p.old p.new slot (x ∷ y ∷ []) }
     ensures tags { SameTags p.old p.new slot }
 {
-    let below = join(p, slot, b, y, c);
-    join(p, slot, a, x, below)
+    set_fork(p, slot, y, lower);
+    set_fork(p, slot, x, upper);
 }
 
-/// `y` is above `x`.
-pub(crate) fn join_up<T>(
+/// `y` gets a link by which it is above `x`, which gets the other one.
+pub(crate) fn set_up<T>(
     p: &mut Pool<T>,
     slot: usize,
-    a: Sub,
     x: NodeRef,
-    b: Sub,
+    lower: Link,
     y: NodeRef,
-    c: Sub,
-) -> Sub
+    upper: Link,
+)
     requires slot { slot < p.old.slots }
-    requires parts { (A : BinaryTree) × (B : BinaryTree) × (C : BinaryTree) × Three p.old slot a.root x b.root y c.root A B C
-        × IsSized a A × IsSized b B × IsSized c C }
-    ensures tree { (A : BinaryTree) (B : BinaryTree) (C : BinaryTree) → Three p.old slot a.root x b.root y c.root A B C
-        → IsSized a A → IsSized b B → IsSized c C → IsRooted p.new slot result.root (Fork (Fork A x B) y C) × IsSized result (Fork (Fork A x B) y C) }
+    requires parts { (A : BinaryTree) × (B : BinaryTree) × (C : BinaryTree) × IsUp p.old slot x lower y upper A B C }
+    ensures tree { (A : BinaryTree) (B : BinaryTree) (C : BinaryTree) → IsUp p.old slot x lower y upper A B C
+        → IsRooted p.new slot (Some y) (Fork (Fork A x B) y C) }
     ensures slots { p.new.slots ≡ p.old.slots }
     ensures keeps { Keeps p.old p.new slot (x ∷ y ∷ []) }
     ensures tags { SameTags p.old p.new slot }
 {
-    let below = join(p, slot, a, x, b);
-    join(p, slot, below, y, c)
+    set_fork(p, slot, x, lower);
+    set_fork(p, slot, y, upper);
 }
 
-/// `y` is above `x` and `z`.
-pub(crate) fn join_both<T>(
+/// `y` gets a link by which it is above `x` and `z`, which get the other two.
+pub(crate) fn set_both<T>(
     p: &mut Pool<T>,
     slot: usize,
-    a: Sub,
     x: NodeRef,
-    b: Sub,
+    before: Link,
     y: NodeRef,
-    c: Sub,
+    upper: Link,
     z: NodeRef,
-    d: Sub,
-) -> Sub
+    after: Link,
+)
     requires slot { slot < p.old.slots }
-    requires parts { (A : BinaryTree) × (B : BinaryTree) × (C : BinaryTree) × (D : BinaryTree)
-        × Four p.old slot a.root x b.root y c.root z d.root A B C D × IsSized a A × IsSized b B × IsSized c C × IsSized d D }
-    ensures tree { (A : BinaryTree) (B : BinaryTree) (C : BinaryTree) (D : BinaryTree) → Four p.old slot a.root x b.root y c.root z d.root A B C D
-        → IsSized a A → IsSized b B → IsSized c C → IsSized d D
-        → IsRooted p.new slot result.root (Fork (Fork A x B) y (Fork C z D)) × IsSized result (Fork (Fork A x B) y (Fork C z D)) }
+    requires parts { (A : BinaryTree) × (B : BinaryTree) × (C : BinaryTree) × (D : BinaryTree) × IsBoth p.old slot x before y upper z after A B C D }
+    ensures tree { (A : BinaryTree) (B : BinaryTree) (C : BinaryTree) (D : BinaryTree) → IsBoth p.old slot x before y upper z after A B C D
+        → IsRooted p.new slot (Some y) (Fork (Fork A x B) y (Fork C z D)) }
     ensures slots { p.new.slots ≡ p.old.slots }
     ensures keeps { Keeps p.old p.new slot (x ∷ y ∷ z ∷ []) }
     ensures tags { SameTags p.old p.new slot }
 {
-    let before = join(p, slot, a, x, b);
-    let after = join(p, slot, c, z, d);
-    join(p, slot, before, y, after)
+    set_fork(p, slot, x, before);
+    set_fork(p, slot, z, after);
+    set_fork(p, slot, y, upper);
 }

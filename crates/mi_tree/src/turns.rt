@@ -42,7 +42,7 @@ impl Depth {
     #[inline(always)]
     pub(crate) fn push(self, nodes: &mut Nodes, turn: Turn) -> Depth
         requires bits { AreBits nodes.old self }
-        requires room { length (turns nodes.old self) < 45 }
+        requires room { length (turns nodes.old self) < MAX_LEVELS }
         ensures bits { AreBits nodes.new result }
         ensures items { turns nodes.new result ≡ turns nodes.old self ++ turn ∷ [] }
     {

@@ -260,7 +260,7 @@ fn find_down<T, O: NodeOrder<T>>(
 
 /// Puts a node onto the path, if it is wanted there.
 fn push_if(path: &mut Path, node: NodeRef, wanted: bool)
-    requires { length path.old.items < 45 }
+    requires { length path.old.items < MAX_LEVELS }
     ensures { path.new.items ≡ cond wanted (path.old.items ++ Some node ∷ []) path.old.items }
 {
     if wanted {

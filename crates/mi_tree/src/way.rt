@@ -9,10 +9,10 @@ ghost use Rattle.mi_tree.specs.Ways.{Frame, plug, risen, rehung, Falls, HasFalle
 ghost use Rattle.mi_tree.specs.Joining.{IsBalanced};
 ghost use Rattle.mi_tree.specs.Turns.{turns, AreBits};
 
-use crate::balance::balance;
+use crate::balance::lean;
 use crate::compare::compare_nodes;
 use crate::order::NodeOrder;
-use crate::parts::{Sub, height, set_side};
+use crate::parts::{height, set_side};
 use crate::turns::{Depth, Nodes, Turn};
 use mi_node::{Counted, Link, NO_LINK, NodeRef, Pool, Tag};
 use mi_value::Steps;
@@ -244,9 +244,11 @@ fn rejoin<T>(
         return (turn.node, now);
     }
     let link = with_child(p.link(turn.node, slot), turn.left, below);
-    let left = Sub::of(p, slot, link.back);
-    let right = Sub::of(p, slot, link.forth);
-    balance(p, slot, left, turn.node, right)
+    if turn.left {
+        lean(p, slot, turn.node, link, high, beside)
+    } else {
+        lean(p, slot, turn.node, link, beside, high)
+    }
 }
 
 /// Puts the tree of that root in place of the one at the end of the way, which is as high. `root` becomes the tree's root.

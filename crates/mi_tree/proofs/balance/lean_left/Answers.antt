@@ -1,82 +1,76 @@
--- The left side is at least two levels high, and a rotation to the right, one or two, makes the heights fit.
-use Rattle.std.proofs.Common.{◌<◌, ◌≤◌, None, refl, sym, ap, ◌∙◌, arith}
-use Rattle.mi_tree.specs.BinaryTree.{height}
-use Rattle.mi_tree.proofs.BinaryTreeLemmas.{moved, tip_is, held-root}
-use Rattle.mi_tree.proofs.JoinLemmas.{sized, root_read, none_low, three_at, four_at, stood, stood_high}
-use Rattle.mi_tree.proofs.RotationLemmas.{left_opened, middle_opened, downs, left_boths}
+-- The left side is at least two levels high, and one rotation makes the heights fit, or two.
+use Rattle.std.proofs.Common.{◌≡◌, ◌+◌, ◌≤◌, Some, None, refl, sym, ap, ◌∙◌, arith}
+use Rattle.mi_tree.specs.BinaryTree.{BinaryTree, Fork, height}
+use Rattle.mi_tree.specs.Joining.{AreLinked, IsSized}
+use Rattle.mi_tree.proofs.BinaryTreeLemmas.{moved, tip_is, held-root, height-root}
+use Rattle.mi_tree.proofs.JoinLemmas.{sized}
+use Rattle.mi_tree.proofs.RotationLemmas.{LeftTurn, left_turn, down_put, downs}
+use Rattle.mi_tree.proofs.balance.lean_left.Given.{Over}
+use Rattle.mi_tree.proofs.balance.lean_left.Goals.{After-of-inner}
 use Rattle.mi_tree.proofs.balance.lean_left.Goals as goal
+
+module _ (g : Over) (c : After-of-inner g) where
+  -- the side that is too high, opened
+  turned : {l q : BinaryTree} → AreLinked c.args.p.now c.args.slot c.args.node c.args.link l q
+      → LeftTurn c.args.p.now c.args.slot c.args.node c.args.link l q c.in-Some.top c.link-over.result
+  turned h = left_turn h c.in-Some.is c.link-over.ensures
+
+  -- its two sides
+  outer : {l q : BinaryTree} (h : AreLinked c.args.p.now c.args.slot c.args.node c.args.link l q) → c.height-outer.result ≡ height (turned h).o.A
+  outer h = c.height-outer.ensures ∙ (turned h).o.left_height
+
+  inner : {l q : BinaryTree} (h : AreLinked c.args.p.now c.args.slot c.args.node c.args.link l q) → IsSized c.of-inner.result (turned h).o.B
+  inner h = sized c.of-inner.ensures (turned h).o.right
 
 pub unreachable-requires : goal.unreachable-requires
 unreachable-requires g c =
-    let w = c.requires.sides in let v = c.args in let more = w.5 in
-    let e = ap height (tip_is v.p.now v.slot w.0 (moved v.p.now v.p.now v.slot _ None w.0 refl c.in_default.is w.2.left_is)) in omega arith
+    let w = c.requires.sides in let v = c.args in let more = w.4 in
+    let e = ap height (tip_is v.p.now v.slot w.0 (moved v.p.now v.p.now v.slot _ None w.0 refl c.in_default.is w.2.sides.left_is)) in omega arith
 
-pub link-link-requires-clause-held : goal.link-link-requires-clause-held
-link-link-requires-clause-held g c = (left_opened c.requires.sides.2 c.in-Some.is refl).0.held
+pub link-over-requires-clause-held : goal.link-over-requires-clause-held
+link-over-requires-clause-held g c = (left_turn c.requires.sides.2 c.in-Some.is refl).o.held
 
-pub of-back-requires-clause-held : goal.of-back-requires-clause-held
-of-back-requires-clause-held g c =
-    let o = (left_opened c.requires.sides.2 c.in-Some.is c.link-link.ensures).0 in held-root c.args.p.now c.args.slot _ o.A o.left
+pub height-outer-requires-clause-held : goal.height-outer-requires-clause-held
+height-outer-requires-clause-held g c =
+    let k = left_turn c.requires.sides.2 c.in-Some.is c.link-over.ensures in held-root c.args.p.now c.args.slot _ k.o.A k.o.left
 
-pub of-forth-requires-clause-held : goal.of-forth-requires-clause-held
-of-forth-requires-clause-held g c =
-    let o = (left_opened c.requires.sides.2 c.in-Some.is c.link-link.ensures).0 in held-root c.args.p.now c.args.slot _ o.B o.right
+pub of-inner-requires-clause-held : goal.of-inner-requires-clause-held
+of-inner-requires-clause-held g c =
+    let k = left_turn c.requires.sides.2 c.in-Some.is c.link-over.ensures in held-root c.args.p.now c.args.slot _ k.o.B k.o.right
 
-pub join_down-whole-requires-clause-parts : goal.join_down-whole-requires-clause-parts
-join_down-whole-requires-clause-parts g c =
-    let w = c.requires.sides in let k = left_opened w.2 c.in-Some.is c.link-link.ensures in let e = c.of-back.ensures in let f = c.of-forth.ensures in
-    (k.0.A, k.0.B, w.1, three_at (root_read e) (root_read f) refl k.1, sized e k.0.left, sized f k.0.right, w.4)
+pub overflow_add-low : goal.overflow_add-low
+overflow_add-low g c =
+    let w = c.requires.sides in let o = (goal.at.overflow_add-low g c).After-of-inner in let low = (turned g o w.2).three.low in
+    let b = inner g o w.2 in let d = w.3 in let e = c.max-low.ensures in omega arith
 
-pub returns-then-back-forth-clause-tree : goal.returns-then-back-forth-clause-tree
-returns-then-back-forth-clause-tree g c l q h a b more =
-    let k = left_opened h c.in-Some.is c.link-link.ensures in let o = k.0 in let e = c.of-back.ensures in let f = c.of-forth.ensures in
-    let back = sized e o.left in let forth = sized f o.right in let j = c.join_down-whole.ensures in
-    let higher : height o.B ≤ height o.A = omega (arith, c.if-back-forth.true) in
-    downs h o more higher (stood (j.tree o.A o.B q (three_at (root_read e) (root_read f) refl k.1) back forth b).0) j.keeps j.tags
+pub overflow_add-high : goal.overflow_add-high
+overflow_add-high g c =
+    let w = c.requires.sides in let o = (goal.at.overflow_add-high g c).After-of-inner in let low = (turned g o w.2).three.low in
+    let a = outer g o w.2 in let b = inner g o w.2 in let d = w.3 in let e = c.max-low.ensures in let f = c.max-high.ensures in omega arith
 
-pub returns-then-back-forth-clause-height : goal.returns-then-back-forth-clause-height
-returns-then-back-forth-clause-height g c =
-    let w = c.requires.sides in let k = left_opened w.2 c.in-Some.is c.link-link.ensures in let o = k.0 in
-    let e = c.of-back.ensures in let f = c.of-forth.ensures in
-    stood_high c.join_down-whole.result (c.join_down-whole.ensures.tree o.A o.B w.1 (three_at (root_read e) (root_read f) refl k.1) (sized e o.left) (sized f o.right) w.4)
+pub overflow_sub-below : goal.overflow_sub-below
+overflow_sub-below g c =
+    let w = c.requires.sides in let k = turned g (goal.at.overflow_sub-below g c).After-of-inner w.2 in let all = k.size_is in let part = k.part_is in omega arith
 
-pub unreachable-requires-in_default-root : goal.unreachable-requires-in_default-root
-unreachable-requires-in_default-root g c = let low = none_low c.args.p.now c.args.slot c.of-forth.ensures c.in_default-root.is in absurd (omega (arith, c.if-back-forth.false))
+pub overflow_add-below : goal.overflow_add-below
+overflow_add-below g c =
+    let w = c.requires.sides in let o = (goal.at.overflow_add-below g c).After-of-inner in let k = turned g o w.2 in
+    let all = k.size_is in let part = k.part_is in let b = inner g o w.2 in let fits = k.three.fits in omega arith
 
-pub link-inner-requires-clause-held : goal.link-inner-requires-clause-held
-link-inner-requires-clause-held g c =
-    let k = left_opened c.requires.sides.2 c.in-Some.is c.link-link.ensures in
-    (middle_opened k.1 (sym (root_read c.of-forth.ensures) ∙ c.in-Some-root.is) refl).0.held
-
-pub of-near-requires-clause-held : goal.of-near-requires-clause-held
-of-near-requires-clause-held g c =
-    let k = left_opened c.requires.sides.2 c.in-Some.is c.link-link.ensures in
-    let u = middle_opened k.1 (sym (root_read c.of-forth.ensures) ∙ c.in-Some-root.is) c.link-inner.ensures in held-root c.args.p.now c.args.slot _ u.0.A u.0.left
-
-pub of-far-requires-clause-held : goal.of-far-requires-clause-held
-of-far-requires-clause-held g c =
-    let k = left_opened c.requires.sides.2 c.in-Some.is c.link-link.ensures in
-    let u = middle_opened k.1 (sym (root_read c.of-forth.ensures) ∙ c.in-Some-root.is) c.link-inner.ensures in held-root c.args.p.now c.args.slot _ u.0.B u.0.right
-
-pub join_both-whole-requires-clause-parts : goal.join_both-whole-requires-clause-parts
-join_both-whole-requires-clause-parts g c =
-    let w = c.requires.sides in let k = left_opened w.2 c.in-Some.is c.link-link.ensures in let o = k.0 in
-    let u = middle_opened k.1 (sym (root_read c.of-forth.ensures) ∙ c.in-Some-root.is) c.link-inner.ensures in
-    let e = c.of-back.ensures in let f = c.of-forth.ensures in let near = c.of-near.ensures in let far = c.of-far.ensures in
-    (o.A, u.0.A, u.0.B, w.1, four_at (root_read e) (root_read near) (root_read far) refl u.1, sized e o.left, sized near u.0.left, sized far u.0.right, w.4)
+pub set_down-requires-clause-parts : goal.set_down-requires-clause-parts
+set_down-requires-clause-parts g c =
+    let w = c.requires.sides in let o = (goal.at.set_down-requires-clause-parts g c).After-of-inner in let k = turned g o w.2 in
+    (k.o.A, k.o.B, w.1, down_put c.of-inner.result k (outer g o w.2) (inner g o w.2) w.3 refl (ap (λ j. j + 1) c.max-low.ensures) (ap (λ j. j + 1) c.max-high.ensures))
 
 pub returns-clause-tree : goal.returns-clause-tree
-returns-clause-tree g c l q h a b more =
-    let k = left_opened h c.in-Some.is c.link-link.ensures in let o = k.0 in
-    let u = middle_opened k.1 (sym (root_read c.of-forth.ensures) ∙ c.in-Some-root.is) c.link-inner.ensures in
-    let e = c.of-back.ensures in let f = c.of-forth.ensures in let near = c.of-near.ensures in let far = c.of-far.ensures in
-    let back = sized e o.left in let forth = sized f o.right in let j = c.join_both-whole.ensures in
-    let higher : height o.A < height o.B = omega (arith, c.if-back-forth.false) in
-    left_boths h o u.0 more higher (stood (j.tree o.A u.0.A u.0.B q (four_at (root_read e) (root_read near) (root_read far) refl u.1) back (sized near u.0.left) (sized far u.0.right) b).0) j.keeps j.tags
+returns-clause-tree g c l q h d more =
+    let o = (goal.at.returns-clause-tree g c).After-of-inner in let k = turned g o h in let a = outer g o h in let b = inner g o h in
+    let put = down_put c.of-inner.result k (outer g o h) (inner g o h) d refl (ap (λ j. j + 1) c.max-low.ensures) (ap (λ j. j + 1) c.max-high.ensures) in
+    let higher : height k.o.B ≤ height k.o.A = omega (arith, c.if-outer-inner.false) in
+    let set = c.set_down.ensures in downs h.sides k.o more higher (set.tree k.o.A k.o.B q put) set.keeps set.tags
 
 pub returns-clause-height : goal.returns-clause-height
 returns-clause-height g c =
-    let w = c.requires.sides in let k = left_opened w.2 c.in-Some.is c.link-link.ensures in let o = k.0 in
-    let u = middle_opened k.1 (sym (root_read c.of-forth.ensures) ∙ c.in-Some-root.is) c.link-inner.ensures in
-    let e = c.of-back.ensures in let f = c.of-forth.ensures in let near = c.of-near.ensures in let far = c.of-far.ensures in
-    stood_high c.join_both-whole.result (c.join_both-whole.ensures.tree o.A u.0.A u.0.B w.1 (four_at (root_read e) (root_read near) (root_read far) refl u.1) (sized e o.left) (sized near u.0.left) (sized far u.0.right) w.4)
+    let w = c.requires.sides in let o = (goal.at.returns-clause-height g c).After-of-inner in let k = turned g o w.2 in
+    let put = down_put c.of-inner.result k (outer g o w.2) (inner g o w.2) w.3 refl (ap (λ j. j + 1) c.max-low.ensures) (ap (λ j. j + 1) c.max-high.ensures) in
+    put.high.height_is ∙ sym (height-root c.set_down.new.p c.args.slot (Some c.in-Some.top) (Fork k.o.A c.in-Some.top (Fork k.o.B c.args.node w.1)) (c.set_down.ensures.tree k.o.A k.o.B w.1 put))

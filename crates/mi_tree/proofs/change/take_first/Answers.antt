@@ -2,8 +2,7 @@
 use Rattle.std.proofs.Common.{◌≡◌, [], ◌∷◌, List, Some, refl, sym, ap, ◌∙◌, subst}
 use Rattle.mi_node.specs.Pool.{link_of, IsHeld}
 use Rattle.mi_node.specs.Refs.{Ref}
-use Rattle.mi_tree.specs.BinaryTree.{BinaryTree, Fork, Tip, nodes, height}
-use Rattle.mi_tree.specs.Sorted.{CanTake}
+use Rattle.mi_tree.specs.BinaryTree.{BinaryTree, Fork, Tip, height}
 use Rattle.mi_tree.specs.Ways.{Frame, Sinks, HasSunk}
 use Rattle.mi_tree.specs.Turns.{turns}
 use Rattle.mi_tree.proofs.BinaryTreeLemmas.{held-root}

@@ -1,8 +1,8 @@
 -- The way down ends at the node, its two sides become one tree, and this takes its place.
-use Rattle.std.proofs.Common.{◌≡◌, [], List, ◌∷◌, ◌++◌, Some, refl, sym, subst}
+use Rattle.std.proofs.Common.{[], List, Some, refl}
 use Rattle.mi_node.specs.Refs.{Ref}
 use Rattle.mi_tree.specs.BinaryTree.{BinaryTree, nodes}
-use Rattle.mi_tree.specs.Sorted.{CanTake, Rising, side}
+use Rattle.mi_tree.specs.Sorted.{Rising, side}
 use Rattle.mi_tree.specs.Ways.{Frame, Sinks, HasSunk}
 use Rattle.mi_tree.specs.Turns.{turns}
 use Rattle.mi_tree.proofs.RemovalWayLemmas.{sinks_start, held_here, height_here, ends_here, climbs_away, has_left}

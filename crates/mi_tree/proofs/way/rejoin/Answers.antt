@@ -1,14 +1,13 @@
 -- A side that is one level lower than its node needs no balance; sides of nearly one height need another height alone; else the two sides are balanced.
-use Rattle.std.proofs.Common.{◌+◌, ◌-◌, ◌≤◌, Some, cond, not, refl, sym, ap, ◌∙◌, subst, arith}
+use Rattle.std.proofs.Common.{◌≡◌, ◌+◌, ◌-◌, ◌≤◌, Some, cond, not, refl, sym, ap, ◌∙◌, subst, arith}
 use Rattle.mi_node.specs.Cells.{sided}
 use Rattle.mi_node.specs.Pool.{IsHeldIf, link_of}
-use Rattle.mi_node.specs.declared.link.Link.{Link}
 use Rattle.mi_tree.specs.BinaryTree.{BinaryTree, Fork, height, height_at, DifferByAtMost}
-use Rattle.mi_tree.specs.Joining.{AreSides, IsFork}
+use Rattle.mi_tree.specs.Joining.{AreLinked, IsFork}
 use Rattle.mi_tree.specs.Ways.{AreRejoined, rehung}
-use Rattle.mi_tree.proofs.BinaryTreeLemmas.{height-root, held-root}
-use Rattle.mi_tree.proofs.RotationLemmas.{plains, sides_read}
-use Rattle.mi_tree.proofs.WayLemmas.{AreHigh, other_held, rejoined_high, rejoined_fork}
+use Rattle.mi_tree.proofs.BinaryTreeLemmas.{height-root}
+use Rattle.mi_tree.proofs.RotationLemmas.{plains}
+use Rattle.mi_tree.proofs.WayLemmas.{AreHigh, other_held, rejoined_high, rejoined_fork, rejoined_linked, rejoined_left, rejoined_right}
 use Rattle.mi_tree.proofs.way.rejoin.Given.{Over}
 use Rattle.mi_tree.proofs.way.rejoin.Goals.{Then-high-before, After-height-beside, After-with_child-link}
 use Rattle.mi_tree.proofs.way.rejoin.Goals as goal
@@ -34,13 +33,16 @@ module _ (g : Over) (c : After-height-beside g) where
   tall r = rejoined_high r c.requires.high.0 (c.height-beside.ensures ∙ ap (height_at c.args.p.now c.args.slot) c.neighbour.ensures)
 
 module _ (g : Over) (c : After-with_child-link g) where
-  -- the node's two sides
-  hung : {l q : BinaryTree}
+  -- the node's link names and counts its two sides
+  linked : {l q : BinaryTree}
       → AreRejoined c.args.p.now c.args.slot c.args.turn c.args.below (link_of c.args.p.now c.args.turn.node.name c.args.slot) l q
-      → AreSides c.args.p.now c.args.slot c.with_child-link.result.back c.args.turn.node c.with_child-link.result.forth l q
-  hung {l} {q} r =
-      let is = c.with_child-link.ensures ∙ ap (rehung c.args.turn.left c.args.below) c.link.ensures in
-      subst (λ (z : Link). AreSides c.args.p.now c.args.slot z.back c.args.turn.node z.forth l q) (sym is) r.sides
+      → AreLinked c.args.p.now c.args.slot c.args.turn.node c.with_child-link.result l q
+  linked r = rejoined_linked r refl (c.with_child-link.ensures ∙ ap (rehung c.args.turn.left c.args.below) c.link.ensures)
+
+  -- the height of the side that was read
+  read_high : c.height-beside.result ≡ height_at c.args.p.now c.args.slot (cond (not c.args.turn.left)
+      (link_of c.args.p.now c.args.turn.node.name c.args.slot).back (link_of c.args.p.now c.args.turn.node.name c.args.slot).forth)
+  read_high = c.height-beside.ensures ∙ ap (height_at c.args.p.now c.args.slot) c.neighbour.ensures
 
 pub set_side-requires-clause-parts : goal.set_side-requires-clause-parts
 set_side-requires-clause-parts g c =
@@ -86,21 +88,12 @@ returns-then-abs_diff-le1-clause-height g c =
     is ∙ sym (height-root set.new.p c.args.slot (Some c.args.turn.node) (Fork w.0 c.args.turn.node w.1)
     (set.ensures.tree w.0 w.1 (rejoined_fork (c.max-now.result + 1) w.2 refl refl is)))
 
-pub of-left-requires-clause-held : goal.of-left-requires-clause-held
-of-left-requires-clause-held g c =
-    let w = c.requires.sides in held-root c.args.p.now c.args.slot _ w.0 (hung g (goal.at.of-left-requires-clause-held g c).After-with_child-link w.2).left_is
+pub lean-requires-clause-sides : goal.lean-requires-clause-sides
+lean-requires-clause-sides g c =
+    let w = c.requires.sides in let o = (goal.at.lean-requires-clause-sides g c).After-with_child-link in
+    let k = rejoined_left w.2 c.if-turn.true c.requires.high.0 (read_high g o) in (w.0, w.1, linked g o w.2, k.0, k.1)
 
-pub of-right-requires-clause-held : goal.of-right-requires-clause-held
-of-right-requires-clause-held g c =
-    let w = c.requires.sides in held-root c.args.p.now c.args.slot _ w.1 (hung g (goal.at.of-right-requires-clause-held g c).After-with_child-link w.2).right_is
-
-pub balance-requires-clause-sides : goal.balance-requires-clause-sides
-balance-requires-clause-sides g c =
-    let w = c.requires.sides in
-    let k = sides_read c.of-left.ensures c.of-right.ensures (hung g (goal.at.balance-requires-clause-sides g c).After-with_child-link w.2) in
-    (w.0, w.1, k.0, k.1, k.2)
-
-pub returns-clause-tree : goal.returns-clause-tree
-returns-clause-tree g c l q h =
-    let k = sides_read c.of-left.ensures c.of-right.ensures (hung g (goal.at.returns-clause-tree g c).After-with_child-link h) in
-    c.balance.ensures.tree l q k.0 k.1 k.2
+pub lean-requires-else-turn-clause-sides : goal.lean-requires-else-turn-clause-sides
+lean-requires-else-turn-clause-sides g c =
+    let w = c.requires.sides in let o = (goal.at.lean-requires-else-turn-clause-sides g c).After-with_child-link in
+    let k = rejoined_right w.2 c.if-turn.false c.requires.high.0 (read_high g o) in (w.0, w.1, linked g o w.2, k.0, k.1)
