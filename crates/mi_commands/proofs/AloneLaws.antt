@@ -1,7 +1,7 @@
 -- A catalog of one table answers a line without a member `table` as that table by itself answers it.
 use Rattle.std.proofs.Common.{◌≡◌, ℕ, zero, suc, List, [], ◌∷◌, length, Bool, true, false, cond, not, ◌&&◌, ◌||◌, Option, Some, None}
-use Rattle.std.proofs.Common.{Result, Ok, Err, IfSome, IfOk, codes, refl, sym, ap, ◌∙◌, subst, inl, inr, true≢false}
-use Rattle.std.specs.Option.{option_map, option_and_then, ok_or}
+use Rattle.std.proofs.Common.{Result, Ok, Err, IfSome, IfOk, codes, refl, sym, ap, ◌∙◌, inl, inr, true≢false}
+use Rattle.std.specs.Option.{option_and_then, ok_or}
 use Rattle.std.specs.List.{filter, list_any}
 use Rattle.std.specs.Str.{bytes_eq}
 use Rattle.std.specs.Ordering.{nat_cmp, match_ordering, is_eq}

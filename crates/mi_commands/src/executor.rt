@@ -1,18 +1,16 @@
 //! Commands, one line at a time, over the database: parsed, kept out where another connection holds sessions, bound, done, said.
 //! It reads and writes no stream, and knows of the database what `Sessions` says.
-ghost use Rattle.std.specs.Prelude.{◌≡◌, ◌≢◌, ◌≤◌, true, false, None, Err, IfOk, IfErr, option_map};
+ghost use Rattle.std.specs.Prelude.{◌≡◌, ◌≤◌, true, false, None, Err, IfOk, IfErr, option_map};
 ghost use Rattle.mi_model.specs.Database.{depth, undone_times};
-ghost use Rattle.mi_protocol.specs.Binding.{bound_command, FitsCatalog};
+ghost use Rattle.mi_protocol.specs.Binding.{FitsCatalog};
 ghost use Rattle.mi_request.specs.Answers.{IsAnswer, NamesNoIndex};
 ghost use Rattle.mi_request.specs.Lines.{command_line};
 ghost use Rattle.mi_protocol.specs.Replies.{reply_text, refused, said, is_short, IsSaidOf};
 ghost use Rattle.mi_protocol.specs.Text.{text_bytes};
-ghost use Rattle.mi_commands.specs.Answer.{needs_none};
 
 use crate::holder::{Holder, held_by, is_busy, without_holder};
 use crate::line::Line;
-use mi_catalog::Catalog;
-use mi_protocol::{Command, LineReader, Reply, ReplyLabels, ReplyText, Request, bind};
+use mi_protocol::{Command, LineReader, Reply, ReplyLabels, ReplyText, bind};
 use mi_sessions::Sessions;
 use mi_value::Refusal;
 use std::alloc::Global;
@@ -165,7 +163,7 @@ impl<D: Sessions + Drop> Executor<D> {
         if request.keeps_out() && is_busy(&self.holder, conn) {
             return Err(Refusal::Busy);
         }
-        command_of(self.alloc, request, self.database.catalog())
+        bind(self.alloc, request, self.database.catalog())
     }
 
     /// Answers a line that is not over-long.
@@ -193,26 +191,6 @@ impl<D: Sessions + Drop> Executor<D> {
         ensures { text_bytes result ≡ reply_text self.now.database.catalog (said reply.entry) }
     {
         reply.text(self.alloc, self.database.catalog()).unwrap()
-    }
-}
-
-/// The command that a request is over a catalog. One that names nothing of it is its command as it stands.
-fn command_of(alloc: Global, request: Request<'_>, catalog: &Catalog) -> Result<Command, Refusal>
-    ensures answer { IsAnswer result (bound_command catalog.now request.entry) }
-    ensures refusal { IfErr result NamesNoIndex }
-    ensures fits { IfOk result (λ command. FitsCatalog catalog.now command) }
-    ensures memory { needs_none request.entry ≡ true → result ≢ Err Refusal.Memory }
-{
-    catalog.keeps_rules();
-    match request {
-        Request::Undo => Ok(Command::Undo),
-        Request::Squash => Ok(Command::Squash),
-        Request::Commit { revision } => Ok(Command::Commit { revision }),
-        Request::UndoAll => Ok(Command::UndoAll),
-        Request::Push => Ok(Command::Push),
-        Request::Revision => Ok(Command::Revision),
-        Request::Size { table: None } => Ok(Command::Size { table: 0 }),
-        named => bind(alloc, named, catalog),
     }
 }
 

@@ -9,6 +9,7 @@ use Rattle.std.proofs.lemmas.List.{length-drop, length-take, length-reverse, tak
 use Rattle.std.proofs.Math.Seq.{take-append_seam, drop-append_seam}
 use Rattle.mi_value.specs.declared.bound.Lower.{Lower}
 use Rattle.mi_value.specs.declared.bound.Upper.{Upper}
+use Rattle.mi_value.specs.declared.bound.Upper.TheVariants as upper
 use Rattle.mi_model.specs.Shape.{Shape, index_at}
 use Rattle.mi_model.specs.Table.{Table, row}
 use Rattle.mi_model.specs.View.{view}
@@ -16,8 +17,9 @@ use Rattle.mi_model.specs.Kinds.{is_sorted}
 use Rattle.mi_model.specs.Page as page
 use Rattle.mi_model.specs.Page.{Page, page_of}
 use Rattle.mi_model.proofs.PlaceLaws.{IsOnce, slice_get-reverse}
-use Rattle.mi_model.proofs.QueryLaws.{rank_from, rank_to, between_ranks, to_within, segment_empty}
-use Rattle.mi_model.specs.Walk.{turned, ids_from, rows_from}
+use Rattle.mi_model.proofs.QueryLaws.{rank_from, rank_to, between_ranks, to_all, to_within, segment_empty}
+use Rattle.mi_model.specs.Walk.{turned, from_in, ids_from, rows_from}
+use Rattle.mi_model.specs.LookUp.{rank_in}
 use Rattle.mi_model.proofs.WalkLaws.{once_turned, from_at}
 use Rattle.mi_query.specs.Pages.{place_behind}
 use Rattle.mi_query.proofs.LookUpLemmas.{none_means_past}
@@ -170,39 +172,49 @@ one_more limit more ids (inr all) =
     let taken : length (take more ids) ≡ min more (length ids) = length-take more ids in
     le-ltb limit (length (take more ids)) (omega arith) ∙ sym (le-ltb limit (length ids) all)
 
-module _ (s : Shape) (t : Table) (x : ℕ) (after : Option ℕ) (limit : ℕ) where
-  abbrev at : ℕ
-  at = place_behind (view s t x) after
-
-  list_is : (o : Option ℕ) → page_of limit (drop (place_behind (view s t x) o) (view s t x)) ≡ page.list s t x o limit
-  list_is None = refl
-  list_is (Some e) = refl
-
-  -- nothing stands behind
-  pub list_none : slice_get (view s t x) at ≡ None → page.list s t x after limit ≡ record { ids = []; more = false }
-  list_none none =
+-- the page of what an index shows from a place on
+module _ (s : Shape) (t : Table) (x : ℕ) (at limit : ℕ) where
+  -- nothing stands there
+  pub page_none : slice_get (view s t x) at ≡ None → page_of limit (drop at (view s t x)) ≡ record { ids = []; more = false }
+  page_none none =
       let past : length (view s t x) ≤ at = none_means_past (view s t x) at none in
       let rest : length (drop at (view s t x)) ≡ length (view s t x) - at = length-drop at (view s t x) in
-      sym (list_is after) ∙ ap (page_of limit) (empty (drop at (view s t x)) (omega arith)) ∙ page_of_none limit
+      ap (page_of limit) (empty (drop at (view s t x)) (omega arith)) ∙ page_of_none limit
     where
       empty : (ids : List ℕ) → length ids ≡ 0 → ids ≡ []
       empty [] e = refl
       empty (a ∷ ids) e = absurd (omega arith)
 
-  module _ (first more : ℕ) (here : slice_get (view s t x) at ≡ Some first) (once : IsOnce (view s t x)) where
-    walked : rows_from s t x false first more ≡ map (row t) (take more (drop at (view s t x)))
-    walked = ap (λ ids. map (row t) (take more ids)) (from_at (view s t x) once at first here)
+  -- an id stands there
+  pub page_at : (first : ℕ) → slice_get (view s t x) at ≡ Some first → IsOnce (view s t x)
+      → page_of limit (from_in (view s t x) first) ≡ page_of limit (drop at (view s t x))
+  page_at first here once = ap (page_of limit) (from_at (view s t x) once at first here)
 
-    pub list_rows : limit ≤ more → take limit (rows_from s t x false first more) ≡ map (row t) (page.list s t x after limit).ids
-    list_rows le =
-        ap (take limit) walked ∙ take-map (row t) limit (take more (drop at (view s t x)))
-        ∙ ap (map (row t)) (take-take limit more (drop at (view s t x)) le)
-        ∙ ap (λ (p : Page). map (row t) p.ids) (list_is after)
+-- a list is the page from behind an id, or from the first
+pub list_is : (s : Shape) (t : Table) (x : ℕ) (after : Option ℕ) (limit : ℕ)
+    → page_of limit (drop (place_behind (view s t x) after) (view s t x)) ≡ page.list s t x after limit
+list_is s t x None limit = refl
+list_is s t x (Some e) limit = refl
 
-    pub list_more : (n : ℕ) → n ≡ length (rows_from s t x false first more)
-        → (limit < more) ⊎ (length (view s t x) ≤ limit) → nat_lt limit n ≡ (page.list s t x after limit).more
-    list_more n is enough =
-        let rest : length (drop at (view s t x)) ≡ length (view s t x) - at = length-drop at (view s t x) in
-        ap (nat_lt limit) (is ∙ ap length walked ∙ length-map_rows (row t) (take more (drop at (view s t x))))
-        ∙ one_more limit more (drop at (view s t x)) (elim enough [ inl beyond ↦ inl beyond | inr all ↦ inr (omega arith) ])
-        ∙ ap (λ (p : Page). p.more) (list_is after)
+-- a range without an upper bound is the page from its rank on
+pub open_is : (s : Shape) (t : Table) (x : ℕ) (low : Lower) (limit : ℕ) → IsTrue (is_sorted (index_at s x).kind)
+    → page_of limit (drop (rank_from s t x low) (view s t x)) ≡ page.range s t x low upper.All false limit
+open_is s t x low limit sorted =
+    sym (ap (page_of limit) (between_ranks s t x low upper.All sorted
+    ∙ ap (λ n. drop (rank_from s t x low) (take n (view s t x))) (to_all s t x)
+    ∙ ap (drop (rank_from s t x low)) (take_all (length (view s t x)) (view s t x) (omega arith))))
+
+-- a walk of one row more than a page
+module _ (s : Shape) (t : Table) (x first limit more : ℕ) where
+  abbrev ids : List ℕ
+  ids = from_in (view s t x) first
+
+  pub walked_rows : limit ≤ more → take limit (rows_from s t x false first more) ≡ map (row t) (page_of limit ids).ids
+  walked_rows le = take-map (row t) limit (take more ids) ∙ ap (map (row t)) (take-take limit more ids le)
+
+  pub walked_more : (n : ℕ) → n ≡ length (rows_from s t x false first more) → (limit < more) ⊎ (length (view s t x) ≤ limit)
+      → nat_lt limit n ≡ (page_of limit ids).more
+  walked_more n is enough =
+      let rest : length ids ≡ length (view s t x) - rank_in (view s t x) first = length-drop (rank_in (view s t x) first) (view s t x) in
+      ap (nat_lt limit) (is ∙ length-map_rows (row t) (take more ids))
+      ∙ one_more limit more ids (elim enough [ inl beyond ↦ inl beyond | inr all ↦ inr (omega arith) ])

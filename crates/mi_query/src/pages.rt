@@ -1,14 +1,15 @@
 //! Pages of ranges and lists. A page takes memory for its rows alone, which are lent: the index is walked once, from where
 //! the page begins.
-ghost use Rattle.std.specs.Prelude.{◌≡◌, not, length, map, IsTrue, IfOk, IfErr, Ok, Err, slice_get, if◌then◌else◌};
+ghost use Rattle.std.specs.Prelude.{◌≡◌, not, length, map, false, IsTrue, IfOk, IfErr, Ok, Err, slice_get, if◌then◌else◌};
 ghost use Rattle.std.specs.List.{count_by};
 ghost use Rattle.mi_value.specs.declared.refusal.Refusal.TheVariants.{Memory, NoId};
-ghost use Rattle.mi_sessions.specs.Fitting.{HasTable, index_of, IsSortedIndex, IsSequencedIndex, FitsLower, FitsUpper};
+ghost use Rattle.mi_sessions.specs.Fitting.{HasTable, index_of, IsSortedIndex, IsSequencedIndex, IsListedIndex, FitsLower, FitsUpper};
 ghost use Rattle.mi_sessions.specs.LookUps.{WithinLookUps};
-ghost use Rattle.mi_model.specs.Table.{row as row_of, size as size_of};
+ghost use Rattle.mi_model.specs.Table.{has as has_row, row as row_of, size as size_of};
 ghost use Rattle.mi_model.specs.Verdict.{has_place};
 ghost use Rattle.mi_model.specs.Database.{schema_of, table_of};
-ghost use Rattle.mi_model.specs.Page.{meets_lower, meets_upper, range as range_of, list as list_of};
+ghost use Rattle.mi_model.specs.Page.{meets_lower, meets_upper, page_of, range as range_of, list as list_of};
+ghost use Rattle.mi_model.specs.Walk.{from_in};
 ghost use Rattle.mi_query.specs.Pages.{shown_by, place_behind};
 
 use crate::shown::shows_each;
@@ -72,10 +73,96 @@ fn all_of<D: Sessions>(db: &D, table: usize, index: usize) -> u64
     db.size(table)
 }
 
-/// The first rows of those that an ordered or ranked index shows between two bounds, in its order or in the reverse of it,
-/// at most `limit` of them. The ends are found by at most five look-ups, however many rows there are; then the index is
-/// walked once, from where the page begins. Refusal: `Memory`.
-pub fn range<'a, D: Sessions>(
+/// The first id of an ordered or ranked index that meets the bound at which a range begins, or none. At most one look-up.
+fn first_from<D: Sessions>(
+    db: &D,
+    table: usize,
+    index: usize,
+    lower: &Lower,
+    steps: &mut Steps,
+) -> Option<u64>
+    requires table { HasTable (D.state db.now).catalog table }
+    requires index { IsSortedIndex (D.state db.now).catalog table index }
+    requires key { FitsLower (D.state db.now).catalog table index lower.now }
+    ensures first { result ≡ slice_get (shown_by (D.state db.now) table index)
+        (count_by (λ id. not (meets_lower (index_of (D.state db.now).catalog table index) (table_of (D.state db.now) table) lower.now id))
+        (shown_by (D.state db.now) table index)) }
+    ensures steps { WithinLookUps D.bound 1 (size_of (table_of (D.state db.now) table)) steps.old.count steps.new.count }
+{
+    match lower {
+        Lower::All => db.first(table, index),
+        Lower::From(key) => db.lower(table, index, key.values(), steps),
+        Lower::Beyond(key) => db.upper(table, index, key.values(), steps),
+    }
+}
+
+/// The first rows of those that an index shows from an id on, at most `limit` of them. It is one walk, of one row more than the
+/// page may have, and at most one look-up. Refusal: `Memory`.
+fn page_from<'a, D: Sessions>(
+    db: &'a D,
+    alloc: Global,
+    table: usize,
+    index: usize,
+    first: u64,
+    limit: usize,
+    steps: &mut Steps,
+) -> Result<Page<'a>, Refusal>
+    requires table { HasTable (D.state db.now).catalog table }
+    requires index { IsListedIndex (D.state db.now).catalog table index }
+    requires first { IsTrue (has_row (table_of (D.state db.now) table) first) }
+    ensures rows { IfOk result (λ p. map (λ r. (r.0, r.1.now)) p.rows.items ≡ map (row_of (table_of (D.state db.now) table))
+        (page_of limit (from_in (shown_by (D.state db.now) table index) first)).ids) }
+    ensures more { IfOk result (λ p. p.more ≡ (page_of limit (from_in (shown_by (D.state db.now) table index) first)).more) }
+    ensures err { IfErr result (λ e. e ≡ Memory) }
+    ensures steps { WithinLookUps D.bound 1 (size_of (table_of (D.state db.now) table)) steps.old.count steps.new.count }
+{
+    shows_each(db, table, index);
+    let mut rows = db.walk(
+        alloc,
+        table,
+        index,
+        false,
+        first,
+        limit.saturating_add(1),
+        steps,
+    )?;
+    let more = rows.len() > limit;
+    rows.truncate(limit);
+    Ok(Page { rows, more })
+}
+
+/// `range` without an upper bound, in the index's order: where it begins is one look-up, and no rank is counted.
+fn open_range<'a, D: Sessions>(
+    db: &'a D,
+    alloc: Global,
+    table: usize,
+    index: usize,
+    lower: &Lower,
+    limit: usize,
+    steps: &mut Steps,
+) -> Result<Page<'a>, Refusal>
+    requires table { HasTable (D.state db.now).catalog table }
+    requires index { IsSortedIndex (D.state db.now).catalog table index }
+    requires lower { FitsLower (D.state db.now).catalog table index lower.now }
+    ensures rows { IfOk result (λ p. map (λ r. (r.0, r.1.now)) p.rows.items ≡ map (row_of (table_of (D.state db.now) table))
+        (range_of (schema_of (D.state db.now) table) (table_of (D.state db.now) table) index lower.now Upper.All false limit).ids) }
+    ensures more { IfOk result (λ p. p.more ≡
+        (range_of (schema_of (D.state db.now) table) (table_of (D.state db.now) table) index lower.now Upper.All false limit).more) }
+    ensures err { IfErr result (λ e. e ≡ Memory) }
+    ensures steps { WithinLookUps D.bound 2 (size_of (table_of (D.state db.now) table)) steps.old.count steps.new.count }
+{
+    db.keeps_rules();
+    let Some(first) = first_from(db, table, index, lower, steps) else {
+        return Ok(Page {
+            rows: Vec::new(alloc),
+            more: false,
+        });
+    };
+    page_from(db, alloc, table, index, first, limit, steps)
+}
+
+/// `range` by the ranks of its ends: at most five look-ups, and one walk.
+fn range_between<'a, D: Sessions>(
     db: &'a D,
     alloc: Global,
     table: usize,
@@ -118,6 +205,37 @@ pub fn range<'a, D: Sessions>(
     })
 }
 
+/// The first rows of those that an ordered or ranked index shows between two bounds, in its order or in the reverse of it,
+/// at most `limit` of them. The ends are found by at most five look-ups, however many rows there are; then the index is
+/// walked once, from where the page begins. Refusal: `Memory`.
+pub fn range<'a, D: Sessions>(
+    db: &'a D,
+    alloc: Global,
+    table: usize,
+    index: usize,
+    lower: &Lower,
+    upper: &Upper,
+    reverse: bool,
+    limit: usize,
+    steps: &mut Steps,
+) -> Result<Page<'a>, Refusal>
+    requires table { HasTable (D.state db.now).catalog table }
+    requires index { IsSortedIndex (D.state db.now).catalog table index }
+    requires lower { FitsLower (D.state db.now).catalog table index lower.now }
+    requires upper { FitsUpper (D.state db.now).catalog table index upper.now }
+    ensures rows { IfOk result (λ p. map (λ r. (r.0, r.1.now)) p.rows.items ≡ map (row_of (table_of (D.state db.now) table))
+        (range_of (schema_of (D.state db.now) table) (table_of (D.state db.now) table) index lower.now upper.now reverse limit).ids) }
+    ensures more { IfOk result (λ p. p.more ≡
+        (range_of (schema_of (D.state db.now) table) (table_of (D.state db.now) table) index lower.now upper.now reverse limit).more) }
+    ensures err { IfErr result (λ e. e ≡ Memory) }
+    ensures steps { WithinLookUps D.bound 5 (size_of (table_of (D.state db.now) table)) steps.old.count steps.new.count }
+{
+    match upper {
+        Upper::All if !reverse => open_range(db, alloc, table, index, lower, limit, steps),
+        _ => range_between(db, alloc, table, index, lower, upper, reverse, limit, steps),
+    }
+}
+
 /// The first rows of a sequenced index, or of those behind an id, at most `limit` of them. At most two look-ups, and one walk.
 /// Refusals: `NoId`, exactly where that id isn't there, and `Memory`.
 pub fn list<'a, D: Sessions>(
@@ -146,18 +264,7 @@ pub fn list<'a, D: Sessions>(
             more: false,
         });
     };
-    let mut rows = db.walk(
-        alloc,
-        table,
-        index,
-        false,
-        first,
-        limit.saturating_add(1),
-        steps,
-    )?;
-    let more = rows.len() > limit;
-    rows.truncate(limit);
-    Ok(Page { rows, more })
+    page_from(db, alloc, table, index, first, limit, steps)
 }
 
 /// The id directly behind another in a sequenced index, or behind none the first. Refusal: `NoId`. At most one look-up.

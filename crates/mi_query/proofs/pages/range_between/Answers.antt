@@ -9,9 +9,9 @@ use Rattle.mi_model.proofs.PlaceLaws.{sorted_listed, once_of_each}
 use Rattle.mi_query.proofs.ShownLemmas.{place_is_there, each_listed}
 use Rattle.mi_query.proofs.PageLemmas.{Ranks, ranks_found, range_empty, range_begins, range_rows, range_more}
 use Rattle.mi_query.proofs.LookUpLemmas.{picked_then, picked_else}
-use Rattle.mi_query.proofs.pages.range.Given.{Over}
-use Rattle.mi_query.proofs.pages.range.Goals.{then-reverse, else-reverse, After-rank_to-to, After-nth}
-use Rattle.mi_query.proofs.pages.range.Goals as goal
+use Rattle.mi_query.proofs.pages.range_between.Given.{Over}
+use Rattle.mi_query.proofs.pages.range_between.Goals.{then-reverse, else-reverse, After-rank_to-to, After-nth}
+use Rattle.mi_query.proofs.pages.range_between.Goals as goal
 
 module _ (g : Over) (c : After-rank_to-to g) where
   -- the ranks that were found are where the range begins and ends
