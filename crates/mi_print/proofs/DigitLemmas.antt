@@ -1,6 +1,7 @@
 -- The digits of numbers, two at a time: those of the table, and those of a number behind its hundreds or its ten thousands.
-use Rattle.std.proofs.Common.{◌≡◌, ℕ, zero, suc, ◌+◌, ◌-◌, ◌*◌, ◌/◌, ◌%◌, ◌^◌, ◌<◌, ◌≤◌, Bool, true, ◌&&◌, T, eqb, length, get_or, inl, inr, arith, eq-zero-or-pos, eqb→eq}
+use Rattle.std.proofs.Common.{◌≡◌, ℕ, zero, suc, ◌+◌, ◌-◌, ◌*◌, ◌/◌, ◌%◌, ◌^◌, ◌<◌, ◌≤◌, Bool, true, ◌&&◌, T, eqb, [], ◌∷◌, length, take, drop, get_or, ap, ap₂, ◌∙◌, inl, inr, arith, eq-zero-or-pos, eqb→eq}
 use Rattle.std.proofs.lemmas.Fmt.{length-decimal-le}
+use Rattle.std.proofs.lemmas.List.{drop_more}
 use lib.Ieee.Fits.{and_l, and_r}
 use Rattle.std.specs.Fmt.{decimal}
 use Rattle.mi_print.specs.declared.number.TheConstants.{PAIRS}
@@ -20,6 +21,12 @@ below (suc n) p t h =
 -- what the table has of a number
 pub pair_at : (p : ℕ) → p < 100 → (get_or PAIRS (p * 2) 0 ≡ 48 + p / 10) × (get_or PAIRS (p * 2 + 1) 0 ≡ 48 + p % 10)
 pair_at p h = below 100 p tt h
+
+pub two_at : (p : ℕ) → p < 100 → take 2 (drop (p * 2) PAIRS) ≡ (48 + p / 10) ∷ (48 + p % 10) ∷ []
+two_at p h =
+    let digits = pair_at p h in
+    ap (take 2) (drop_more PAIRS (p * 2) 0 (omega arith)
+    ∙ ap₂ (λ d ds. d ∷ ds) digits.0 (drop_more PAIRS (p * 2 + 1) 0 (omega arith) ∙ ap (λ d. d ∷ drop (p * 2 + 1 + 1) PAIRS) digits.1))
 
 -- no number of 64 bits has more than twenty digits
 pub twenty : (n : ℕ) → n < 2 ^ 64 → length (decimal n) ≤ 20

@@ -1,2 +1,3 @@
 mod DigitLemmas
 mod PlaceLemmas
+mod PlainLemmas

@@ -3,7 +3,7 @@ ghost use Rattle.std.specs.Prelude.{◌≡◌, ◌+◌, ◌/◌, ◌%◌, ◌<�
 ghost use Rattle.std.specs.Fmt.{decimal, signed_decimal};
 ghost use Rattle.json.specs.Filled.{Placed};
 
-use crate::place::put_byte;
+use crate::place::{put_byte, put_first};
 
 /// The numbers below 100, two digits each.
 static PAIRS: [u8; 200] =
@@ -15,10 +15,7 @@ fn put_pair(buf: &mut [u8], at: usize, n: u64) -> usize
     requires { (n < 100) × (at + 2 ≤ length buf.old) }
     ensures { Placed buf.old buf.new at ((48 + n / 10) ∷ (48 + n % 10) ∷ []) result }
 {
-    let from = n as usize * 2;
-    let (tens, ones) = (PAIRS[from], PAIRS[from + 1]);
-    let end = put_byte(buf, at, tens);
-    put_byte(buf, end, ones)
+    put_first::<2>(buf, at, &PAIRS[n as usize * 2..])
 }
 
 /// Puts a number below 100.
@@ -91,8 +88,7 @@ pub fn put_u64(buf: &mut [u8], at: usize, n: u64) -> usize
 }
 
 /// Puts a number with its sign. The sign is always stored, and counts only where the number has one.
-#[inline(always)]
-pub fn put_i64(buf: &mut [u8], at: usize, n: i64) -> usize
+fn put_signed(buf: &mut [u8], at: usize, n: i64) -> usize
     requires { at + 21 ≤ length buf.old }
     ensures value { Placed buf.old buf.new at (signed_decimal n) result }
     ensures bound { result ≤ at + 21 }
@@ -100,4 +96,18 @@ pub fn put_i64(buf: &mut [u8], at: usize, n: i64) -> usize
     buf[at] = b'-';
     let first = if n < 0 { at + 1 } else { at };
     put_u64(buf, first, n.unsigned_abs())
+}
+
+/// Puts a number with its sign. A short one without a sign is put where it is asked for.
+#[inline(always)]
+pub fn put_i64(buf: &mut [u8], at: usize, n: i64) -> usize
+    requires { at + 21 ≤ length buf.old }
+    ensures value { Placed buf.old buf.new at (signed_decimal n) result }
+    ensures bound { result ≤ at + 21 }
+{
+    if n >= 0 && n < 10_000 {
+        put_short(buf, at, n as u64)
+    } else {
+        put_signed(buf, at, n)
+    }
 }

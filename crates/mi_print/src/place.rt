@@ -44,7 +44,7 @@ pub(crate) fn put_front<const N: usize>(
 
 /// Puts the first N bytes of a text, as one load and one store.
 #[inline(always)]
-fn put_first<const N: usize>(buf: &mut [u8], at: usize, src: &[u8]) -> usize
+pub(crate) fn put_first<const N: usize>(buf: &mut [u8], at: usize, src: &[u8]) -> usize
     requires { (N ≤ length src.now) × (at + N ≤ length buf.old) }
     ensures { Placed buf.old buf.new at (take N src.now) result }
 {
@@ -101,6 +101,16 @@ pub fn put_text(buf: &mut [u8], at: usize, src: &[u8]) -> usize
     }
 }
 
+/// Puts a text by a call: where it is put seldom, it shall take no room among what is put often.
+#[cold]
+#[inline(never)]
+fn put_seldom(buf: &mut [u8], at: usize, src: &[u8]) -> usize
+    requires { at + length src.now ≤ length buf.old }
+    ensures { Placed buf.old buf.new at src.now result }
+{
+    put_text(buf, at, src)
+}
+
 /// Puts the first bytes of an array. Where they are up to sixteen, sixteen are stored, and those behind them don't count.
 #[inline(always)]
 pub fn put_label<const N: usize>(buf: &mut [u8], at: usize, src: &[u8; N], len: usize) -> usize
@@ -109,7 +119,7 @@ pub fn put_label<const N: usize>(buf: &mut [u8], at: usize, src: &[u8; N], len: 
     ensures { Placed buf.old buf.new at (take len src.now) result }
 {
     if len > 16 {
-        return put_text(buf, at, &src[..len]);
+        return put_seldom(buf, at, &src[..len]);
     }
     put_first::<16>(buf, at, src);
     at + len

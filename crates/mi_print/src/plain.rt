@@ -6,26 +6,11 @@ ghost use Rattle.json.specs.Written.{PlainBetween};
 
 use std::simd::prelude::*;
 
-/// Whether no byte of four is a quote, a backslash or a control byte.
+/// Whether no byte of eight is a quote, a backslash or a control byte.
 #[inline(always)]
-fn plain_4(text: &[u8], at: usize) -> bool
-    requires { at + 4 ≤ length text.now }
-    ensures { OnTrue result (PlainBetween text.now at (at + 4)) }
+fn are_plain_8(bytes: u8x8) -> bool
+    ensures { OnTrue result (PlainBetween bytes 0 8) }
 {
-    let bytes = u8x4::from_slice(&text[at..]);
-    (bytes.simd_eq(u8x4::splat(b'"'))
-        | bytes.simd_eq(u8x4::splat(b'\\'))
-        | bytes.simd_lt(u8x4::splat(0x20))).to_bitmask()
-        == 0
-}
-
-/// The same of eight.
-#[inline(always)]
-fn plain_8(text: &[u8], at: usize) -> bool
-    requires { at + 8 ≤ length text.now }
-    ensures { OnTrue result (PlainBetween text.now at (at + 8)) }
-{
-    let bytes = u8x8::from_slice(&text[at..]);
     (bytes.simd_eq(u8x8::splat(b'"'))
         | bytes.simd_eq(u8x8::splat(b'\\'))
         | bytes.simd_lt(u8x8::splat(0x20))).to_bitmask()
@@ -34,15 +19,22 @@ fn plain_8(text: &[u8], at: usize) -> bool
 
 /// The same of sixteen.
 #[inline(always)]
-fn plain_16(text: &[u8], at: usize) -> bool
-    requires { at + 16 ≤ length text.now }
-    ensures { OnTrue result (PlainBetween text.now at (at + 16)) }
+fn are_plain_16(bytes: u8x16) -> bool
+    ensures { OnTrue result (PlainBetween bytes 0 16) }
 {
-    let bytes = u8x16::from_slice(&text[at..]);
     (bytes.simd_eq(u8x16::splat(b'"'))
         | bytes.simd_eq(u8x16::splat(b'\\'))
         | bytes.simd_lt(u8x16::splat(0x20))).to_bitmask()
         == 0
+}
+
+/// The same of sixteen bytes of a text.
+#[inline(always)]
+fn plain_16(text: &[u8], at: usize) -> bool
+    requires { at + 16 ≤ length text.now }
+    ensures { OnTrue result (PlainBetween text.now at (at + 16)) }
+{
+    are_plain_16(u8x16::from_slice(&text[at..]))
 }
 
 /// The same of a text of three bytes or fewer, one by one.
@@ -73,22 +65,26 @@ fn plain_long(text: &[u8]) -> bool
     plain_16(text, text.len() - 16)
 }
 
-/// The same of a text of four to eight bytes.
+/// The same of a text of four to eight bytes: its first four beside its last four.
 #[inline(always)]
 fn plain_by_4(text: &[u8]) -> bool
     requires { (4 ≤ length text.now) × (length text.now ≤ 8) }
     ensures { OnTrue result (PlainBetween text.now 0 (length text.now)) }
 {
-    plain_4(text, 0) && plain_4(text, text.len() - 4)
+    let first = u8x4::from_slice(text);
+    let last = u8x4::from_slice(&text[text.len() - 4..]);
+    are_plain_8(first.shuffle::<8>(last, [0, 1, 2, 3, 4, 5, 6, 7]))
 }
 
-/// The same of a text of eight to sixteen bytes.
+/// The same of a text of eight to sixteen bytes: its first eight beside its last eight.
 #[inline(always)]
 fn plain_by_8(text: &[u8]) -> bool
     requires { (8 ≤ length text.now) × (length text.now ≤ 16) }
     ensures { OnTrue result (PlainBetween text.now 0 (length text.now)) }
 {
-    plain_8(text, 0) && plain_8(text, text.len() - 8)
+    let first = u8x8::from_slice(text);
+    let last = u8x8::from_slice(&text[text.len() - 8..]);
+    are_plain_16(first.shuffle::<16>(last, [0, 1, 2, 3, 4, 5, 6, 7, 8, 9, 10, 11, 12, 13, 14, 15]))
 }
 
 /// The same of a text of sixteen bytes or fewer.

@@ -4,7 +4,7 @@ ghost use Rattle.std.specs.Prelude.{◌≡◌, ◌+◌, ◌-◌, ◌≤◌, take
 use std::alloc::AllocError;
 
 /// What a vector is filled with, a part at a time.
-static ZEROS: [u8; 4096] = [0; 4096];
+static ZEROS: [u8; 1024] = [0; 1024];
 
 /// Fills a vector up to a length that it has room for.
 fn fill_to(text: &mut Vec<u8>, len: usize)

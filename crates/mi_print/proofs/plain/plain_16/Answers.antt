@@ -1,7 +1,6 @@
--- No lane of sixteen is a byte that needs an escape, so none of these bytes is.
-use Rattle.std.proofs.Common.{arith}
-use Rattle.json.proofs.Printed.Plain.{plain_from_lanes}
+-- The lanes are the bytes from a place on.
+use Rattle.mi_print.proofs.PlainLemmas.{part_plain}
 use Rattle.mi_print.proofs.plain.plain_16.Goals as goal
 
 pub returns : goal.returns
-returns c = plain_from_lanes c.args.text.now c.args.at 16 c.requires (omega arith) c.type_inv.text
+returns c = part_plain c.are_plain_16.result c.args.text.now c.args.at 16 c.are_plain_16.ensures
