@@ -1,6 +1,7 @@
 pub mod FormLemmas
 pub mod InsertLemmas
 pub mod ObjectLemmas
+pub mod PageLemmas
 pub mod ParsingLemmas
 pub mod ShortLemmas
 pub mod WordLemmas

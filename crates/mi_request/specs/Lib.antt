@@ -4,6 +4,7 @@ pub mod Commands
 pub mod Json
 pub mod Lines
 pub mod ObjectCode
+pub mod Page
 pub mod Places
 pub mod Row
 pub mod Short

@@ -11,6 +11,7 @@ mod lending;
 mod line_reader;
 mod name;
 mod object;
+mod page;
 mod reading;
 mod request;
 mod short;
