@@ -1,5 +1,6 @@
 pub mod FormLemmas
 pub mod InsertLemmas
+pub mod KeyedLemmas
 pub mod ObjectLemmas
 pub mod PageLemmas
 pub mod ParsingLemmas

@@ -1,34 +1,29 @@
 -- A page of a range as a compact writer gives it is the request of its members.
-use Rattle.std.proofs.Common.{◌≡◌, ℕ, ◌^◌, ◌<◌, ◌≤◌, List, [], ◌∷◌, ◌++◌, Bool, true, false, ◌&&◌, Option, Some, None, option_and_then, Ok, IsUtf8}
-use Rattle.std.proofs.Common.{codes, decimal, nat_lt, nat_le, refl, sym, ap, ap₂, ◌∙◌, append_assoc, append-nil, lt-ltb}
+use Rattle.std.proofs.Common.{◌≡◌, ℕ, ◌^◌, ◌<◌, ◌≤◌, List, [], ◌∷◌, ◌++◌, Bool, true, false, ◌&&◌, Option, Some, None, Ok, IsUtf8}
+use Rattle.std.proofs.Common.{codes, decimal, nat_lt, nat_le, refl, ap, ap₂, ◌∙◌, append_assoc, lt-ltb}
 use Rattle.std.proofs.lemmas.Option.{cond_some}
 use Rattle.std.proofs.lemmas.Bool.{leb-true}
 use Rattle.std.proofs.lemmas.Fmt.{IsAscii-decimal}
 use Rattle.std.proofs.lemmas.Str.{IsUtf8-append, IsUtf8-from_ascii}
 use Rattle.json.specs.Json as json
 use Rattle.json.specs.Json.{value, if_last}
-use Rattle.json.specs.Lex.{tokens}
 use Rattle.json.specs.Print.{print, print_from, escape_byte}
 use Rattle.json.specs.Tree.{json_tokens, depth, HasNumbers}
 use Rattle.json.proofs.Printed.Decimals.{IsNumber-decimal}
-use Rattle.json.proofs.Printed.Tokens.{tokens-print}
-use Rattle.json.proofs.Printed.Trees.{value-json_tokens, ArePrintable-json_tokens}
 use Rattle.json.proofs.Printed.Utf8.{IsUtf8-are_ascii}
 use Rattle.serde_json.specs.Data.{Data, unsigned, number, string, array, object, item, no_items, Members, no_members, member, put}
 use Rattle.serde_json.specs.Read.{of_json, read}
 use Rattle.serde_json.proofs.Numbers.{number_of-decimal}
-use Rattle.std.specs.Option.{ok_or}
 use Rattle.mi_value.specs.declared.limits.TheConstants.{MAX_PAGE}
-use Rattle.mi_value.specs.declared.refusal.Refusal.TheVariants.{Form}
 use Rattle.mi_request.specs.Commands.{look_up_named, if_page}
 use Rattle.mi_request.specs.Json.{has_only}
-use Rattle.mi_request.specs.Lines.{request_of, request_or_refusal, command_line}
+use Rattle.mi_request.specs.Lines.{request_of, command_line}
 use Rattle.mi_request.specs.Page.{lower_name, lower_text, page_text}
 use Rattle.mi_request.specs.Short.{name, maybe_name, whole, is_name_byte, are_name_bytes, is_word, member_text, name_front, command_front}
 use Rattle.mi_request.specs.declared.request.End.{End}
 use Rattle.mi_request.specs.declared.request.End.TheVariants.{Open, With, Without}
 use Rattle.mi_request.specs.declared.request.Request.TheVariants as request
-use Rattle.mi_request.proofs.ParsingLemmas.{json-found}
+use Rattle.mi_request.proofs.ParsingLemmas.{printed_read, request_found}
 use Rattle.mi_request.proofs.ShortLemmas.{escape_name, named_utf8, whole_utf8, small}
 
 -- the key of one number, as a lower end
@@ -61,7 +56,7 @@ page_is table index with n limit f line t u v w x first p q r s e end =
 
 -- ---- the value that the line is
 
-abbrev with_table : Option (List ℕ) → json.Members → json.Members
+abbrev pub with_table : Option (List ℕ) → json.Members → json.Members
 with_table None ms = ms
 with_table (Some t) ms = json.member (codes "table") (json.string t) ms
 
@@ -73,7 +68,7 @@ page_json table index with n limit =
     json.object (json.member (codes "cmd") (json.string (codes "range")) (with_table table (json.member (codes "index") (json.string index)
     (json.member (codes "lower") (lower_json with n) (json.member (codes "limit") (json.number (decimal limit)) json.no_members)))))
 
-abbrev put_table : Option (List ℕ) → Members → Members
+abbrev pub put_table : Option (List ℕ) → Members → Members
 put_table None ms = ms
 put_table (Some t) ms = put (codes "table") (string t) ms
 
@@ -124,11 +119,7 @@ module _ (index : List ℕ) (n limit : ℕ) (n_fits : nat_lt n (2 ^ 63) ≡ true
   page_read : (table : Option (List ℕ)) (with : Bool) → are_name_bytes index ≡ true → is_table table ≡ true
       → read (page_text table index with n limit) ≡ Some (page_data table index with n limit)
   page_read table with named is =
-      let j = page_json table index with n limit in
-      ap (λ ts. option_and_then of_json (option_and_then (λ p. if_last p.0 p.1) (value 127 ts)))
-      (ap tokens (sym (printed index n limit named table with is)) ∙ tokens-print (json_tokens j) (ArePrintable-json_tokens j (numbered table with)) ∙ sym (append-nil (json_tokens j)))
-      ∙ ap (λ o. option_and_then of_json (option_and_then (λ p. if_last p.0 p.1) o)) (value-json_tokens j 127 [] (shallow table with))
-      ∙ meant table with
+      printed_read (page_json table index with n limit) _ _ (printed index n limit named table with is) (numbered table with) (shallow table with) (meant table with)
 
   asked : (table : Option (List ℕ)) (with : Bool) → (nat_le 1 limit && nat_le limit MAX_PAGE) ≡ true
       → request_of (page_data table index with n limit) ≡ Some (request.Range table index (end_of with n) Open false limit)
@@ -170,7 +161,6 @@ page_means line table index with n limit size is table_named index_named below l
     let p = cond_some (nat_le 1 limit && nat_le limit MAX_PAGE) limit size page in
     let n_fits = lt-ltb n (2 ^ 63) below in
     ap command_line is
-    ∙ ap request_or_refusal (json-found (page_text table index with n limit) (page_data table index with n limit)
-    (page_utf8 table index with n limit table_named index_named n_fits limit_fits) (page_read index n limit n_fits limit_fits table with index_named table_named))
-    ∙ ap (λ o. ok_or o Form) (asked index n limit n_fits limit_fits table with p.0)
+    ∙ request_found (page_text table index with n limit) (page_data table index with n limit) _ (page_utf8 table index with n limit table_named index_named n_fits limit_fits)
+    (page_read index n limit n_fits limit_fits table with index_named table_named) (asked index n limit n_fits limit_fits table with p.0)
     ∙ ap (λ size. Ok (request.Range table index (end_of with n) Open false size)) p.1

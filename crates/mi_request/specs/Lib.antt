@@ -2,6 +2,7 @@ pub mod Answers
 pub mod Bare
 pub mod Commands
 pub mod Json
+pub mod Keyed
 pub mod Lines
 pub mod ObjectCode
 pub mod Page

@@ -9,6 +9,7 @@ ghost use Rattle.mi_request.specs.declared.request.Request.TheVariants as reques
 
 use crate::bare::Bare;
 use crate::insert::insert_line;
+use crate::keyed::keyed_line;
 use crate::page::page_line;
 use crate::request::{Request, request_of};
 use crate::short::short_of;
@@ -75,6 +76,9 @@ impl LineReader {
             return Ok(request);
         }
         if let Some(request) = page_line(arena, line) {
+            return Ok(request);
+        }
+        if let Some(request) = keyed_line(arena, line) {
             return Ok(request);
         }
         read_any(alloc, arena, &mut self.value, line)

@@ -2,7 +2,6 @@
 //! without a space between them. Names and numbers are read where they stand. What is written in another way is left to the reading of
 //! any line.
 ghost use Rattle.std.specs.Prelude.{◌≡◌, ◌<◌, ◌^◌, Ok, IfSome};
-ghost use Rattle.serde_json.specs.Data.{number, unsigned, item, no_items};
 ghost use Rattle.mi_request.specs.Lines.{command_line};
 ghost use Rattle.mi_request.specs.Page.{lower_text};
 
@@ -11,22 +10,9 @@ use crate::reading::if_page;
 use crate::request::{End, Request};
 use crate::words::{behind, is_end, maybe_name_behind, name_behind, whole_behind};
 use bumpalo::Bump;
-use mi_tokens::Json;
 
 /// Where the fourth letter of the command's name stands in such a line. It is looked at before all else: no other command has this one.
 const LETTER_AT: usize = 11;
-
-/// The key of this number alone, 0 to 2^63 - 1. It lies in the arena.
-#[inline(always)]
-fn key_of<'a>(arena: &'a Bump, n: u64) -> Option<Array<'a>>
-    requires { n < 2 ^ 63 }
-    ensures { IfSome result (λ key. key ≡ item (number (unsigned n)) no_items) }
-{
-    let Ok(items) = arena.try_alloc_slice_copy(&[Json::Whole(n as i64)]) else {
-        return None;
-    };
-    Some(Array::new(items))
-}
 
 /// The end of a key of one number that is in the range, or that isn't, and the number; and what stands behind it.
 #[inline(always)]
@@ -46,12 +32,10 @@ fn lower_behind(text: &[u8]) -> Option<(bool, u64, &[u8])>
 }
 
 /// The request of a page of a range. Its key lies in the arena, its names are borrowed from the line.
-pub(crate) fn page_line<'a>(arena: &'a Bump, line: &'a [u8]) -> Option<Request<'a>>
+#[inline(never)]
+fn page<'a>(arena: &'a Bump, line: &'a [u8]) -> Option<Request<'a>>
     ensures { IfSome result (λ r. command_line line.now ≡ Ok r) }
 {
-    if line.len() <= LETTER_AT || line[LETTER_AT] != b'g' {
-        return None;
-    }
     let rest = behind(b"{\"cmd\":\"range\"".as_slice(), line)?;
     let (table, rest) = maybe_name_behind(b",\"table\":\"".as_slice(), rest)?;
     let (index, rest) = name_behind(b",\"index\":\"".as_slice(), rest)?;
@@ -61,7 +45,7 @@ pub(crate) fn page_line<'a>(arena: &'a Bump, line: &'a [u8]) -> Option<Request<'
         return None;
     }
     let limit = if_page(limit)?;
-    let key = key_of(arena, n)?;
+    let key = Array::of_number(arena, n)?;
     let lower = if with {
         End::With(key)
     } else {
@@ -75,4 +59,15 @@ pub(crate) fn page_line<'a>(arena: &'a Bump, line: &'a [u8]) -> Option<Request<'
         reverse: false,
         limit,
     })
+}
+
+/// The same, where the letter says that it can be one.
+#[inline(always)]
+pub(crate) fn page_line<'a>(arena: &'a Bump, line: &'a [u8]) -> Option<Request<'a>>
+    ensures { IfSome result (λ r. command_line line.now ≡ Ok r) }
+{
+    if line.len() <= LETTER_AT || line[LETTER_AT] != b'g' {
+        return None;
+    }
+    page(arena, line)
 }

@@ -7,8 +7,8 @@ use Rattle.mi_request.specs.declared.request.End.TheVariants.{Open, With, Withou
 use Rattle.mi_request.specs.declared.request.Request.TheVariants as request
 use Rattle.mi_request.proofs.PageLemmas.{end_of, page_is, page_means}
 use Rattle.mi_request.proofs.WordLemmas.{behind_is, word_there, member-read}
-use Rattle.mi_request.proofs.page.page_line.Goals.{then-with, else-with}
-use Rattle.mi_request.proofs.page.page_line.Goals as goal
+use Rattle.mi_request.proofs.page.page.Goals.{then-with, else-with}
+use Rattle.mi_request.proofs.page.page.Goals as goal
 
 pub returns : goal.returns
 returns c =
