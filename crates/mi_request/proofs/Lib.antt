@@ -1,6 +1,7 @@
 pub mod FormLemmas
 pub mod InsertLemmas
 pub mod KeyedLemmas
+pub mod ModifyLemmas
 pub mod ObjectLemmas
 pub mod PageLemmas
 pub mod ParsingLemmas

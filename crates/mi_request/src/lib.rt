@@ -10,6 +10,7 @@ mod insert;
 mod keyed;
 mod lending;
 mod line_reader;
+mod modify;
 mod name;
 mod object;
 mod page;
