@@ -1,6 +1,9 @@
 pub mod FormLemmas
 pub mod InsertLemmas
+pub mod KeyedLemmas
+pub mod ModifyLemmas
 pub mod ObjectLemmas
+pub mod PageLemmas
 pub mod ParsingLemmas
 pub mod ShortLemmas
 pub mod WordLemmas

@@ -1,10 +1,9 @@
 -- A short line means its request, and each is found.
-use Rattle.std.proofs.Common.{◌≡◌, ℕ, zero, suc, ◌^◌, ◌<◌, ◌≤◌, length, nat_le, subst, List, [], ◌∷◌, ◌++◌, Bool, true, false, cond, ◌&&◌, ◌==◌, Option, Some, None, is_some, option_map, option_and_then}
+use Rattle.std.proofs.Common.{◌≡◌, ℕ, zero, suc, ◌^◌, ◌<◌, ◌≤◌, length, subst, List, [], ◌∷◌, ◌++◌, Bool, true, false, cond, ◌&&◌, ◌==◌, Option, Some, None, is_some, option_map, option_and_then}
 use Rattle.std.proofs.Common.{Result, Ok, Err, IsUtf8, codes, decimal, nat_lt, get_or, refl, sym, ap, ap₂, ◌∙◌, ◌⊎◌, inl, inr, arith, ltb-true, append_assoc, ne_eqb}
 use Rattle.std.proofs.lemmas.Option.{none-some, same_Some, cond_some}
-use Rattle.std.proofs.lemmas.Bool.{leb-true, and_parts}
+use Rattle.std.proofs.lemmas.Bool.{and_parts}
 use Rattle.std.proofs.lemmas.Fmt.{IsAscii-decimal}
-use Rattle.std.proofs.lemmas.List.{length-append}
 use Rattle.std.proofs.lemmas.Str.{IsUtf8-append, IsUtf8-from_ascii}
 use Rattle.std.specs.Option.{ok_or}
 use Rattle.std.specs.Str.{is_utf8, chars}
@@ -59,7 +58,7 @@ abbrev are_named : List Member → Bool
 are_named [] = true
 are_named (m ∷ ms) = are_name_bytes m.0 && are_named ms
 
-escape_name : (s : List ℕ) → are_name_bytes s ≡ true → escape s ≡ s
+pub escape_name : (s : List ℕ) → are_name_bytes s ≡ true → escape s ≡ s
 escape_name [] all = refl
 escape_name (x ∷ s) all =
     let p = and_parts (is_name_byte x) (are_name_bytes s) all in
@@ -78,7 +77,7 @@ printed_name m s ms named word rest =
     ∙ ap (λ l. m ++ (34 ∷ (58 ∷ (34 ∷ l)))) (append_assoc s (34 ∷ []) (members_text ms))
     ∙ sym (append_assoc m (34 ∷ (58 ∷ (34 ∷ []))) (s ++ (34 ∷ members_text ms)))))
 
-small : (n : ℕ) → nat_lt n (2 ^ 63) ≡ true → n < 2 ^ 64
+pub small : (n : ℕ) → nat_lt n (2 ^ 63) ≡ true → n < 2 ^ 64
 small n word = let below = ltb-true n (2 ^ 63) word in omega (arith, below)
 
 printed_whole : (m : List ℕ) (n : ℕ) (ms : List Member) → are_name_bytes m ≡ true → print_from true (tokens_of ms) ≡ members_text ms
@@ -234,12 +233,12 @@ module _ (c : List ℕ) (ms : List Member) (command : are_name_bytes c ≡ true)
 front_utf8 : (m rest : List ℕ) → are_name_bytes m ≡ true → IsUtf8 rest → IsUtf8 (codes ",\"" ++ (m ++ rest))
 front_utf8 m rest named u = IsUtf8-append (codes ",\"") (m ++ rest) (IsUtf8-are_ascii _ refl) (IsUtf8-append m rest (utf8_name m named) u)
 
-named_utf8 : (m s rest : List ℕ) → are_name_bytes m ≡ true → are_name_bytes s ≡ true → IsUtf8 rest → IsUtf8 (name_front m ++ (s ++ (34 ∷ rest)))
+pub named_utf8 : (m s rest : List ℕ) → are_name_bytes m ≡ true → are_name_bytes s ≡ true → IsUtf8 rest → IsUtf8 (name_front m ++ (s ++ (34 ∷ rest)))
 named_utf8 m s rest named word u =
     IsUtf8-append (name_front m) _ (front_utf8 m (codes "\":\"") named (IsUtf8-are_ascii _ refl))
     (IsUtf8-append s _ (utf8_name s word) (IsUtf8-append (34 ∷ []) rest (IsUtf8-are_ascii _ refl) u))
 
-whole_utf8 : (m : List ℕ) (n : ℕ) (rest : List ℕ) → are_name_bytes m ≡ true → nat_lt n (2 ^ 63) ≡ true → IsUtf8 rest → IsUtf8 (whole_front m ++ (decimal n ++ rest))
+pub whole_utf8 : (m : List ℕ) (n : ℕ) (rest : List ℕ) → are_name_bytes m ≡ true → nat_lt n (2 ^ 63) ≡ true → IsUtf8 rest → IsUtf8 (whole_front m ++ (decimal n ++ rest))
 whole_utf8 m n rest named word u =
     IsUtf8-append (whole_front m) _ (front_utf8 m (codes "\":") named (IsUtf8-are_ascii _ refl))
     (IsUtf8-append (decimal n) rest (IsUtf8-from_ascii (decimal n) (IsAscii-decimal n (small n word))) u)

@@ -357,7 +357,7 @@ members-written (m ∷ ms) words apart =
     ∙ ap (option_map (λ rs. m ∷ rs)) (members-written ms p.1 q.1)
 
 -- what is read of a member was written, in front of the rest
-abbrev WasWritten : List ℕ → List ℕ → Word → List ℕ → Type 0
+abbrev pub WasWritten : List ℕ → List ℕ → Word → List ℕ → Type 0
 WasWritten m t w rest = (t ≡ member_text m w rest) × (is_word w ≡ true)
 
 made_from : {A : Type 0} (word : A → Word) (o : Option (A × List ℕ)) (w : Word) (rest : List ℕ) (P : Type 0) → made word o ≡ Some (w, rest)
@@ -403,7 +403,7 @@ perhaps_numbered m t rest w (Some r) is e =
     (some_from (λ n. n) (whole_at r) o rest (WasWritten m t (maybe_whole o) rest) found
     (λ n at is_some. subst (λ v. WasWritten m t (maybe_whole v) rest) is_some (numbered m t rest r n is at))))
 
-member-read : (k : Kind) (m t rest : List ℕ) (w : Word) → read_member k m t ≡ Some (w, rest) → WasWritten m t w rest
+pub member-read : (k : Kind) (m t rest : List ℕ) (w : Word) → read_member k m t ≡ Some (w, rest) → WasWritten m t w rest
 member-read a_name m t rest w e =
     made_from name (needed_at name_at (name_front m) t) w rest (WasWritten m t w rest) e
     (λ s found same. subst (λ v. WasWritten m t v rest) same
@@ -414,6 +414,19 @@ member-read a_whole m t rest w e =
     (λ n found same. subst (λ v. WasWritten m t v rest) same
     (option_and_then_some whole_at (behind (whole_front m) t) (n, rest) found (λ r front at. numbered m t rest r n front at)))
 member-read perhaps_whole m t rest w e = perhaps_numbered m t rest w (behind (whole_front m) t) refl e
+
+-- what the code finds behind a front
+pub behind_is : (front t : List ℕ) (r : Option (Bor (List ℕ))) (x : Bor (List ℕ)) → option_map (λ y. y.now) r ≡ behind front t → r ≡ Some x → t ≡ front ++ x.now
+behind_is front t r x found is = front-behind front t x.now (sym found ∙ ap (option_map (λ y. y.now)) is)
+
+whole_behind_read : (front t rest : List ℕ) (n : ℕ) → needed_at whole_at front t ≡ Some (n, rest) → (t ≡ front ++ (decimal n ++ rest)) × (n < 2 ^ 63)
+whole_behind_read front t rest n e =
+    option_and_then_some whole_at (behind front t) (n, rest) e
+    (λ r found at. let q = whole-read r rest n at in (front-behind front t r found ∙ ap (λ l. front ++ l) q.0, q.1))
+
+pub whole_behind_is : (front t : List ℕ) (r : Option (ℕ × Bor (List ℕ))) (n : ℕ) (x : Bor (List ℕ))
+    → option_map {U = ℕ × List ℕ} (λ p. (p.0, p.1.now)) r ≡ needed_at whole_at front t → r ≡ Some (n, x) → (t ≡ front ++ (decimal n ++ x.now)) × (n < 2 ^ 63)
+whole_behind_is front t r n x found is = whole_behind_read front t x.now n (sym found ∙ ap (option_map {U = ℕ × List ℕ} (λ p. (p.0, p.1.now))) is)
 
 -- what is read of members was written
 abbrev WereWritten : List ℕ → List Member → Type 0

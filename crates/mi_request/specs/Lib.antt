@@ -2,8 +2,10 @@ pub mod Answers
 pub mod Bare
 pub mod Commands
 pub mod Json
+pub mod Keyed
 pub mod Lines
 pub mod ObjectCode
+pub mod Page
 pub mod Places
 pub mod Row
 pub mod Short

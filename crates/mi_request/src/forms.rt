@@ -24,10 +24,10 @@ use mi_value::limits::{MAX_RESERVED_CHANGES, MAX_RESERVED_SESSIONS};
 
 /// The members of a command over a key of an index.
 #[derive(Drop)]
-struct KeyMembers<'a> {
-    table: Option<Name<'a>>,
-    index: Name<'a>,
-    key: Array<'a>,
+pub(crate) struct KeyMembers<'a> {
+    pub(crate) table: Option<Name<'a>>,
+    pub(crate) index: Name<'a>,
+    pub(crate) key: Array<'a>,
 }
 
 /// Its members of the names `table`, `index` and `key`.

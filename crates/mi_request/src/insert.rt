@@ -15,7 +15,7 @@ use mi_tokens::pass_last_member;
 const NAME_AT: usize = 8;
 
 /// The row with which a text begins, if nothing but a brace stands behind it.
-fn last_row<'a>(arena: &'a Bump, text: &'a str) -> Option<Object<'a>>
+pub(crate) fn last_row<'a>(arena: &'a Bump, text: &'a str) -> Option<Object<'a>>
     ensures { IfSome result (λ row. IsRow text.now row) }
 {
     object_of(&pass_last_member(arena, text)?)

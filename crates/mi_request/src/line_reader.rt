@@ -9,6 +9,9 @@ ghost use Rattle.mi_request.specs.declared.request.Request.TheVariants as reques
 
 use crate::bare::Bare;
 use crate::insert::insert_line;
+use crate::keyed::keyed_line;
+use crate::modify::modify_line;
+use crate::page::page_line;
 use crate::request::{Request, request_of};
 use crate::short::short_of;
 use crate::value::read_value;
@@ -71,6 +74,15 @@ impl LineReader {
         let alloc = self.alloc;
         let arena = &self.arena;
         if let Some(request) = insert_line(arena, line) {
+            return Ok(request);
+        }
+        if let Some(request) = modify_line(arena, line) {
+            return Ok(request);
+        }
+        if let Some(request) = page_line(arena, line) {
+            return Ok(request);
+        }
+        if let Some(request) = keyed_line(arena, line) {
             return Ok(request);
         }
         read_any(alloc, arena, &mut self.value, line)

@@ -106,15 +106,22 @@ pub(crate) fn up_to(object: &Object<'_>, name: &str, most: u64) -> Option<u64>
     up_to_of(object.get(name)?, most)
 }
 
-fn page_of(value: &Json<'_>) -> Option<usize>
-    ensures { result ≡ commands.page (meaning value.now) }
+/// A number of rows, 1 to 1,000.
+#[inline(always)]
+pub(crate) fn if_page(n: u64) -> Option<usize>
+    ensures { result ≡ commands.if_page n }
 {
-    let n = natural_of(value)?;
     if 1 <= n && n <= MAX_PAGE as u64 {
         Some(n as usize)
     } else {
         None
     }
+}
+
+fn page_of(value: &Json<'_>) -> Option<usize>
+    ensures { result ≡ commands.page (meaning value.now) }
+{
+    if_page(natural_of(value)?)
 }
 
 /// A number of rows, 1 to 1,000; absent it is 1,000.

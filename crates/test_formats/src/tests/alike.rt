@@ -1,13 +1,13 @@
 //! Random lines, read to values that lend and by `serde_json` alone: both read the same.
 use mi_random::Random;
-use mi_request::{Array, End, Json as Lent, LineReader, Name, Object, NamedPlace, Request};
+use mi_request::{Array, End, Json as Lent, LineReader, Name, NamedPlace, Object, Request};
 use mi_value::Refusal;
 use serde_json::{Map, Value as Json};
 use std::alloc::{AllocError, Global};
 use std::test::Fail;
 
 /// Lines of each command, with members and texts of each kind.
-const LINES: [&str; 46] = [
+const LINES: [&str; 48] = [
     "{\"cmd\":\"undo\"}",
     "{\"cmd\":\"size\",\"table\":\"accounts\"}",
     "{\"cmd\":\"get\",\"id\":7}",
@@ -54,6 +54,8 @@ const LINES: [&str; 46] = [
     "{\"cmd\":\"relocate\",\"table\":\"a\",\"index\":\"line\",\"id\":10,\"before\":2}",
     "{\"cmd\":\"get\",\"table\":\"accounts\",\"id\":0}",
     "{\"cmd\":\"erase\",\"table\":\"accounts\",\"id\":12}",
+    "{\"cmd\":\"range\",\"index\":\"by_balance\",\"lower\":{\"ge\":[7]},\"limit\":10}",
+    "{\"cmd\":\"range\",\"table\":\"a_1\",\"index\":\"by_balance\",\"lower\":{\"gt\":[9223372036854775807]},\"limit\":1000}",
 ];
 
 /// What is put into a line.
