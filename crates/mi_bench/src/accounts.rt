@@ -68,10 +68,7 @@ impl Accounts {
         let row = account(alloc, owner, balance, vip).ok()?;
         self.rows.keeps_rules();
         match self.rows.insert(alloc, row, None) {
-            Ok((id, inverse)) => {
-                self.rows.settle(inverse);
-                Some(id)
-            }
+            Ok(inserted) => Some(inserted.id),
             Err(_) => None,
         }
     }

@@ -5,7 +5,7 @@ ghost use Rattle.test_container.specs.Journaled.{CanGoBack};
 
 use super::fitting::fits_edits;
 use mi_catalog::Schema;
-use mi_container::{Container, Inverse};
+use mi_container::{Container, Inverse, Undo};
 use mi_journal::Journal;
 use mi_multi::MultiIndex;
 use mi_schema::read_schema;
@@ -79,9 +79,10 @@ impl<C: Container> Journaled<C> {
         self.rows.keeps_rules();
         assert!(rt; self.fits(&row));
         match self.rows.insert(alloc, row, None) {
-            Ok((id, inverse)) => {
-                self.journal.note(0, inverse);
-                Some(id)
+            Ok(inserted) => {
+                self.journal
+                    .note(0, Inverse::new(Undo::Inserted(inserted)));
+                Some(inserted.id)
             }
             Err(_) => None,
         }

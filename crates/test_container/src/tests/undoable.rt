@@ -9,7 +9,7 @@ ghost use Rattle.test_container.specs.Undone.{CanTakeBack};
 use super::change::Answer;
 use super::fitting::{fits_edits, is_hashed, is_keyed, is_listed, is_sequenced, is_sorted};
 use mi_catalog::Schema;
-use mi_container::{Container, Inverse};
+use mi_container::{Container, Inverse, Undo};
 use mi_value::{Edit, Record, Refusal, Steps, Value};
 use std::alloc::{AllocError, Global};
 use std::collections::VecDeque;
@@ -150,9 +150,10 @@ impl<C: Container> Undoable<C> {
         assert!(rt; self.fits(&row));
         self.want_place(rt, before);
         match self.rows.insert(alloc, row, before) {
-            Ok((id, inverse)) => {
+            Ok(inserted) => {
+                let inverse = Inverse::new(Undo::Inserted(inserted));
                 self.inverses.push_back_reserved(inverse);
-                Ok(Some(id))
+                Ok(Some(inserted.id))
             }
             Err((refusal, _)) => Err(refusal),
         }
