@@ -78,14 +78,9 @@ impl<C: Container> Journaled<C> {
         assert!(rt; self.journal.depth() > 0);
         self.rows.keeps_rules();
         assert!(rt; self.fits(&row));
-        match self.rows.insert(alloc, row, None) {
-            Ok(inserted) => {
-                self.journal
-                    .note(0, Inverse::new(Undo::Inserted(inserted)));
-                Some(inserted.id)
-            }
-            Err(_) => None,
-        }
+        let inserted = self.rows.insert(alloc, row, None).ok()?;
+        self.journal.note(0, Inverse::new(Undo::Inserted(inserted)));
+        Some(inserted.id)
     }
 
     /// Changes columns of a record, without rollback, and notes the inverse. Answers whether it isn't refused.

@@ -149,14 +149,13 @@ impl<C: Container> Undoable<C> {
         self.rows.keeps_rules();
         assert!(rt; self.fits(&row));
         self.want_place(rt, before);
-        match self.rows.insert(alloc, row, before) {
-            Ok(inserted) => {
-                let inverse = Inverse::new(Undo::Inserted(inserted));
-                self.inverses.push_back_reserved(inverse);
-                Ok(Some(inserted.id))
-            }
-            Err((refusal, _)) => Err(refusal),
-        }
+        let inserted = match self.rows.insert(alloc, row, before) {
+            Ok(inserted) => inserted,
+            Err((refusal, _)) => return Err(refusal),
+        };
+        let inverse = Inverse::new(Undo::Inserted(inserted));
+        self.inverses.push_back_reserved(inverse);
+        Ok(Some(inserted.id))
     }
 
     /// Sets another record.
