@@ -67,13 +67,8 @@ impl Accounts {
         }
         let row = account(alloc, owner, balance, vip).ok()?;
         self.rows.keeps_rules();
-        match self.rows.insert(alloc, row, None) {
-            Ok((id, inverse)) => {
-                self.rows.settle(inverse);
-                Some(id)
-            }
-            Err(_) => None,
-        }
+        let inserted = self.rows.insert(alloc, row, None).ok()?;
+        Some(inserted.id)
     }
 
     /// The balance of an account.

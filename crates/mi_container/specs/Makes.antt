@@ -17,6 +17,7 @@ use Rattle.mi_model.specs.DatabaseChange.{Meets}
 use Rattle.mi_node.specs.Refs.{Ref}
 use Rattle.mi_container.specs.Data.{Data, as_table}
 use Rattle.mi_container.specs.Inverse.{Inverse, lost_to}
+use Rattle.mi_container.specs.declared.inverse.RowRef.{RowRef}
 use Rattle.mi_container.specs.Run.{Change, changed, inverse_of, Allowed}
 use Rattle.mi_container.specs.Run.Change.{Insert, Replace, Erase}
 
@@ -39,8 +40,8 @@ MakesModify (Some at) s e old i new = Makes s (Erase e (Some at)) old i new
 abbrev pub MeetsOn : {A : Type 0} → (Table → Outcome A) → Result A Refusal → Data → Data → Type 0
 MeetsOn outcome answer old new = Meets (outcome (as_table old)) answer (as_table old) (as_table new)
 
-abbrev pub insert_answer : {X : Type 0} → Result (ℕ × Inverse) (Refusal × X) → Result ℕ Refusal
-insert_answer (Ok p) = Ok p.0
+abbrev pub insert_answer : {X : Type 0} → Result RowRef (Refusal × X) → Result ℕ Refusal
+insert_answer (Ok r) = Ok r.id
 insert_answer (Err e) = Err e.0
 
 abbrev pub replace_answer : {X : Type 0} → Result Inverse (Refusal × X) → Result (Unit {0}) Refusal

@@ -4,7 +4,8 @@ use Rattle.std.proofs.lemmas.List.{map-set, length-set, get_or-map, set-set, get
 use Rattle.mi_catalog.specs.Shape.{Shape, CatalogShape, schema_at}
 use Rattle.mi_model.specs.Database.{with_table}
 use Rattle.mi_container.specs.Data.{Data, as_table, IsData}
-use Rattle.mi_container.specs.Inverse.{Inverse, taken_back, settled}
+use Rattle.mi_container.specs.Inverse.{Inverse, RowRef, taken_back, settled}
+use Rattle.mi_container.specs.Inverse.Inverse.{Inserted}
 use Rattle.mi_container.specs.Fits.{Ready, KeptBy}
 use Rattle.mi_container.proofs.FitLemmas.{ready_keeps}
 use Rattle.mi_container.specs.Run.{Change, changed}
@@ -33,6 +34,11 @@ kept_linked c ds [] n i new is l ready back data_ =
     subst (λ q. IsLinked c q []) (sym (ap (λ d. set (set ds n new) n (settled i d)) there ∙ set-set ds n new (settled i new)))
     (linked_alone c ds n i new is l ready back data_)
 kept_linked c ds (newest ∷ older) n i new is l ready back data_ = linked_noted c ds n i new newest older is l ready back data_
+
+-- to settle that a row was inserted changes nothing
+pub inserted_stays : (j : Journal) (n : ℕ) (r : RowRef) (ds : List Data) → kept_datas n (Inserted r) j ds ≡ ds
+inserted_stays [] n r ds = set-get_or ds n _
+inserted_stays (newest ∷ older) n r ds = refl
 
 kept_length : (j : Journal) (n : ℕ) (i : Inverse) (ds : List Data) → length (kept_datas n i j ds) ≡ length ds
 kept_length [] n i ds = length-set ds n _

@@ -1,7 +1,7 @@
 //! The containers and the journal. A change is made by its container, which answers the inverse; with a session open the
 //! inverse is noted, else it is settled at once. This file knows nothing of how a container keeps its rows.
 use mi_catalog::{Catalog, Schema};
-use mi_container::{Container, Inverse};
+use mi_container::{Container, Inverse, RowRef, Undo};
 use mi_inverses::Inverses;
 use std::alloc::{AllocError, Global};
 use std::marker::Model;
@@ -31,7 +31,9 @@ impl<C: Container> Model for Linked<C> {
 ghost use Rattle.std.specs.Prelude.{◌≡◌, ◌<◌, ◌≤◌, ◌+◌, [], length, map, vec_len, IfOk, OnErr};
 ghost use Rattle.mi_container.specs.Changes.{opened_data};
 ghost use Rattle.mi_container.specs.Secrets.{opened_secrets};
+ghost use Rattle.mi_container.specs.Backs.{row_seen};
 ghost use Rattle.mi_container.specs.Fits.{KeptBy};
+ghost use Rattle.mi_container.specs.Inverse.Inverse.{Inserted};
 ghost use Rattle.mi_database.specs.Journal.{data_at};
 ghost use Rattle.mi_journal.specs.Noted.{noted};
 ghost use Rattle.mi_inverses.specs.Stored.{IsWithin};
@@ -104,6 +106,19 @@ pub(crate) fn keep<C: Container>(
         containers[table].settle(inverse);
     } else {
         journal.note(table, inverse);
+    }
+}
+
+/// Notes that a container has inserted a row, where a session is open. Where none is, its inverse settles nothing and isn't laid down.
+pub(crate) fn keep_inserted(journal: &mut Inverses, table: usize, row: RowRef)
+    requires room { 0 < length journal.old.sessions → 0 < journal.old.changes }
+    ensures journal { journal.new.sessions ≡ noted (table, Inserted (row_seen row)) journal.old.sessions }
+    ensures changes { journal.old.changes ≤ journal.new.changes + 1 }
+    ensures starts { journal.new.starts ≡ journal.old.starts }
+    ensures most { journal.new.most ≡ journal.old.most }
+{
+    if journal.depth() > 0 {
+        journal.note(table, Inverse::new(Undo::Inserted(row)));
     }
 }
 

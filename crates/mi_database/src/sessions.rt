@@ -16,7 +16,7 @@ ghost use Rattle.mi_database.specs.LinkedData.{meaning, with_room, RoomFor};
 ghost use Rattle.mi_database.specs.Kept.{kept_rows, KeptAfter};
 ghost use Rattle.mi_database.specs.Keyed.{keyed};
 
-use crate::linked::{Linked, keep};
+use crate::linked::{Linked, keep, keep_inserted};
 use mi_catalog::Catalog;
 use mi_container::{Container, Inverse};
 use mi_sessions::Sessions;
@@ -70,8 +70,9 @@ impl<C: Container> Sessions for Linked<C> {
             return Err((Refusal::Memory, row));
         }
         match self.containers[table].insert(alloc, row, before) {
-            Ok((id, inverse)) => {
-                keep(&mut self.containers, &mut self.journal, table, inverse);
+            Ok(inserted) => {
+                let id = inserted.id;
+                keep_inserted(&mut self.journal, table, inserted);
                 Ok(id)
             }
             Err(refused) => Err(refused),

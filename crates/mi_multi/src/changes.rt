@@ -134,7 +134,7 @@ impl MultiIndex {
         unique_refusal(self.conflict(row, None))
     }
 
-    /// Adds a record and answers its id. It goes last in each index among its equals; in the sequenced index that `before`
+    /// Adds a record and answers its row. It goes last in each index among its equals; in the sequenced index that `before`
     /// names it stands directly before the record that `before` names.
     ///
     /// Refusals, in this order: `NoId`, `Full`, `Spent`, `Unique`, `Memory`. The refused record is handed back.
@@ -143,11 +143,11 @@ impl MultiIndex {
         alloc: Global,
         row: Record,
         before: Option<(usize, u64)>,
-    ) -> Result<(u64, Inverse), (Refusal, Record)>
+    ) -> Result<RowRef, (Refusal, Record)>
         requires row { RecordFits self.old.shape row }
         requires before { IfSome before (λ at. IsSequenced self.old.shape at.0) }
         ensures outcome { MeetsOn (insert_outcome self.old.shape before row) (insert_answer result) self.old.plain self.new.plain }
-        ensures made { IfOk result (λ p. MakesInsert self.old.shape before row self.old.plain p.1 self.new.plain) }
+        ensures made { IfOk result (λ r. MakesInsert self.old.shape before row self.old.plain (Inserted (row_seen r)) self.new.plain) }
         ensures refused { IfErr result (λ e. self.new.plain ≡ self.old.plain) }
         ensures handed_back { IfErr result (λ e. e.1 ≡ row) }
         ensures shape { self.new.shape ≡ self.old.shape }
@@ -157,10 +157,7 @@ impl MultiIndex {
             return Err((refusal, row));
         }
         match self.insert_accepted(alloc, row, before) {
-            Ok(inserted) => {
-                let id = inserted.id;
-                Ok((id, Inverse::new(Undo::Inserted(inserted))))
-            }
+            Ok(inserted) => Ok(inserted),
             Err(row) => Err((Refusal::Memory, row)),
         }
     }

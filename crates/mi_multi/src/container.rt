@@ -1,7 +1,7 @@
 //! The container as callers of its trait see it. Each call is the container's own.
 use crate::multi::MultiIndex;
 use mi_catalog::Schema;
-use mi_container::{Container, Inverse};
+use mi_container::{Container, Inverse, RowRef};
 use mi_value::{Edit, Record, Refusal, Steps, Value};
 use std::alloc::{AllocError, Global};
 
@@ -31,7 +31,7 @@ impl Container for MultiIndex {
         alloc: Global,
         row: Record,
         before: Option<(usize, u64)>,
-    ) -> Result<(u64, Inverse), (Refusal, Record)> {
+    ) -> Result<RowRef, (Refusal, Record)> {
         self.insert(alloc, row, before)
     }
 

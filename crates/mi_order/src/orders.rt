@@ -3,13 +3,13 @@
 ghost use Rattle.std.specs.Prelude.{◌≡◌};
 
 use crate::hashing::{hash_key, hash_values};
-use crate::key::{id_sought, is_whole_key};
+use crate::key::{has_same_key, id_sought, is_whole_key};
 use crate::leads::{LeadTypes, is_exact_lead, lead_probe, lead_tag};
 use crate::stored::Stored;
 use mi_catalog::{Parts, compare_rows, compare_to_row};
 use mi_chain::KeyHash;
 use mi_tree::NodeOrder;
-use mi_value::{Probe, Steps, Value, compare_key, same_key};
+use mi_value::{Probe, Steps, Value, compare_key};
 use std::cmp::Ordering;
 
 /// The order of an ordered or ranked index, and its tags: `types` are those of the first parts' columns.
@@ -141,13 +141,13 @@ impl KeyHash<Stored> for ByHash {
     }
 
     fn same(&self, left: &Stored, right: &Stored) -> bool {
-        same_key(&left.row, &right.row, self.parts.as_slice())
+        has_same_key(&left.row, &right.row, self.parts.as_slice())
     }
 
     fn same_key(&self, value: &Stored, key: Probe<'_>) -> bool {
         match key {
             Probe::Key(values) => is_whole_key(self.parts.as_slice(), values, &value.row),
-            Probe::Of(record) => same_key(&value.row, record, self.parts.as_slice()),
+            Probe::Of(record) => has_same_key(&value.row, record, self.parts.as_slice()),
         }
     }
 

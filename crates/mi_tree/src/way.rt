@@ -214,8 +214,8 @@ pub(crate) fn climb<T>(
 
 /// Puts a node of the way, which was as high as `before` says, over its two sides again, of which `below`, which is so high, is
 /// another tree than before. The node's size is right. Where `below` is one level lower than the node, the two are balanced and the
-/// node's height is right: the other side isn't read. Where they are balanced, the height is all that is to be said anew. The root
-/// of what they give, and how high it is.
+/// node's height is right: the other side isn't read. Where they are balanced, the height is all that is to be said anew; that
+/// `below` is one level higher, as on most of an insert's way back, is asked first. The root of what they give, and how high it is.
 fn rejoin<T>(
     p: &mut Pool<T>,
     slot: usize,
@@ -238,6 +238,11 @@ fn rejoin<T>(
         return (turn.node, before);
     }
     let beside = height(p, slot, p.neighbour(turn.node, slot, !turn.left));
+    if beside + 1 == high {
+        let grown = high + 1;
+        set_side(p, slot, turn.node, turn.left, below, grown);
+        return (turn.node, grown);
+    }
     if high.abs_diff(beside) <= 1 {
         let now = high.max(beside) + 1;
         set_side(p, slot, turn.node, turn.left, below, now);

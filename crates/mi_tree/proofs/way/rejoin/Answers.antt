@@ -1,5 +1,5 @@
 -- A side that is one level lower than its node needs no balance; sides of nearly one height need another height alone; else the two sides are balanced.
-use Rattle.std.proofs.Common.{◌≡◌, ◌+◌, ◌-◌, ◌≤◌, Some, cond, not, refl, sym, ap, ◌∙◌, subst, arith}
+use Rattle.std.proofs.Common.{◌≡◌, max, ◌+◌, ◌-◌, ◌≤◌, Some, cond, not, refl, sym, ap, ◌∙◌, subst, arith}
 use Rattle.mi_node.specs.Cells.{sided}
 use Rattle.mi_node.specs.Pool.{IsHeldIf, link_of}
 use Rattle.mi_tree.specs.BinaryTree.{BinaryTree, Fork, height, height_at, DifferByAtMost}
@@ -61,6 +61,33 @@ returns-then-high-before-clause-height g c =
 pub height-beside-requires-clause-held : goal.height-beside-requires-clause-held
 height-beside-requires-clause-held g c =
     let w = c.requires.sides in subst (IsHeldIf c.args.p.now) (sym c.neighbour.ensures) (other_held w.2)
+
+pub overflow_add-beside : goal.overflow_add-beside
+overflow_add-beside g c =
+    let h = tall g (goal.at.overflow_add-beside g c).After-height-beside c.requires.sides.2 in let low = h.low in omega arith
+
+pub set_side-requires-then-beside-high-clause-parts : goal.set_side-requires-then-beside-high-clause-parts
+set_side-requires-then-beside-high-clause-parts g c =
+    let w = c.requires.sides in let h = tall g (goal.at.set_side-requires-then-beside-high-clause-parts g c).After-height-beside w.2 in
+    let is : c.args.high + 1 ≡ max (height w.0) (height w.1) + 1 = omega (arith, h.top_is, c.if-beside-high.true) in
+    (w.0, w.1, rejoined_fork (c.args.high + 1) w.2 refl refl is)
+
+pub returns-then-beside-high-clause-tree : goal.returns-then-beside-high-clause-tree
+returns-then-beside-high-clause-tree g c l q r =
+    let h = tall g (goal.at.returns-then-beside-high-clause-tree g c).After-height-beside r in
+    let is : c.args.high + 1 ≡ max (height l) (height q) + 1 = omega (arith, h.top_is, c.if-beside-high.true) in
+    let fork = rejoined_fork (c.args.high + 1) r refl refl is in
+    let near : DifferByAtMost 1 c.args.high c.height-beside.result = (omega (arith, c.if-beside-high.true), omega (arith, c.if-beside-high.true)) in
+    let set = c.set_side-then-beside-high.ensures in
+    plains r.sides (h.near near) (set.tree l q fork) set.keeps set.tags
+
+pub returns-then-beside-high-clause-height : goal.returns-then-beside-high-clause-height
+returns-then-beside-high-clause-height g c =
+    let w = c.requires.sides in let h = tall g (goal.at.returns-then-beside-high-clause-height g c).After-height-beside w.2 in
+    let is : c.args.high + 1 ≡ max (height w.0) (height w.1) + 1 = omega (arith, h.top_is, c.if-beside-high.true) in
+    let set = c.set_side-then-beside-high in
+    is ∙ sym (height-root set.new.p c.args.slot (Some c.args.turn.node) (Fork w.0 c.args.turn.node w.1)
+    (set.ensures.tree w.0 w.1 (rejoined_fork (c.args.high + 1) w.2 refl refl is)))
 
 pub overflow_add-now : goal.overflow_add-now
 overflow_add-now g c =

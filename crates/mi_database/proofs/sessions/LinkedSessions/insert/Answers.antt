@@ -1,12 +1,14 @@
 -- What the container answers and leaves, the database does.
-use Rattle.std.proofs.Common.{◌∙◌, ap, map, set, sym, subst}
+use Rattle.std.proofs.Common.{◌∙◌, map, set, refl, sym, subst}
 use Rattle.std.specs.Prelude.{Ok, Err}
 use Rattle.mi_model.specs.Verdict.{insert_outcome}
 use Rattle.mi_model.specs.Run.Command.{Insert as TheCommand}
-use Rattle.mi_container.specs.Inverse.{keeps}
+use Rattle.mi_container.specs.Backs.{row_seen}
+use Rattle.mi_container.specs.Inverse.Inverse.{Inserted}
 use Rattle.mi_container.specs.Run.Change.{Insert}
 use Rattle.mi_database.specs.Kept.{kept_rows}
 use Rattle.mi_database.proofs.KeptLemmas.{none_more}
+use Rattle.mi_database.proofs.LinkedDataLemmas.{inserted_stays}
 use Rattle.mi_database.specs.Most.{AllHaveAtMost}
 use Rattle.mi_database.proofs.ChangeLemmas.{SpotIn, spot, spot_within, spot_held, spot_outcome, spot_plain, spot_stays, spot_refused, spot_unkept}
 use Rattle.mi_database.proofs.sessions.LinkedSessions.insert.Given.{Over}
@@ -18,27 +20,26 @@ module _ (g : Over) (c : After-insert g) where
   at : SpotIn g.C.Container.shape g.C.Container.plain c.self.inside c.args.table c.index_mut.result.now c.insert.new.self c.args.self.now
   at = spot _ _ c.self.invariant.0 (c.self.view_is ∙ c.make_room.ensures.same) c.requires.table c.index_mut.ensures.value c.insert.ensures.shape
 
-pub keep-requires-clause-within : goal.keep-requires-clause-within
-keep-requires-clause-within g c = spot_within (at g (goal.at.keep-requires-clause-within g c).After-insert)
-    (Insert c.args.before c.in-Ok.ensures.made.0 c.args.row) c.self.invariant.1 c.in-Ok.ensures.made.1
-
 pub invariant_of-self : goal.invariant_of-self
-invariant_of-self g c = (
-  spot_held (at g (goal.at.invariant_of-self g c).After-insert)
-      (Insert c.args.before c.in-Ok.ensures.made.0 c.args.row) c.in-Ok.ensures.made.1
-      c.keep.new.containers.items c.keep.ensures.datas c.keep.ensures.shapes c.keep.ensures.journal,
-  subst (λ m. AllHaveAtMost m c.self.inside.catalog) (sym c.keep.ensures.most) c.self.invariant.1,
-)
+invariant_of-self g c =
+    let cs = set c.self.inside.containers.items c.args.table c.insert.new.self in (
+      spot_held (at g (goal.at.invariant_of-self g c).After-insert)
+          (Insert c.args.before c.in-Ok.ensures.made.0 c.args.row) c.in-Ok.ensures.made.1
+          cs (sym (inserted_stays c.self.inside.journal.sessions c.args.table (row_seen c.in-Ok.inserted) (map g.C.Container.plain cs))) refl c.keep_inserted.ensures.journal,
+      subst (λ m. AllHaveAtMost m c.self.inside.catalog) (sym c.keep_inserted.ensures.most) c.self.invariant.1,
+    )
 
 pub invariant_of-self-in-Err : goal.invariant_of-self-in-Err
 invariant_of-self-in-Err g c =
     (spot_stays (at g (goal.at.invariant_of-self-in-Err g c).After-insert) c.in-Err.ensures.refused, c.self.invariant.1)
 
 pub returns-in-Ok-clause-outcome : goal.returns-in-Ok-clause-outcome
-returns-in-Ok-clause-outcome g c = spot_outcome (at g (goal.at.returns-in-Ok-clause-outcome g c).After-insert)
+returns-in-Ok-clause-outcome g c =
+    let cs = set c.self.inside.containers.items c.args.table c.insert.new.self in
+    spot_outcome (at g (goal.at.returns-in-Ok-clause-outcome g c).After-insert)
     (Insert c.args.before c.in-Ok.ensures.made.0 c.args.row) c.in-Ok.ensures.made.1
-    c.keep.new.containers.items c.keep.ensures.datas c.keep.ensures.shapes c.keep.ensures.journal
-    (λ s. insert_outcome s c.args.before c.args.row) (Ok c.in-Ok.id) c.in-Ok.ensures.outcome
+    cs (sym (inserted_stays c.self.inside.journal.sessions c.args.table (row_seen c.in-Ok.inserted) (map g.C.Container.plain cs))) refl c.keep_inserted.ensures.journal
+    (λ s. insert_outcome s c.args.before c.args.row) (Ok c.in-Ok.inserted.id) c.in-Ok.ensures.outcome
 
 pub returns-in-Err-clause-outcome : goal.returns-in-Err-clause-outcome
 returns-in-Err-clause-outcome g c = spot_refused (at g (goal.at.returns-in-Err-clause-outcome g c).After-insert)
@@ -46,7 +47,7 @@ returns-in-Err-clause-outcome g c = spot_refused (at g (goal.at.returns-in-Err-c
 
 pub returns-in-Ok-clause-footprint : goal.returns-in-Ok-clause-footprint
 returns-in-Ok-clause-footprint g c = spot_plain (at g (goal.at.returns-in-Ok-clause-footprint g c).After-insert)
-    c.in-Ok.inverse c.keep.ensures.journal (ap keeps c.in-Ok.ensures.made.1.inverse)
+    (Inserted (row_seen c.in-Ok.inserted)) c.keep_inserted.ensures.journal refl
 
 pub returns-in-Err-clause-footprint : goal.returns-in-Err-clause-footprint
 returns-in-Err-clause-footprint g c = spot_unkept (at g (goal.at.returns-in-Err-clause-footprint g c).After-insert)

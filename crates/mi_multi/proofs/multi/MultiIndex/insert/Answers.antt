@@ -1,7 +1,6 @@
 -- The first refusal that applies is answered; else the record comes in.
-use Rattle.std.proofs.Common.{ap, sym, ◌∙◌, subst}
+use Rattle.std.proofs.Common.{ap, sym, ◌∙◌}
 use Rattle.mi_container.specs.Data.{as_table}
-use Rattle.mi_container.specs.Makes.{MakesInsert}
 use Rattle.mi_container.specs.Run.Change.{Insert}
 use Rattle.mi_container.proofs.LawLemmas.{change_is_tables}
 use Rattle.mi_multi.proofs.AcceptLemmas.{insert_refused, insert_meets}
@@ -22,8 +21,3 @@ returns-in-Ok-clause-outcome c =
     ∙ (change_is_tables now.shape (Insert c.args.before made.0 c.args.row) now.plain c.keeps_rules.ensures made.1.allowed).1 in
     insert_meets now.shape c.args.before c.args.row (as_table now.plain) c.in-Ok.inserted.id
     (as_table c.insert_accepted.new.self.plain) (sym c.insert_refusal.ensures ∙ c.in_default.is) c.in-Ok.ensures.id table
-
-pub returns-in-Ok-clause-made : goal.returns-in-Ok-clause-made
-returns-in-Ok-clause-made c =
-    let now = c.args.self.now in
-    subst (λ i. MakesInsert now.shape c.args.before c.args.row now.plain i c.insert_accepted.new.self.plain) (sym c.new.ensures) c.in-Ok.ensures.made
