@@ -40,7 +40,7 @@ impl<D: Sessions + Drop> Model for Executor<D> {
 
 impl<D: Sessions + Drop> Executor<D> {
     ghost use Rattle.mi_commands.specs.Holder.{released};
-    ghost use Rattle.mi_commands.specs.Performed.{performed};
+    ghost use Rattle.mi_commands.specs.Performed.{performed, brings_record};
     ghost use Rattle.mi_commands.specs.Answer.{command_of, done_without, TakesNone, GivenOrMemory, MayGive};
     ghost use Rattle.mi_commands.specs.Asked.{text, asked_of};
 
@@ -90,10 +90,10 @@ impl<D: Sessions + Drop> Executor<D> {
     pub fn answer(&mut self, conn: u64, line: Line<'_>) -> ReplyText
         ensures { MayGive conn self.old (asked_of line.entry) (text_bytes result) self.new }
     {
-        match line {
-            Line::TooLong => self.refuse(Refusal::Line),
-            Line::Text(text) => self.answer_text(conn, text),
-        }
+        let Line::Text(text) = line else {
+            return self.refuse(Refusal::Line);
+        };
+        self.answer_text(conn, text)
     }
 
     /// Does a command that fits the catalog. The session commands other than a start, `revision`, `size` and `rank` take no memory.
@@ -104,32 +104,46 @@ impl<D: Sessions + Drop> Executor<D> {
         match command {
             Command::Insert { table, row, before } => self.insert(table, row, before),
             Command::Replace { table, id, row } => self.replace(table, id, row),
+            lent => self.perform_lent(conn, &lent),
+        }
+    }
+
+    /// Does a command that fits the catalog and brings no record.
+    fn perform_lent(&mut self, conn: u64, command: &Command) -> ReplyText
+        requires fits { FitsCatalog self.old.database.catalog command.now }
+        requires lent { brings_record command.now ≡ false }
+        ensures { GivenOrMemory (done_without command.now ≡ false) (performed self.old conn command.now) self.old (text_bytes result) self.new }
+    {
+        match command {
+            Command::Insert { .. } | Command::Replace { .. } => unreachable!(),
             Command::Modify {
                 table,
                 id,
                 edits,
                 rollback,
-            } => self.modify(table, id, edits.as_slice(), rollback),
-            Command::Erase { table, id } => self.erase(table, id),
-            Command::EraseKey { table, index, key } => self.erase_key(table, index, key.values()),
+            } => self.modify(*table, *id, edits.as_slice(), *rollback),
+            Command::Erase { table, id } => self.erase(*table, *id),
+            Command::EraseKey { table, index, key } => {
+                self.erase_key(*table, *index, key.values())
+            }
             Command::Relocate {
                 table,
                 index,
                 id,
                 before,
-            } => self.relocate(table, index, id, before),
+            } => self.relocate(*table, *index, *id, *before),
             Command::Start => self.start(conn),
             Command::Undo => self.undo(),
             Command::Squash => self.squash(),
-            Command::Commit { revision } => self.commit(revision),
+            Command::Commit { revision } => self.commit(*revision),
             Command::UndoAll => self.undo_all(),
             Command::Push => self.push(conn),
-            Command::Reserve { changes, sessions } => self.reserve(changes, sessions),
+            Command::Reserve { changes, sessions } => self.reserve(*changes, *sessions),
             Command::Revision => self.status(conn),
-            Command::Get { table, id } => self.get(table, id),
-            Command::Find { table, index, key } => self.find(table, index, key.values()),
-            Command::Nth { table, index, n } => self.nth(table, index, n),
-            Command::Count { table, index, key } => self.count(table, index, key.values()),
+            Command::Get { table, id } => self.get(*table, *id),
+            Command::Find { table, index, key } => self.find(*table, *index, key.values()),
+            Command::Nth { table, index, n } => self.nth(*table, *index, *n),
+            Command::Count { table, index, key } => self.count(*table, *index, key.values()),
             Command::Range {
                 table,
                 index,
@@ -137,17 +151,21 @@ impl<D: Sessions + Drop> Executor<D> {
                 upper,
                 reverse,
                 limit,
-            } => self.range(table, index, &lower, &upper, reverse, limit),
+            } => self.range(*table, *index, lower, upper, *reverse, *limit),
             Command::List {
                 table,
                 index,
                 after,
                 limit,
-            } => self.list(table, index, after, limit),
-            Command::Rank { table, index, id } => self.rank(table, index, id),
-            Command::LowerRank { table, index, key } => self.lower_rank(table, index, key.values()),
-            Command::UpperRank { table, index, key } => self.upper_rank(table, index, key.values()),
-            Command::Size { table } => self.size(table),
+            } => self.list(*table, *index, *after, *limit),
+            Command::Rank { table, index, id } => self.rank(*table, *index, *id),
+            Command::LowerRank { table, index, key } => {
+                self.lower_rank(*table, *index, key.values())
+            }
+            Command::UpperRank { table, index, key } => {
+                self.upper_rank(*table, *index, key.values())
+            }
+            Command::Size { table } => self.size(*table),
         }
     }
 
@@ -170,10 +188,11 @@ impl<D: Sessions + Drop> Executor<D> {
     fn answer_text(&mut self, conn: u64, bytes: &[u8]) -> ReplyText
         ensures { MayGive conn self.old (text bytes.now) (text_bytes result) self.new }
     {
-        match self.read(conn, bytes) {
-            Ok(command) => self.perform(conn, command),
-            Err(refusal) => self.refuse(refusal),
-        }
+        let command = match self.read(conn, bytes) {
+            Ok(command) => command,
+            Err(refusal) => return self.refuse(refusal),
+        };
+        self.perform(conn, command)
     }
 
     /// The text of a refusal that names no index. It takes no memory.
@@ -190,7 +209,7 @@ impl<D: Sessions + Drop> Executor<D> {
         requires short { is_short (said reply) ≡ true }
         ensures { text_bytes result ≡ reply_text self.now.database.catalog (said reply.entry) }
     {
-        reply.text(self.alloc, self.database.catalog()).unwrap()
+        reply.short_text(self.database.catalog())
     }
 }
 

@@ -6,7 +6,7 @@ use Rattle.std.proofs.lemmas.List.{length-take}
 use Rattle.mi_value.specs.declared.limits.TheConstants.{PIECE}
 use Rattle.mi_hub.specs.Run.{HubState, piece, close, cut, Done, Unsent, DoneToFault}
 use Rattle.mi_hub.specs.Watching.{watched, has_failed, Reads}
-use Rattle.mi_hub.specs.Turn.{Turn, fed, ended, unread, unanswered, unended, conn_of, outcome, given_in, Made, Gave}
+use Rattle.mi_hub.specs.ConnectionTurn.{ConnectionTurn, fed, ended, unread, unanswered, unended, conn_of, outcome, given_in, Made, Gave}
 use Rattle.mi_hub.specs.declared.fault.ServeFault.{ServeFault}
 use Rattle.mi_hub.specs.declared.fault.ServeFault.TheVariants.{Read, Write}
 use Rattle.mi_hub.specs.declared.watched.Watched.{Watched}
@@ -53,7 +53,7 @@ module _ {T : Type 0} (remaining : T → Option (List ℕ)) (before later : Watc
 
   module _ (conn : ℕ) (old new : HubState) (out : List ℕ) where
     -- the connection is open still
-    pub was_fed : (turn : Turn) → conn_of turn ≡ conn → Ok true ≡ outcome turn → Gave remaining before later (given_in turn) → Made old turn out new
+    pub was_fed : (turn : ConnectionTurn) → conn_of turn ≡ conn → Ok true ≡ outcome turn → Gave remaining before later (given_in turn) → Made old turn out new
         → (bytes : List ℕ) × (1 ≤ length bytes) × Reads remaining before later bytes × Done old (piece conn bytes) out new
     was_fed (fed k bytes) is answer gave made = (bytes, made.1.0, gave_bytes bytes gave, subst (λ n. Done old (piece n bytes) out new) is made.0)
     was_fed (ended k) is answer gave made = absurd (open_isnt_ended answer)
@@ -62,7 +62,7 @@ module _ {T : Type 0} (remaining : T → Option (List ℕ)) (before later : Watc
     was_fed (unended k) is answer gave made = absurd (ok_isnt_err true Write answer)
 
     -- its bytes have ended
-    pub was_ended : (turn : Turn) → conn_of turn ≡ conn → Ok false ≡ outcome turn → Gave remaining before later (given_in turn) → Made old turn out new
+    pub was_ended : (turn : ConnectionTurn) → conn_of turn ≡ conn → Ok false ≡ outcome turn → Gave remaining before later (given_in turn) → Made old turn out new
         → Reads remaining before later [] × IsAtEnd (remaining (watched later)) × Done old (close conn) out new
     was_ended (fed k bytes) is answer gave made = absurd (open_isnt_ended (sym answer))
     was_ended (ended k) is answer gave made = (gave.0, gave.1, subst (λ n. Done old (close n) out new) is made)
@@ -71,7 +71,7 @@ module _ {T : Type 0} (remaining : T → Option (List ℕ)) (before later : Watc
     was_ended (unended k) is answer gave made = absurd (ok_isnt_err false Write answer)
 
     -- its read failed
-    pub was_unread : (turn : Turn) → conn_of turn ≡ conn → Err Read ≡ outcome turn → Gave remaining before later (given_in turn) → Made old turn out new
+    pub was_unread : (turn : ConnectionTurn) → conn_of turn ≡ conn → Err Read ≡ outcome turn → Gave remaining before later (given_in turn) → Made old turn out new
         → Reads remaining before later [] × (has_failed later ≡ true) × (out ≡ []) × Done old (cut conn) [] new
     was_unread (fed k bytes) is answer gave made = absurd (ok_isnt_err true Read (sym answer))
     was_unread (ended k) is answer gave made = absurd (ok_isnt_err false Read (sym answer))
@@ -80,7 +80,7 @@ module _ {T : Type 0} (remaining : T → Option (List ℕ)) (before later : Watc
     was_unread (unended k) is answer gave made = absurd (read_isnt_write answer)
 
     -- its replies don't go out
-    pub was_unsent : (turn : Turn) → conn_of turn ≡ conn → Err Write ≡ outcome turn → Gave remaining before later (given_in turn) → Made old turn out new
+    pub was_unsent : (turn : ConnectionTurn) → conn_of turn ≡ conn → Err Write ≡ outcome turn → Gave remaining before later (given_in turn) → Made old turn out new
         → (bytes : List ℕ) × (length bytes ≤ PIECE) × Reads remaining before later bytes
         × (Unsent old (piece conn bytes) out new ⊎ (IsAtEnd (remaining (watched later)) × (bytes ≡ []) × Unsent old (close conn) out new))
     was_unsent (fed k bytes) is answer gave made = absurd (ok_isnt_err true Write (sym answer))

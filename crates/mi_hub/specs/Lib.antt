@@ -6,7 +6,7 @@ pub mod Connections
 pub mod Run
 pub mod Drive
 pub mod Watching
-pub mod Turn
+pub mod ConnectionTurn
 pub mod IoNotes
 pub mod LineLaws
 pub mod RunLaws

@@ -42,13 +42,15 @@ fn send_line<W: Write>(bytes: &[u8], writer: &mut Watched<W>) -> Result<(), Writ
 }
 
 /// A short reply and its newline go out in one write.
-fn send_short<W: Write>(bytes: ArrayVec<u8, 128>, writer: &mut Watched<W>) -> Result<(), WriteFault>
-    ensures ok { OnOk result (Writes W.contents writer.old writer.new (with_newline bytes.items)) }
+fn send_short<W: Write>(
+    bytes: &mut ArrayVec<u8, 128>,
+    writer: &mut Watched<W>,
+) -> Result<(), WriteFault>
+    ensures ok { OnOk result (Writes W.contents writer.old writer.new (with_newline bytes.old.items)) }
     ensures sound { OnOk result (has_failed writer.new ≡ has_failed writer.old) }
-    ensures err { OnErr result (WritesFront W.contents writer.old writer.new (with_newline bytes.items)) }
+    ensures err { OnErr result (WritesFront W.contents writer.old writer.new (with_newline bytes.old.items)) }
     ensures failed { OnErr result (has_failed writer.new ≡ true) }
 {
-    let mut bytes = bytes;
     if bytes.is_full() {
         return send_line(bytes.as_slice(), writer);
     }
@@ -63,7 +65,8 @@ pub fn send_reply<W: Write>(text: ReplyText, writer: &mut Watched<W>) -> Result<
     ensures err { OnErr result (WritesFront W.contents writer.old writer.new (with_newline (text_bytes text))) }
     ensures failed { OnErr result (has_failed writer.new ≡ true) }
 {
-    match text {
+    let mut text = text;
+    match &mut text {
         ReplyText::Short(bytes) => send_short(bytes, writer),
         ReplyText::Long(bytes) => send_line(bytes.as_slice(), writer),
     }

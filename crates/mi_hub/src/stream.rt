@@ -4,7 +4,7 @@ ghost use Rattle.std.specs.Io.KnownBytes.{IsAtEnd};
 ghost use Rattle.mi_value.specs.declared.limits.TheConstants.{PIECE as piece_size};
 ghost use Rattle.mi_hub.specs.Connections.{rest_at};
 ghost use Rattle.mi_hub.specs.Run.{piece, close, cut, Done, AllDone, Unsent, DoneToFault};
-ghost use Rattle.mi_hub.specs.Turn.{Turn, conn_of, outcome, given_in, Gave, Made};
+ghost use Rattle.mi_hub.specs.ConnectionTurn.{ConnectionTurn, conn_of, outcome, given_in, Gave, Made};
 ghost use Rattle.mi_hub.specs.Watching.{watched, has_failed, is_flushed, Reads, Writes};
 
 use crate::fault::ServeFault;
@@ -25,7 +25,7 @@ fn read_turn<D: Sessions + Drop, R: Read, W: Write>(
 ) -> Result<bool, ServeFault>
     requires attached { IsSome (rest_at conn hub.old.attached) }
     requires room { length buffer.old ≡ piece_size }
-    ensures turn { (turn : Turn) × (out : List ℕ) × (conn_of turn ≡ conn) × (result ≡ outcome turn)
+    ensures turn { (turn : ConnectionTurn) × (out : List ℕ) × (conn_of turn ≡ conn) × (result ≡ outcome turn)
         × Gave R.remaining reader.old reader.new (given_in turn) × Writes W.contents writer.old writer.new out × Made hub.old turn out hub.new }
     ensures sound { OnOk result ((has_failed reader.new ≡ has_failed reader.old) × (has_failed writer.new ≡ has_failed writer.old)) }
     ensures flushed { OnOk result (is_flushed writer.new ≡ true) }

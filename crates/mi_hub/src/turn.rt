@@ -3,7 +3,7 @@
 ghost use Rattle.std.specs.Prelude.{◌≡◌, ◌↔◌, ◌⊎◌, ◌≤◌, ℕ, List, [], Err, None, Some, IsSome, IfSome, OnOk, OnErr, length, option_map, true};
 ghost use Rattle.mi_value.specs.declared.limits.TheConstants.{PIECE};
 ghost use Rattle.mi_hub.specs.Connections.{rest_at};
-ghost use Rattle.mi_hub.specs.Turn.{Turn, conn_of, outcome, given_in, IsPiece, Made};
+ghost use Rattle.mi_hub.specs.ConnectionTurn.{ConnectionTurn, conn_of, outcome, given_in, IsPiece, Made};
 ghost use Rattle.mi_hub.specs.Watching.{has_failed, is_flushed, Writes};
 
 use crate::fault::ServeFault;
@@ -21,7 +21,7 @@ fn feed_piece<D: Sessions + Drop, W: Write>(
 ) -> Result<bool, ServeFault>
     requires attached { IsSome (rest_at conn hub.old.attached) }
     requires piece { IsPiece bytes.now }
-    ensures turn { (turn : Turn) × (out : List ℕ) × (conn_of turn ≡ conn) × (given_in turn ≡ Some bytes.now) × (result ≡ outcome turn)
+    ensures turn { (turn : ConnectionTurn) × (out : List ℕ) × (conn_of turn ≡ conn) × (given_in turn ≡ Some bytes.now) × (result ≡ outcome turn)
         × Writes W.contents writer.old writer.new out × Made hub.old turn out hub.new }
     ensures sound { OnOk result (has_failed writer.new ≡ has_failed writer.old) }
     ensures flushed { OnOk result (is_flushed writer.new ≡ true) }
@@ -47,7 +47,7 @@ fn close_at_end<D: Sessions + Drop, W: Write>(
     writer: &mut Watched<W>,
 ) -> Result<bool, ServeFault>
     requires { IsSome (rest_at conn hub.old.attached) }
-    ensures turn { (turn : Turn) × (out : List ℕ) × (conn_of turn ≡ conn) × (given_in turn ≡ Some []) × (result ≡ outcome turn)
+    ensures turn { (turn : ConnectionTurn) × (out : List ℕ) × (conn_of turn ≡ conn) × (given_in turn ≡ Some []) × (result ≡ outcome turn)
         × Writes W.contents writer.old writer.new out × Made hub.old turn out hub.new }
     ensures sound { OnOk result (has_failed writer.new ≡ has_failed writer.old) }
     ensures flushed { OnOk result (is_flushed writer.new ≡ true) }
@@ -80,7 +80,7 @@ pub fn take_turn<D: Sessions + Drop, W: Write>(
 ) -> Result<bool, ServeFault>
     requires attached { IsSome (rest_at conn hub.old.attached) }
     requires piece { IfSome read (λ bytes. length bytes.now ≤ PIECE) }
-    ensures turn { (turn : Turn) × (out : List ℕ) × (conn_of turn ≡ conn)
+    ensures turn { (turn : ConnectionTurn) × (out : List ℕ) × (conn_of turn ≡ conn)
         × (given_in turn ≡ option_map (λ bytes. bytes.now) read.entry) × (result ≡ outcome turn)
         × Writes W.contents writer.old writer.new out × Made hub.old turn out hub.new }
     ensures sound { OnOk result (has_failed writer.new ≡ has_failed writer.old) }

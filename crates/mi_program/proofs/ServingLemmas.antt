@@ -4,7 +4,7 @@ use Rattle.std.specs.Prelude.{⊤, ◌≢◌, OnOk}
 use Rattle.mi_value.specs.declared.limits.TheConstants.{MAX_READS}
 use Rattle.mi_model.specs.Database.{Database}
 use Rattle.mi_hub.specs.Run.{HubState, attach, with_connection, Done}
-use Rattle.mi_hub.specs.Turn.{Turn}
+use Rattle.mi_hub.specs.ConnectionTurn.{ConnectionTurn}
 use Rattle.mi_hub.specs.declared.watched.Watched.{Watched}
 use Rattle.mi_hub.specs.declared.fault.ServeFault.{ServeFault}
 use Rattle.mi_hub.specs.declared.fault.ServeFault.TheVariants as serving
@@ -67,18 +67,18 @@ serves_input remaining contents database r s w x (Err Turns) ok read turns write
 
 -- what comes of connections, by what serving them answers
 module _ {S : Type 0} (remaining contents : S → Option (List ℕ)) (database : Database) (clients : ℕ) (old new : HubState) (is : old ≡ empty_hub database) where
-  turned_by : (answer : Result ⊤ ServeFault) (Noted : List Turn → Type 0)
-      → (row : List (Client S)) × (turns : List Turn) × HaveCome clients row
+  turned_by : (answer : Result ⊤ ServeFault) (Noted : List ConnectionTurn → Type 0)
+      → (row : List (Client S)) × (turns : List ConnectionTurn) × HaveCome clients row
       × ByTurns remaining contents row (with_clients clients old) turns [] new × (answer ≡ first_fault turns) × Noted turns
       → AllTakeTurns remaining contents database clients answer
   turned_by answer Noted p =
       (p.0, p.1, new, p.2, subst (λ (s : HubState). ByTurns remaining contents p.0 (with_clients clients s) p.1 [] new) is p.3, p.4)
 
-  pub serves_clients : (answer : Result ⊤ ServeFault) (Noted : List Turn → Type 0)
+  pub serves_clients : (answer : Result ⊤ ServeFault) (Noted : List ConnectionTurn → Type 0)
       → (answer ≢ Err serving.Accept → answer ≢ Err serving.Memory → answer ≢ Err serving.Turns
-      → (row : List (Client S)) × (turns : List Turn) × HaveCome clients row
+      → (row : List (Client S)) × (turns : List ConnectionTurn) × HaveCome clients row
       × ByTurns remaining contents row (with_clients clients old) turns [] new × (answer ≡ first_fault turns) × Noted turns)
-      → (answer ≡ Err serving.Turns → (row : List (Client S)) × (turns : List Turn) × (left : List (Client S)) × (mid : HubState) × HaveCome clients row
+      → (answer ≡ Err serving.Turns → (row : List (Client S)) × (turns : List ConnectionTurn) × (left : List (Client S)) × (mid : HubState) × HaveCome clients row
       × ByTurns remaining contents row (with_clients clients old) turns left mid × (length turns ≡ MAX_READS) × Noted turns)
       → ServesClients remaining contents database clients (served_answer answer)
   serves_clients (Ok tt) Noted served turns = turned_by (Ok tt) Noted (served ok_accept ok_memory ok_turns)

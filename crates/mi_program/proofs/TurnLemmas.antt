@@ -4,7 +4,7 @@ use Rattle.std.proofs.Common.{Option, Some, None, IsSome, is_some, Result, Ok, E
 use Rattle.std.specs.Prelude.{⊤, ◌||◌, OnOk, OnErr}
 use Rattle.mi_hub.specs.Watching.{has_failed, Writes}
 use Rattle.mi_hub.specs.declared.watched.Watched.{Watched}
-use Rattle.mi_hub.specs.Turn.{Gave}
+use Rattle.mi_hub.specs.ConnectionTurn.{Gave}
 use Rattle.mi_program.specs.Buffer.{contents_of, remaining_of}
 use Rattle.mi_program.specs.declared.buffered.Buffered.{Buffered}
 use Rattle.mi_hub.specs.IoNotes.{reads_fail, writes_fail, with_read, with_write}
@@ -21,7 +21,7 @@ use Rattle.mi_hub.specs.declared.fault.ServeFault.{ServeFault}
 use Rattle.mi_hub.specs.declared.fault.ServeFault.TheVariants.{Read, Turns, Accept, Memory, Write as ServeWrite}
 use Rattle.mi_hub.proofs.ConnectionLemmas.{some_with_rest}
 use Rattle.mi_hub.proofs.PieceLemmas.{unsent_piece_gone, unsent_close_gone, same_err}
-use Rattle.mi_hub.specs.Turn.{Turn, fed, ended, unread, unanswered, unended, conn_of, outcome, given_in, Made}
+use Rattle.mi_hub.specs.ConnectionTurn.{ConnectionTurn, fed, ended, unread, unanswered, unended, conn_of, outcome, given_in, Made}
 use Rattle.mi_program.specs.Turns.{fresh, with_clients, TakesTurn, ByTurns, row_after, turn_fault, first_fault, with_turn}
 use Rattle.mi_program.specs.Turns.{all_noted, client_ids, AllSound, AllAttached, IsNoneOf, AllDiffer, Serves}
 use Rattle.mi_program.specs.declared.listener.Client.{Client}
@@ -173,7 +173,7 @@ some_come (c ∷ row) n is some = omega arith
 -- ---- turns
 
 -- the numbers of the row that a turn leaves
-abbrev ids_after : Turn → List ℕ → List ℕ
+abbrev ids_after : ConnectionTurn → List ℕ → List ℕ
 ids_after (fed conn bytes) ids = ids ++ conn ∷ []
 ids_after (ended conn) ids = ids
 ids_after (unread conn) ids = ids
@@ -192,7 +192,7 @@ serves_gone conn row cs ds p is = subst (Serves row) (sym is) (record {
     less a b n h k = omega arith
 
 -- the row and the hub after a turn of its first
-serves_after : (turn : Turn) (row out : List ℕ) (old new : HubState)
+serves_after : (turn : ConnectionTurn) (row out : List ℕ) (old new : HubState)
     → Serves (conn_of turn ∷ row) old.attached → Made old turn out new → Serves (ids_after turn row) new.attached
 serves_after (fed conn bytes) row out old new p made = subst (Serves (row ++ conn ∷ [])) (sym made.0.3) (record {
   there = all_same (row ++ conn ∷ []) old.attached (with_rest conn _ old.attached)
@@ -221,7 +221,7 @@ and_ok : (a : Result ⊤ ServeFault) → result_and a (Ok tt) ≡ a
 and_ok (Ok tt) = refl
 and_ok (Err e) = refl
 
-pub fault_more : (turns : List Turn) (turn : Turn) → first_fault (turns ++ turn ∷ []) ≡ result_and (first_fault turns) (turn_fault (outcome turn))
+pub fault_more : (turns : List ConnectionTurn) (turn : ConnectionTurn) → first_fault (turns ++ turn ∷ []) ≡ result_and (first_fault turns) (turn_fault (outcome turn))
 fault_more [] turn = and_ok (turn_fault (outcome turn))
 fault_more (t ∷ turns) turn = ap (result_and (turn_fault (outcome t))) (fault_more turns turn)
     ∙ and_assoc (turn_fault (outcome t)) (first_fault turns) (turn_fault (outcome turn))
@@ -239,7 +239,7 @@ no_turns a h k = ok_err (h ∙ k)
     ok_err e = cc
 
 -- no turn has this fault
-pub not_turns : (turns : List Turn) → first_fault turns ≡ Err Turns → ⊥
+pub not_turns : (turns : List ConnectionTurn) → first_fault turns ≡ Err Turns → ⊥
 not_turns [] h = no_turns (Ok tt) refl h
 not_turns (fed conn bytes ∷ turns) h = not_turns turns h
 not_turns (ended conn ∷ turns) h = not_turns turns h
@@ -279,7 +279,7 @@ module _ {S : Type 0} where
 
 module _ {S : Type 0} where
   -- a connection that stays open goes behind the others
-  pub stays_open : (turn : Turn) (after : Client S) (others : List (Client S)) → ◌≡◌ {A = Result Bool ServeFault} (Ok true) (outcome turn)
+  pub stays_open : (turn : ConnectionTurn) (after : Client S) (others : List (Client S)) → ◌≡◌ {A = Result Bool ServeFault} (Ok true) (outcome turn)
       → row_after turn after others ≡ others ++ after ∷ []
   stays_open (fed conn bytes) after others is = refl
   stays_open (ended conn) after others is = absurd (cc)
@@ -288,7 +288,7 @@ module _ {S : Type 0} where
   stays_open (unended conn) after others is = absurd (cc)
 
   -- one that has ended is let go
-  pub has_ended : (turn : Turn) (after : Client S) (others : List (Client S)) → ◌≡◌ {A = Result Bool ServeFault} (Ok false) (outcome turn)
+  pub has_ended : (turn : ConnectionTurn) (after : Client S) (others : List (Client S)) → ◌≡◌ {A = Result Bool ServeFault} (Ok false) (outcome turn)
       → row_after turn after others ≡ others
   has_ended (fed conn bytes) after others is = absurd (cc)
   has_ended (ended conn) after others is = refl
@@ -297,7 +297,7 @@ module _ {S : Type 0} where
   has_ended (unended conn) after others is = refl
 
   -- and one whose stream has failed
-  pub has_broken : (turn : Turn) (after : Client S) (others : List (Client S)) (fault : ServeFault)
+  pub has_broken : (turn : ConnectionTurn) (after : Client S) (others : List (Client S)) (fault : ServeFault)
       → ◌≡◌ {A = Result Bool ServeFault} (Err fault) (outcome turn) → row_after turn after others ≡ others
   has_broken (fed conn bytes) after others fault is = absurd (cc)
   has_broken (ended conn) after others fault is = refl
@@ -305,7 +305,7 @@ module _ {S : Type 0} where
   has_broken (unanswered conn bytes) after others fault is = refl
   has_broken (unended conn) after others fault is = refl
 
-  ids_of_after : (turn : Turn) (after : Client S) (others : List (Client S)) → after.conn ≡ conn_of turn
+  ids_of_after : (turn : ConnectionTurn) (after : Client S) (others : List (Client S)) → after.conn ≡ conn_of turn
       → client_ids (row_after turn after others) ≡ ids_after turn (client_ids others)
   ids_of_after (fed conn bytes) after others is = ids_last others after ∙ ap (λ k. client_ids others ++ k ∷ []) is
   ids_of_after (ended conn) after others is = refl
@@ -315,7 +315,7 @@ module _ {S : Type 0} where
 
   module _ (remaining contents : S → Option (List ℕ)) where
     -- one turn more
-    pub serves_next : (turn : Turn) (row others later : List (Client S)) (first after : Client S) (out : List ℕ) (old new : HubState)
+    pub serves_next : (turn : ConnectionTurn) (row others later : List (Client S)) (first after : Client S) (out : List ℕ) (old new : HubState)
         → Serves (client_ids row) old.attached → row ≡ first ∷ others → TakesTurn remaining contents turn out first after → Made old turn out new
         → later ≡ row_after turn after others → Serves (client_ids later) new.attached
     serves_next turn row others later first after out old new p is takes made rest =
@@ -323,7 +323,7 @@ module _ {S : Type 0} where
         subst (λ xs. Serves xs new.attached) (sym (ap client_ids rest ∙ ids_of_after turn after others (takes.same ∙ sym takes.conn)))
         (serves_after turn (client_ids others) out old new (subst (λ xs. Serves xs old.attached) ids p) made)
 
-    turns_more : (turns : List Turn) (turn : Turn) (row others : List (Client S)) (first after : Client S) (out : List ℕ) (old mid new : HubState)
+    turns_more : (turns : List ConnectionTurn) (turn : ConnectionTurn) (row others : List (Client S)) (first after : Client S) (out : List ℕ) (old mid new : HubState)
         → ByTurns remaining contents row old turns (first ∷ others) mid → TakesTurn remaining contents turn out first after → Made mid turn out new
         → ByTurns remaining contents row old (turns ++ turn ∷ []) (row_after turn after others) new
     turns_more [] turn row others first after out old mid new p takes made =
@@ -340,7 +340,7 @@ module _ {S : Type 0} where
       turns_more turns turn (row_after t p.1 p.2) others first after out p.4 mid new p.8 takes made,
     )
 
-    pub turns_next : (turns : List Turn) (turn : Turn) (row now others later : List (Client S)) (first after : Client S) (out : List ℕ)
+    pub turns_next : (turns : List ConnectionTurn) (turn : ConnectionTurn) (row now others later : List (Client S)) (first after : Client S) (out : List ℕ)
         (old mid new : HubState) → ByTurns remaining contents row old turns now mid → now ≡ first ∷ others
         → TakesTurn remaining contents turn out first after → Made mid turn out new → later ≡ row_after turn after others
         → ByTurns remaining contents row old (turns ++ turn ∷ []) later new
@@ -358,7 +358,7 @@ or_false : (b : Bool) → (b || false) ≡ b
 or_false true = refl
 or_false false = refl
 
-pub noted_more : (turns : List Turn) (turn : Turn) (e : IoErrors) → all_noted (turns ++ turn ∷ []) e ≡ with_turn (outcome turn) (all_noted turns e)
+pub noted_more : (turns : List ConnectionTurn) (turn : ConnectionTurn) (e : IoErrors) → all_noted (turns ++ turn ∷ []) e ≡ with_turn (outcome turn) (all_noted turns e)
 noted_more [] turn e = refl
 noted_more (t ∷ turns) turn e = noted_more turns turn (with_turn (outcome t) e)
 
@@ -370,7 +370,7 @@ written_noted (Ok is_open) failed e ok err =
 written_noted (Err fault) failed e ok err =
     ap (λ b. with_write b (with_read false e)) err.1 ∙ (λ i. record { read = or_false e.read i; write = e.write || true }) ∙ sym (ap (λ r. with_turn r e) err.0)
 
-reads_stay : (turns : List Turn) (e : IoErrors) → reads_fail e ≡ true → reads_fail (all_noted turns e) ≡ true
+reads_stay : (turns : List ConnectionTurn) (e : IoErrors) → reads_fail e ≡ true → reads_fail (all_noted turns e) ≡ true
 reads_stay [] e h = h
 reads_stay (fed conn bytes ∷ turns) e h = reads_stay turns e h
 reads_stay (ended conn ∷ turns) e h = reads_stay turns e h
@@ -378,7 +378,7 @@ reads_stay (unread conn ∷ turns) e h = reads_stay turns (with_read true e) (or
 reads_stay (unanswered conn bytes ∷ turns) e h = reads_stay turns (with_write true e) h
 reads_stay (unended conn ∷ turns) e h = reads_stay turns (with_write true e) h
 
-writes_stay : (turns : List Turn) (e : IoErrors) → writes_fail e ≡ true → writes_fail (all_noted turns e) ≡ true
+writes_stay : (turns : List ConnectionTurn) (e : IoErrors) → writes_fail e ≡ true → writes_fail (all_noted turns e) ≡ true
 writes_stay [] e h = h
 writes_stay (fed conn bytes ∷ turns) e h = writes_stay turns e h
 writes_stay (ended conn ∷ turns) e h = writes_stay turns e h
@@ -396,7 +396,7 @@ write_read : ◌≡◌ {A = Result ⊤ ServeFault} (Err ServeWrite) (Err Read) �
 write_read e = cc
 
 -- the first fault is noted
-pub read_noted : (turns : List Turn) (e : IoErrors) → first_fault turns ≡ Err Read → reads_fail (all_noted turns e) ≡ true
+pub read_noted : (turns : List ConnectionTurn) (e : IoErrors) → first_fault turns ≡ Err Read → reads_fail (all_noted turns e) ≡ true
 read_noted [] e h = absurd (ok_read h)
 read_noted (fed conn bytes ∷ turns) e h = read_noted turns e h
 read_noted (ended conn ∷ turns) e h = read_noted turns e h
@@ -404,7 +404,7 @@ read_noted (unread conn ∷ turns) e h = reads_stay turns (with_read true e) (or
 read_noted (unanswered conn bytes ∷ turns) e h = absurd (write_read h)
 read_noted (unended conn ∷ turns) e h = absurd (write_read h)
 
-pub write_noted : (turns : List Turn) (e : IoErrors) → first_fault turns ≡ Err ServeWrite → writes_fail (all_noted turns e) ≡ true
+pub write_noted : (turns : List ConnectionTurn) (e : IoErrors) → first_fault turns ≡ Err ServeWrite → writes_fail (all_noted turns e) ≡ true
 write_noted [] e h = absurd (ok_write h)
 write_noted (fed conn bytes ∷ turns) e h = write_noted turns e h
 write_noted (ended conn ∷ turns) e h = write_noted turns e h
@@ -413,7 +413,7 @@ write_noted (unanswered conn bytes ∷ turns) e h = writes_stay turns (with_writ
 write_noted (unended conn ∷ turns) e h = writes_stay turns (with_write true e) (or_true e.write)
 
 -- where no turn has a fault nothing is noted
-pub none_noted : (turns : List Turn) (e : IoErrors) → ◌≡◌ {A = Result ⊤ ServeFault} (first_fault turns) (Ok tt) → all_noted turns e ≡ e
+pub none_noted : (turns : List ConnectionTurn) (e : IoErrors) → ◌≡◌ {A = Result ⊤ ServeFault} (first_fault turns) (Ok tt) → all_noted turns e ≡ e
 none_noted [] e h = refl
 none_noted (fed conn bytes ∷ turns) e h = none_noted turns e h
 none_noted (ended conn ∷ turns) e h = none_noted turns e h
@@ -455,7 +455,7 @@ pub ok_turns : ◌≡◌ {A = Result ⊤ ServeFault} (Ok tt) (Err Turns) → ⊥
 ok_turns e = cc
 
 -- no turn has another fault than Read and Write
-not_fault : (turns : List Turn) (fault : ServeFault) → (Read ≡ fault → ⊥) → (ServeWrite ≡ fault → ⊥) → first_fault turns ≡ Err fault → ⊥
+not_fault : (turns : List ConnectionTurn) (fault : ServeFault) → (Read ≡ fault → ⊥) → (ServeWrite ≡ fault → ⊥) → first_fault turns ≡ Err fault → ⊥
 not_fault [] fault r w h = ok_err fault h
   where
     ok_err : (f : ServeFault) → ◌≡◌ {A = Result ⊤ ServeFault} (Ok tt) (Err f) → ⊥
@@ -466,10 +466,10 @@ not_fault (unread conn ∷ turns) fault r w h = r (same_err h)
 not_fault (unanswered conn bytes ∷ turns) fault r w h = w (same_err h)
 not_fault (unended conn ∷ turns) fault r w h = w (same_err h)
 
-pub not_accept : (turns : List Turn) → first_fault turns ≡ Err Accept → ⊥
+pub not_accept : (turns : List ConnectionTurn) → first_fault turns ≡ Err Accept → ⊥
 not_accept turns h = not_fault turns Accept (λ e. cc) (λ e. cc) h
 
-pub not_memory : (turns : List Turn) → first_fault turns ≡ Err Memory → ⊥
+pub not_memory : (turns : List ConnectionTurn) → first_fault turns ≡ Err Memory → ⊥
 not_memory turns h = not_fault turns Memory (λ e. cc) (λ e. cc) h
 
 pub on_ok : (s : Result ⊤ ServeFault) (P : Type 0) → (s ≡ Ok tt → P) → OnOk s P
@@ -490,7 +490,7 @@ on_err_of (Ok x) P p = tt
 on_err_of (Err fault) P p = p
 
 -- where the read gave bytes or their end, only a write has failed
-pub answered_fault : (turn : Turn) (bytes : List ℕ) (r : Result Bool ServeFault) (failed : Bool) → given_in turn ≡ Some bytes → r ≡ outcome turn
+pub answered_fault : (turn : ConnectionTurn) (bytes : List ℕ) (r : Result Bool ServeFault) (failed : Bool) → given_in turn ≡ Some bytes → r ≡ outcome turn
     → (r ≡ Err ServeWrite → failed ≡ true) → OnErr r ((r ≡ Err ServeWrite) × (failed ≡ true))
 answered_fault (fed conn xs) bytes r failed given is write = on_err_of_ok r true _ is
 answered_fault (ended conn) bytes r failed given is write = on_err_of_ok r false _ is
@@ -514,10 +514,10 @@ sound_last (x ∷ clients) c h last = (h.0, sound_last clients c h.1 last)
 -- what a turn of the first of a row is, by what becomes of the row
 pub turn_taken : {S : Type 0} (remaining contents : S → Option (List ℕ)) (row left : List (Client S)) (old new : HubState) (before noted : IoErrors)
     (first after : Client S) (others : List (Client S)) (answer : Result Bool ServeFault) (result : Result ⊤ ServeFault) → row ≡ first ∷ others
-    → (turn : Turn) × (out : List ℕ) × TakesTurn remaining contents turn out first after × (answer ≡ outcome turn) × Made old turn out new
+    → (turn : ConnectionTurn) × (out : List ℕ) × TakesTurn remaining contents turn out first after × (answer ≡ outcome turn) × Made old turn out new
     → noted ≡ with_turn answer before
-    → ((turn : Turn) → answer ≡ outcome turn → (left ≡ row_after turn after others) × (result ≡ turn_fault (outcome turn)))
-    → (turn : Turn) × (out : List ℕ) × (first : Client S) × (after : Client S) × (others : List (Client S)) × (row ≡ first ∷ others)
+    → ((turn : ConnectionTurn) → answer ≡ outcome turn → (left ≡ row_after turn after others) × (result ≡ turn_fault (outcome turn)))
+    → (turn : ConnectionTurn) × (out : List ℕ) × (first : Client S) × (after : Client S) × (others : List (Client S)) × (row ≡ first ∷ others)
     × TakesTurn remaining contents turn out first after × Made old turn out new × (left ≡ row_after turn after others)
     × (result ≡ turn_fault (outcome turn)) × (noted ≡ with_turn (outcome turn) before)
 turn_taken remaining contents row left old new before noted first after others answer result is made notes ends =
@@ -527,10 +527,10 @@ turn_taken remaining contents row left old new before noted first after others a
 -- what a turn of a client is, by what its stream gave and has been written
 pub client_turned : {S : Type 0} (remaining contents : S → Option (List ℕ)) (old new : Client S) (between : Watched (Buffered S)) (piece : Option (List ℕ))
     (answer : Result Bool ServeFault) (before after : HubState) → new.conn ≡ old.conn
-    → (turn : Turn) × (out : List ℕ) × (conn_of turn ≡ old.conn) × (given_in turn ≡ piece) × (answer ≡ outcome turn)
+    → (turn : ConnectionTurn) × (out : List ℕ) × (conn_of turn ≡ old.conn) × (given_in turn ≡ piece) × (answer ≡ outcome turn)
     × Writes (contents_of contents) between new.stream out × Made before turn out after
     → Gave (remaining_of remaining) old.stream between piece → OnErr answer (has_failed new.stream ≡ true)
-    → (turn : Turn) × (out : List ℕ) × TakesTurn remaining contents turn out old new × (answer ≡ outcome turn) × Made before turn out after
+    → (turn : ConnectionTurn) × (out : List ℕ) × TakesTurn remaining contents turn out old new × (answer ≡ outcome turn) × Made before turn out after
 client_turned remaining contents old new between piece answer before after same made gave failed = (
   made.0,
   made.1,

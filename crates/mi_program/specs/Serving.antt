@@ -4,7 +4,7 @@ use Rattle.std.specs.Io.KnownBytes.{IsAtEnd}
 use Rattle.mi_value.specs.declared.limits.TheConstants.{MAX_READS, PIECE}
 use Rattle.mi_model.specs.Database.{Database}
 use Rattle.mi_hub.specs.Run.{HubState, with_connection, piece, close, cut, AllDone, DoneToFault}
-use Rattle.mi_hub.specs.Turn.{Turn}
+use Rattle.mi_hub.specs.ConnectionTurn.{ConnectionTurn}
 use Rattle.mi_hub.specs.Watching.{watched, has_failed, Reads, Writes}
 use Rattle.mi_hub.specs.declared.watched.Watched.{Watched}
 use Rattle.mi_hub.specs.declared.fault.ServeFault.{ServeFault}
@@ -77,7 +77,7 @@ ServesInput remaining contents database old_reader new_reader old_writer new_wri
 -- So many clients come to a database and take their turns until no connection is open; this is their first fault, or none.
 abbrev pub AllTakeTurns : {S : Type 0} → (S → Option (List ℕ)) → (S → Option (List ℕ)) → Database → ℕ → Result ⊤ ServeFault → Type 0
 AllTakeTurns {S} remaining contents database clients fault =
-    (row : List (Client S)) × (turns : List Turn) × (new : HubState) × HaveCome clients row
+    (row : List (Client S)) × (turns : List ConnectionTurn) × (new : HubState) × HaveCome clients row
     × ByTurns remaining contents row (with_clients clients (empty_hub database)) turns [] new × (fault ≡ first_fault turns)
 
 -- the answer that serving connections is
@@ -93,7 +93,7 @@ ServesClients remaining contents database clients (Ok done) = AllTakeTurns remai
 ServesClients remaining contents database clients (Err Read) = AllTakeTurns remaining contents database clients (Err serving.Read)
 ServesClients remaining contents database clients (Err Write) = AllTakeTurns remaining contents database clients (Err serving.Write)
 ServesClients {S} remaining contents database clients (Err Turns) =
-    (row : List (Client S)) × (turns : List Turn) × (left : List (Client S)) × (mid : HubState) × HaveCome clients row
+    (row : List (Client S)) × (turns : List ConnectionTurn) × (left : List (Client S)) × (mid : HubState) × HaveCome clients row
     × ByTurns remaining contents row (with_clients clients (empty_hub database)) turns left mid × (length turns ≡ MAX_READS)
 ServesClients remaining contents database clients (Err Listen) = Unit {0}
 ServesClients remaining contents database clients (Err Accept) = Unit {0}

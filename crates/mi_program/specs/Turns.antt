@@ -5,11 +5,11 @@ use Rattle.std.specs.Result.{result_and}
 use Rattle.std.specs.List.{range_with_len}
 use Rattle.mi_hub.specs.Connections.{rest_at}
 use Rattle.mi_hub.specs.Run.{HubState}
-use Rattle.mi_hub.specs.Turn.{Turn, fed, ended, unread, unanswered, unended, conn_of, outcome, Made}
+use Rattle.mi_hub.specs.ConnectionTurn.{ConnectionTurn, fed, ended, unread, unanswered, unended, conn_of, outcome, Made}
 use Rattle.mi_hub.specs.declared.connection.Connection.{Connection}
 use Rattle.mi_hub.specs.declared.fault.ServeFault.{ServeFault}
 use Rattle.mi_hub.specs.declared.fault.ServeFault.TheVariants.{Read, Write, Accept, Memory, Turns}
-use Rattle.mi_hub.specs.Turn.{given_in, Gave}
+use Rattle.mi_hub.specs.ConnectionTurn.{given_in, Gave}
 use Rattle.mi_hub.specs.Watching.{has_failed, Writes}
 use Rattle.mi_hub.specs.declared.watched.Watched.{Watched}
 use Rattle.mi_hub.specs.IoNotes.{with_read, with_write}
@@ -27,7 +27,7 @@ abbrev pub with_clients : ℕ → HubState → HubState
 with_clients n s = record { held = s.held; attached = map fresh (range_with_len 1 n) }
 
 -- In this turn the stream of its client gave what the turn was given, and then out was written to it. It has failed where the turn has a fault.
-pub record TakesTurn {S : Type 0} (remaining contents : S → Option (List ℕ)) (turn : Turn) (out : List ℕ) (old new : Client S) : Type 0 where
+pub record TakesTurn {S : Type 0} (remaining contents : S → Option (List ℕ)) (turn : ConnectionTurn) (out : List ℕ) (old new : Client S) : Type 0 where
   pub conn : conn_of turn ≡ old.conn
   pub same : new.conn ≡ old.conn
   pub between : Watched (Buffered S)
@@ -36,7 +36,7 @@ pub record TakesTurn {S : Type 0} (remaining contents : S → Option (List ℕ))
   pub failed : OnErr (outcome turn) (has_failed new.stream ≡ true)
 
 -- a client whose connection stays open goes behind the others
-abbrev pub row_after : {S : Type 0} → Turn → Client S → List (Client S) → List (Client S)
+abbrev pub row_after : {S : Type 0} → ConnectionTurn → Client S → List (Client S) → List (Client S)
 row_after (fed conn bytes) client others = others ++ client ∷ []
 row_after (ended conn) client others = others
 row_after (unread conn) client others = others
@@ -45,7 +45,7 @@ row_after (unended conn) client others = others
 
 -- From a row of clients whose connections are open and from old, these turns are made, each by the first of the row then; left is the row that
 -- is left, and new the hub. The streams of the others stay as they are.
-abbrev pub ByTurns : {S : Type 0} → (S → Option (List ℕ)) → (S → Option (List ℕ)) → List (Client S) → HubState → List Turn → List (Client S) → HubState → Type 0
+abbrev pub ByTurns : {S : Type 0} → (S → Option (List ℕ)) → (S → Option (List ℕ)) → List (Client S) → HubState → List ConnectionTurn → List (Client S) → HubState → Type 0
 ByTurns remaining contents row old [] left new = (left ≡ row) × (new ≡ old)
 ByTurns {S} remaining contents row old (turn ∷ turns) left new =
     (first : Client S) × (after : Client S) × (others : List (Client S)) × (out : List ℕ) × (mid : HubState) × (row ≡ first ∷ others)
@@ -58,7 +58,7 @@ turn_fault (Ok is_open) = Ok tt
 turn_fault (Err fault) = Err fault
 
 -- the first fault of these turns, or none
-abbrev pub first_fault : List Turn → Result ⊤ ServeFault
+abbrev pub first_fault : List ConnectionTurn → Result ⊤ ServeFault
 first_fault [] = Ok tt
 first_fault (turn ∷ turns) = result_and (turn_fault (outcome turn)) (first_fault turns)
 
@@ -72,7 +72,7 @@ with_turn (Err Memory) e = e
 with_turn (Err Turns) e = e
 
 -- what is noted by these turns, one after another
-abbrev pub all_noted : List Turn → IoErrors → IoErrors
+abbrev pub all_noted : List ConnectionTurn → IoErrors → IoErrors
 all_noted [] e = e
 all_noted (turn ∷ turns) e = all_noted turns (with_turn (outcome turn) e)
 

@@ -6,7 +6,7 @@ ghost use Rattle.mi_hub.specs.Run.{HubState, with_connection};
 ghost use Rattle.mi_hub.specs.Connections.{rest_at};
 ghost use Rattle.mi_hub.specs.Watching.{has_failed};
 ghost use Rattle.mi_hub.specs.IoNotes.{reads_fail, writes_fail};
-ghost use Rattle.mi_hub.specs.Turn.{Turn, outcome, Made};
+ghost use Rattle.mi_hub.specs.ConnectionTurn.{ConnectionTurn, outcome, Made};
 ghost use Rattle.mi_program.specs.Turns.{with_clients, TakesTurn, row_after, ByTurns, turn_fault, first_fault, with_turn, all_noted};
 ghost use Rattle.mi_program.specs.Turns.{client_ids, AllSound, HaveCome, Serves};
 ghost use Rattle.mi_program.specs.declared.listener.Client.{Client};
@@ -69,7 +69,7 @@ fn client_turn<D: Sessions + Drop, S: Read + Write>(
     requires attached { IsSome (rest_at client.old.conn hub.old.attached) }
     requires room { length buffer.old ≡ PIECE }
     requires sound { has_failed client.old.stream ≡ false }
-    ensures turn { (turn : Turn) × (out : List ℕ) × TakesTurn S.remaining S.contents turn out client.old client.new
+    ensures turn { (turn : ConnectionTurn) × (out : List ℕ) × TakesTurn S.remaining S.contents turn out client.old client.new
         × (result ≡ outcome turn) × Made hub.old turn out hub.new }
     ensures failed { OnErr result (has_failed client.new.stream ≡ true) }
     ensures sound { OnOk result (has_failed client.new.stream ≡ false) }
@@ -96,7 +96,7 @@ fn next_turn<D: Sessions + Drop, S: Read + Write + Drop>(
     requires served { Serves (client_ids row.old.items) hub.old.attached }
     requires room { length buffer.old ≡ PIECE }
     requires sound { AllSound row.old.items }
-    ensures turn { (turn : Turn) × (out : List ℕ) × (first : Client S) × (after : Client S) × (others : List (Client S))
+    ensures turn { (turn : ConnectionTurn) × (out : List ℕ) × (first : Client S) × (after : Client S) × (others : List (Client S))
         × (row.old.items ≡ first ∷ others) × TakesTurn S.remaining S.contents turn out first after × Made hub.old turn out hub.new
         × (row.new.items ≡ row_after turn after others) × (result ≡ turn_fault (outcome turn)) × (errors.new ≡ with_turn (outcome turn) errors.old) }
     ensures sound { AllSound row.new.items }
@@ -157,9 +157,9 @@ fn serve_all<D: Sessions + Drop, S: Read + Write + Drop>(
     requires served { Serves (client_ids row.items) hub.old.attached }
     requires sound { AllSound row.items }
     ensures none { hub.new.attached ≡ [] }
-    ensures served { result ≢ Err ServeFault.Turns → (turns : List Turn)
+    ensures served { result ≢ Err ServeFault.Turns → (turns : List ConnectionTurn)
         × ByTurns S.remaining S.contents row.items hub.old turns [] hub.new × (result ≡ first_fault turns) × (errors.new ≡ all_noted turns errors.old) }
-    ensures turns { result ≡ Err ServeFault.Turns → (turns : List Turn) × (left : List (Client S)) × (mid : HubState)
+    ensures turns { result ≡ Err ServeFault.Turns → (turns : List ConnectionTurn) × (left : List (Client S)) × (mid : HubState)
         × ByTurns S.remaining S.contents row.items hub.old turns left mid × (length turns ≡ MAX_READS) × (errors.new ≡ all_noted turns errors.old) }
 {
     let mut row = row;
@@ -189,11 +189,11 @@ where
     requires none { hub.old.attached ≡ [] }
     ensures none { hub.new.attached ≡ [] }
     ensures served { result ≢ Err ServeFault.Accept → result ≢ Err ServeFault.Memory → result ≢ Err ServeFault.Turns →
-        (row : List (Client L.Stream)) × (turns : List Turn) × HaveCome clients row
+        (row : List (Client L.Stream)) × (turns : List ConnectionTurn) × HaveCome clients row
         × ByTurns L.Stream.remaining L.Stream.contents row (with_clients clients hub.old) turns [] hub.new
         × (result ≡ first_fault turns) × (errors.new ≡ all_noted turns errors.old) }
     ensures turns { result ≡ Err ServeFault.Turns →
-        (row : List (Client L.Stream)) × (turns : List Turn) × (left : List (Client L.Stream)) × (mid : HubState) × HaveCome clients row
+        (row : List (Client L.Stream)) × (turns : List ConnectionTurn) × (left : List (Client L.Stream)) × (mid : HubState) × HaveCome clients row
         × ByTurns L.Stream.remaining L.Stream.contents row (with_clients clients hub.old) turns left mid
         × (length turns ≡ MAX_READS) × (errors.new ≡ all_noted turns errors.old) }
     ensures unserved { (result ≡ Err ServeFault.Accept) ⊎ (result ≡ Err ServeFault.Memory) → errors.new ≡ errors.old }
@@ -240,13 +240,13 @@ where
     // All connections have come and have had their turns until none was open; in its turn the stream of a connection gave what the turn was given
     // and took its replies, and no other. The answer is the first fault, or that there was none.
     ensures served { result ≢ Err ServeFault.Accept → result ≢ Err ServeFault.Memory → result ≢ Err ServeFault.Turns →
-        (row : List (Client L.Stream)) × (turns : List Turn) × HaveCome clients row
+        (row : List (Client L.Stream)) × (turns : List ConnectionTurn) × HaveCome clients row
         × ByTurns L.Stream.remaining L.Stream.contents row (with_clients clients hub.old) turns [] hub.new
         × (result ≡ first_fault turns) × (errors.new ≡ all_noted turns errors.old) }
 
     // So many turns were made; then those that were open still have been cut.
     ensures turns { result ≡ Err ServeFault.Turns →
-        (row : List (Client L.Stream)) × (turns : List Turn) × (left : List (Client L.Stream)) × (mid : HubState) × HaveCome clients row
+        (row : List (Client L.Stream)) × (turns : List ConnectionTurn) × (left : List (Client L.Stream)) × (mid : HubState) × HaveCome clients row
         × ByTurns L.Stream.remaining L.Stream.contents row (with_clients clients hub.old) turns left mid
         × (length turns ≡ MAX_READS) × (errors.new ≡ all_noted turns errors.old) }
 

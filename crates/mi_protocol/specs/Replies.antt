@@ -131,3 +131,16 @@ is_short (sized n) = true
 is_short (rows n records more) = false
 is_short (refused_modify n e) = true
 is_short (refused n e) = true
+
+-- a reply whose text is a number between two texts
+abbrev pub says_number : Said → Bool
+says_number (inserted id) = true
+says_number (erased n) = true
+says_number (revised n) = true
+says_number (committed n) = true
+says_number (undone n) = true
+says_number (pushed n) = true
+says_number (counted n) = true
+says_number (ranked n) = true
+says_number (sized n) = true
+says_number other = false

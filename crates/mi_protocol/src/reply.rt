@@ -1,9 +1,10 @@
 //! Replies and their text. Only a reply that shows rows takes memory; the others stand in a buffer of 128 bytes.
-ghost use Rattle.std.specs.Prelude.{◌≡◌, ◌+◌, ◌≤◌, ◌<◌, ◌++◌, length, map, codes, decimal, true, IfOk, IfErr, IsOk};
+ghost use Rattle.std.specs.Prelude.{◌≡◌, ◌+◌, ◌≤◌, ◌<◌, ◌++◌, length, map, codes, decimal, true, false, IfOk, IfErr, IsOk, IfSome, MatchOption};
 ghost use Rattle.arrayvec.specs.ArrayVec.{array_vec_len};
 ghost use Rattle.mi_value.specs.declared.limits.TheConstants.{MAX_NAME, SHORT_REPLY};
 ghost use Rattle.mi_protocol.specs.Replies as replies;
-ghost use Rattle.mi_protocol.specs.Replies.{reply_text, said, is_short, index_name, shown, rows, IsSaidOf, IsRefusalOf};
+ghost use Rattle.mi_catalog.specs.Shape.{CatalogShape};
+ghost use Rattle.mi_protocol.specs.Replies.{reply_text, said, is_short, says_number, index_name, shown, rows, IsSaidOf, IsRefusalOf};
 ghost use Rattle.mi_protocol.specs.Text.{text_bytes, is_short_text};
 
 use crate::labels::ReplyLabels;
@@ -217,6 +218,63 @@ fn page_text(
 }
 
 impl Reply<'_> {
+    /// The number that is all that a reply says, between what stands before it and behind it.
+    fn numbered(&self) -> Option<(&'static [u8], u64, &'static [u8])>
+        ensures text { MatchOption result (says_number (said self.now) ≡ false)
+            (λ p. (c : CatalogShape) → reply_text c (said self.now) ≡ p.0.now ++ decimal p.1 ++ p.2.now) }
+        ensures room { IfSome result (λ p. length p.0.now + length p.2.now + 20 ≤ SHORT_REPLY) }
+    {
+        match self {
+            Reply::Inserted(id) => Some((b"{\"id\":", *id, b",\"ok\":true}")),
+            Reply::Erased(n) => Some((b"{\"erased\":", *n, b",\"ok\":true}")),
+            Reply::Revised(n) => Some((b"{\"ok\":true,\"revision\":", *n, b"}")),
+            Reply::Committed(n) => Some((b"{\"committed\":", *n, b",\"ok\":true}")),
+            Reply::Undone(n) => Some((b"{\"ok\":true,\"undone\":", *n, b"}")),
+            Reply::Pushed(n) => Some((b"{\"ok\":true,\"pushed\":", *n, b"}")),
+            Reply::Counted(n) => Some((b"{\"count\":", *n, b",\"ok\":true}")),
+            Reply::Ranked(n) => Some((b"{\"ok\":true,\"rank\":", *n, b"}")),
+            Reply::Sized(n) => Some((b"{\"ok\":true,\"size\":", *n, b"}")),
+            _ => None,
+        }
+    }
+
+    /// The text of a reply that shows no row and says more than a number, or none.
+    fn worded(&self, catalog: &Catalog) -> ReplyText
+        requires said { IsSaidOf catalog.now (said self.now) }
+        requires short { is_short (said self.now) ≡ true }
+        requires words { says_number (said self.now) ≡ false }
+        ensures text { text_bytes result ≡ reply_text catalog.now (said self.now) }
+        ensures form { is_short_text result ≡ true }
+    {
+        match self {
+            Reply::Done => short(b"{\"ok\":", b"true", b"}"),
+            Reply::Status {
+                depth,
+                held,
+                revision,
+            } => status(*depth, *held, *revision),
+            Reply::RefusedModify { table, refusal } => {
+                modify_refusal_text(catalog, *table, *refusal)
+            }
+            Reply::Refused { table, refusal } => refusal_text(catalog, *table, *refusal),
+            _ => unreachable!(),
+        }
+    }
+
+    /// The text of a reply that shows no row, without a newline. It is `Short` and takes no memory. Its table, and the index of a
+    /// conflict, are in the catalog.
+    pub fn short_text(&self, catalog: &Catalog) -> ReplyText
+        requires said { IsSaidOf catalog.now (said self.now) }
+        requires short { is_short (said self.now) ≡ true }
+        ensures text { text_bytes result ≡ reply_text catalog.now (said self.now) }
+        ensures form { is_short_text result ≡ true }
+    {
+        let Some((before, number, after)) = self.numbered() else {
+            return self.worded(catalog);
+        };
+        short_number(before, number, after)
+    }
+
     /// The text of a reply, without a newline. Its table, and the index of a conflict, are in the catalog. It is `Long`
     /// exactly where the reply shows rows; such a one answers `Memory` where a growth is refused, every other is `Short`
     /// and takes no memory.
@@ -228,27 +286,12 @@ impl Reply<'_> {
         ensures memory { IfErr result (λ e. e ≡ Refusal.Memory) }
     {
         match self {
-            Reply::Inserted(id) => Ok(short_number(b"{\"id\":", *id, b",\"ok\":true}")),
-            Reply::Done => Ok(short(b"{\"ok\":", b"true", b"}")),
-            Reply::Erased(n) => Ok(short_number(b"{\"erased\":", *n, b",\"ok\":true}")),
             Reply::Shown { table, id, row } => {
                 let schema = catalog.table(*table);
                 schema.keeps_rules();
                 let columns = schema.columns();
                 Ok(ReplyText::Long(row_text(alloc, *id, row, columns)?))
             }
-            Reply::Revised(n) => Ok(short_number(b"{\"ok\":true,\"revision\":", *n, b"}")),
-            Reply::Committed(n) => Ok(short_number(b"{\"committed\":", *n, b",\"ok\":true}")),
-            Reply::Undone(n) => Ok(short_number(b"{\"ok\":true,\"undone\":", *n, b"}")),
-            Reply::Pushed(n) => Ok(short_number(b"{\"ok\":true,\"pushed\":", *n, b"}")),
-            Reply::Status {
-                depth,
-                held,
-                revision,
-            } => Ok(status(*depth, *held, *revision)),
-            Reply::Counted(n) => Ok(short_number(b"{\"count\":", *n, b",\"ok\":true}")),
-            Reply::Ranked(n) => Ok(short_number(b"{\"ok\":true,\"rank\":", *n, b"}")),
-            Reply::Sized(n) => Ok(short_number(b"{\"ok\":true,\"size\":", *n, b"}")),
             Reply::Rows { table, rows, more } => {
                 let schema = catalog.table(*table);
                 schema.keeps_rules();
@@ -256,10 +299,7 @@ impl Reply<'_> {
                 let text = rows_text(alloc, rows.as_slice(), *more, columns)?;
                 Ok(ReplyText::Long(text))
             }
-            Reply::RefusedModify { table, refusal } => {
-                Ok(modify_refusal_text(catalog, *table, *refusal))
-            }
-            Reply::Refused { table, refusal } => Ok(refusal_text(catalog, *table, *refusal)),
+            _ => Ok(self.short_text(catalog)),
         }
     }
 

@@ -1,7 +1,7 @@
 -- A turn reads one piece, or finds the end, and what it made is a turn of the definitions.
 use Rattle.std.proofs.Common.{◌<◌, ◌∙◌, [], length, None, refl, sym, subst, arith}
 use Rattle.std.proofs.KnownBytes.{Consumes-kept, Consumes-nil}
-use Rattle.mi_hub.specs.Turn.{Gave}
+use Rattle.mi_hub.specs.ConnectionTurn.{Gave}
 use Rattle.mi_hub.proofs.TurnLemmas.{gave_read, or_true}
 use Rattle.mi_hub.proofs.stream.read_turn.Goals as goal
 

@@ -1,7 +1,7 @@
 -- The close is done, or a write failed in it, or the flush behind it.
 use Rattle.std.proofs.Common.{refl, inl, inr}
 use Rattle.std.proofs.KnownBytes.{Appends-kept}
-use Rattle.mi_hub.specs.Turn.{ended, unended}
+use Rattle.mi_hub.specs.ConnectionTurn.{ended, unended}
 use Rattle.mi_hub.proofs.PieceLemmas.{write_of}
 use Rattle.mi_hub.proofs.turn.close_at_end.Goals as goal
 

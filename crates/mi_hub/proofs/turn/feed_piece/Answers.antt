@@ -1,7 +1,7 @@
 -- The piece is done, or a write failed in it, or the flush behind it.
 use Rattle.std.proofs.Common.{refl, inl, inr}
 use Rattle.std.proofs.KnownBytes.{Appends-kept}
-use Rattle.mi_hub.specs.Turn.{fed, unanswered}
+use Rattle.mi_hub.specs.ConnectionTurn.{fed, unanswered}
 use Rattle.mi_hub.proofs.PieceLemmas.{cut_done, piece_cut, still_attached, write_of}
 use Rattle.mi_hub.proofs.turn.feed_piece.Goals as goal
 

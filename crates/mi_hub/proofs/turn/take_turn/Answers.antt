@@ -1,7 +1,7 @@
 -- A piece is fed, no bytes are the end, and a failed read is a cut.
 use Rattle.std.proofs.Common.{[], refl}
 use Rattle.std.proofs.KnownBytes.{Appends-nil}
-use Rattle.mi_hub.specs.Turn.{unread}
+use Rattle.mi_hub.specs.ConnectionTurn.{unread}
 use Rattle.mi_hub.proofs.PieceLemmas.{cut_done}
 use Rattle.mi_hub.proofs.TurnLemmas.{never_read, not_read}
 use Rattle.mi_hub.proofs.turn.take_turn.Goals as goal

@@ -3,7 +3,7 @@ use Rattle.std.proofs.Common.{◌≡◌, ◌∙◌, ◌<◌, [], length, None, R
 use Rattle.std.proofs.KnownBytes.{Consumes-kept, Consumes-nil}
 use Rattle.std.specs.Prelude.{OnOk, OnErr}
 use Rattle.std.proofs.lemmas.Result.{on_ok_weaker}
-use Rattle.mi_hub.specs.Turn.{Gave}
+use Rattle.mi_hub.specs.ConnectionTurn.{Gave}
 use Rattle.mi_hub.specs.Watching.{has_failed}
 use Rattle.mi_hub.proofs.TurnLemmas.{gave_read}
 use Rattle.mi_program.specs.Buffer.{remaining_of}

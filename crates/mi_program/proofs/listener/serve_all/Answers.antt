@@ -2,7 +2,7 @@
 use Rattle.std.proofs.Common.{◌≡◌, ◌<◌, ◌∷◌, ◌++◌, [], length, sym, ap, ◌∙◌, subst, arith, rules, length-append}
 use Rattle.std.specs.Result.{result_and}
 use Rattle.std.specs.VecDeque.{deque_len}
-use Rattle.mi_hub.specs.Turn.{outcome}
+use Rattle.mi_hub.specs.ConnectionTurn.{outcome}
 use Rattle.mi_program.specs.Turns.{client_ids, with_turn}
 use Rattle.mi_program.proofs.TurnLemmas.{serves_next, turns_next, fault_more, noted_more, not_turns, no_clients, none_left, not_zero, is_zero}
 use Rattle.mi_program.proofs.listener.serve_all.Goals as goal

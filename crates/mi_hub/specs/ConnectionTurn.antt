@@ -11,15 +11,15 @@ use Rattle.mi_hub.specs.declared.watched.Watched.{Watched}
 
 -- A turn of an open connection: a piece of its bytes is fed, or they are at their end and it is closed; or its read fails and it is
 -- cut; or the replies to a piece don't go out, or the one at the end.
-pub data Turn : Type 0 where
-  fed : ℕ → List ℕ → Turn
-  ended : ℕ → Turn
-  unread : ℕ → Turn
-  unanswered : ℕ → List ℕ → Turn
-  unended : ℕ → Turn
+pub data ConnectionTurn : Type 0 where
+  fed : ℕ → List ℕ → ConnectionTurn
+  ended : ℕ → ConnectionTurn
+  unread : ℕ → ConnectionTurn
+  unanswered : ℕ → List ℕ → ConnectionTurn
+  unended : ℕ → ConnectionTurn
 
 -- the connection whose turn it is
-abbrev pub conn_of : Turn → ℕ
+abbrev pub conn_of : ConnectionTurn → ℕ
 conn_of (fed conn bytes) = conn
 conn_of (ended conn) = conn
 conn_of (unread conn) = conn
@@ -27,7 +27,7 @@ conn_of (unanswered conn bytes) = conn
 conn_of (unended conn) = conn
 
 -- whether the connection is open still, or the fault that has ended it
-abbrev pub outcome : Turn → Result Bool ServeFault
+abbrev pub outcome : ConnectionTurn → Result Bool ServeFault
 outcome (fed conn bytes) = Ok true
 outcome (ended conn) = Ok false
 outcome (unread conn) = Err Read
@@ -35,7 +35,7 @@ outcome (unanswered conn bytes) = Err Write
 outcome (unended conn) = Err Write
 
 -- what the read gave: a piece, no bytes at their end, or nothing where it failed
-abbrev pub given_in : Turn → Option (List ℕ)
+abbrev pub given_in : ConnectionTurn → Option (List ℕ)
 given_in (fed conn bytes) = Some bytes
 given_in (ended conn) = Some []
 given_in (unread conn) = None
@@ -47,7 +47,7 @@ abbrev pub IsPiece : List ℕ → Type 0
 IsPiece bytes = (1 ≤ length bytes) × (length bytes ≤ PIECE)
 
 -- From old, this turn is made: out is written to the connection, and new is left.
-abbrev pub Made : HubState → Turn → List ℕ → HubState → Type 0
+abbrev pub Made : HubState → ConnectionTurn → List ℕ → HubState → Type 0
 Made old (fed conn bytes) out new = Done old (piece conn bytes) out new × IsPiece bytes
 Made old (ended conn) out new = Done old (close conn) out new
 Made old (unread conn) out new = Done old (cut conn) out new

@@ -8,7 +8,7 @@ use Rattle.mi_protocol.specs.declared.binding.Command.TheVariants as command
 use Rattle.mi_commands.specs.Holder.{HeldDatabase}
 use Rattle.mi_commands.specs.Performed.{performed}
 use Rattle.mi_commands.specs.Answer.{done_without, GivenOrMemory}
-use Rattle.mi_commands.proofs.executor.Executor.perform.Goals as goal
+use Rattle.mi_commands.proofs.executor.Executor.perform_lent.Goals as goal
 
 -- what may lack memory may, where the command may
 may_lack : {A : Type 0} (a : Said × HeldDatabase) (s : HeldDatabase) (reply : List ℕ) (t : HeldDatabase) → A
@@ -34,3 +34,9 @@ returns-in-UpperRank g c =
     (may_lack (asks c.in-UpperRank.key) c.args.self.now (text_bytes c.upper_rank.result) c.args.self.now refl
     (subst (λ key. GivenOrMemory (Unit {0}) (asks key) c.args.self.now (text_bytes c.upper_rank.result) c.args.self.now)
     c.values-in-UpperRank.ensures c.upper_rank.ensures))
+
+pub returns-in-Rank : goal.returns-in-Rank
+returns-in-Rank g c =
+    subst
+    (λ k. GivenOrMemory (done_without k ≡ false) (performed c.args.self.now c.args.conn k) c.args.self.now (text_bytes c.rank.result) c.args.self.now)
+    (sym c.in-Rank.is) (inl c.rank.ensures)
