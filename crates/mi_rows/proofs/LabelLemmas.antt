@@ -18,6 +18,8 @@ use Rattle.arrayvec.specs.ArrayVec.{ArrayVec}
 use Rattle.mi_rows.specs.Rows.{row_members, value_data}
 use Rattle.mi_rows.specs.Shown.{first_data, source_data, shown_members, with_member}
 use Rattle.mi_rows.specs.Labels.{labels_in, labelled_text, texts_room, text_room, first_room, source_room, labels_room, members_room, LabelShape, AreLabels}
+use Rattle.mi_value.specs.Block.{texts_length}
+use Rattle.mi_value.specs.declared.value.Value.TheVariants.{Int, Text, Flag}
 use Rattle.mi_rows.specs.declared.shown.Member.{Member}
 
 pub integer_text : (z : ℤ) → compact_text (number (of_integer z)) ≡ signed_decimal z
@@ -103,3 +105,10 @@ room_there cells i v there is = ap first_room (cell_there cells i v there is)
 pub data_of_cell : (cells : List ValueRef) (i : ℕ) (v : ValueRef) → i < length cells → v ≡ get_or cells i v
     → first_data (drop i (map lent cells)) ≡ value_data (lent v)
 data_of_cell cells i v there is = ap first_data (cell_there cells i v there is)
+
+-- the room for texts by the bytes of the texts
+pub six_times : (vs : List Value) → texts_room vs ≡ 6 * texts_length vs
+six_times [] = refl
+six_times (Int n ∷ vs) = omega (arith, six_times vs)
+six_times (Text bytes ∷ vs) = omega (arith, six_times vs)
+six_times (Flag b ∷ vs) = omega (arith, six_times vs)

@@ -1,2 +1,3 @@
-pub mod LabelLemmas
-pub mod ShownLemmas
+mod LabelLemmas
+mod PlacedLemmas
+mod ShownLemmas

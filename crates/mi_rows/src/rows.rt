@@ -1,6 +1,6 @@
 //! Rows to text: what is the same in each is prepared once for all of them, and each is put behind the last into room that is there. A few
 //! rows, short ones, and such as no schema has, go the way of `shown`.
-ghost use Rattle.std.specs.Prelude.{◌≡◌, ◌∷◌, ◌++◌, ◌+◌, ◌≤◌, [], ℕ, List, false, true, length, map, nat_lt, take, codes, vec_len, IfOk};
+ghost use Rattle.std.specs.Prelude.{◌≡◌, ◌∷◌, ◌++◌, ◌+◌, ◌*◌, ◌≤◌, [], ℕ, List, false, true, drop, length, map, nat_lt, take, codes, vec_len, IfOk, IfSome};
 ghost use Rattle.std.specs.List.{list_all};
 ghost use Rattle.json.specs.Filled.{Placed};
 ghost use Rattle.mi_value.specs.Lent.{lent};
@@ -12,15 +12,15 @@ ghost use Rattle.mi_rows.specs.Rows as rows;
 ghost use Rattle.mi_rows.specs.Rows.{row_data, rows_items};
 ghost use Rattle.mi_rows.specs.Shown as shown;
 ghost use Rattle.mi_rows.specs.Shown.{source_data};
-ghost use Rattle.mi_rows.specs.Labels.{labelled_text, labels_room, source_room, text_room, AreLabels};
+ghost use Rattle.mi_rows.specs.Labels.{labelled_text, labels_room, source_room, text_room, texts_room, AreLabels};
 
-use crate::cells::{NO_CELLS, lend_values};
+use crate::cells::{NO_CELLS, lend_values, shown};
 use crate::labels::{Label, Labels, RowLabels, labels_of};
-use crate::shown::{Source, row_by_tokens, row_text};
+use crate::shown::row_by_tokens;
 use mi_catalog::Column;
-use mi_print::{make_room, put_byte, put_comma, put_i64, put_label, put_string, put_text, put_u64};
+use mi_print::{make_room, put_byte, put_comma, put_i64, put_label, put_string, put_text};
 use mi_value::limits::MAX_PAGE;
-use mi_value::{Record, ValueRef};
+use mi_value::{Record, ValueRef, Values};
 use std::alloc::{AllocError, Global};
 
 /// Room for the text of a reply that shows rows, beside that of the rows, and for texts of the last.
@@ -34,6 +34,15 @@ const SHORT_MEMBER: usize = 16;
 
 /// Room for a member of a row beside the bytes of its text: the longest name and the longest number.
 const MEMBER: usize = 64;
+
+/// A byte of a text, escaped.
+const ESCAPED: usize = 6;
+
+/// A record of a table has fewer bytes: 16 values of a tag, a length and 1,024 bytes.
+const LONG_RECORD: usize = 65536;
+
+/// The text before the row of a reply.
+static ROW_FRONT: [u8; 17] = *b"{\"ok\":true,\"row\":";
 
 /// Puts true or false.
 #[inline(always)]
@@ -63,34 +72,27 @@ fn put_value(buf: &mut [u8], at: usize, value: ValueRef<'_>) -> usize
     }
 }
 
-/// Puts what stands at a place of a row; null where the row is too short for it.
+/// Puts a member with what stands before it; none where there is no value for it.
 #[inline(always)]
-fn put_source(buf: &mut [u8], at: usize, id: u64, cells: &[ValueRef<'_>], source: Source) -> usize
-    requires { at + 21 + source_room (map lent cells.now) source ≤ length buf.old }
-    ensures value { Placed buf.old buf.new at (compact_text (source_data id (map lent cells.now) source)) result }
-    ensures bound { result ≤ at + 21 + source_room (map lent cells.now) source }
-{
-    match source {
-        Source::Id => put_u64(buf, at, id),
-        Source::Column(i) => match cells.get(i) {
-            Some(value) => put_value(buf, at, *value),
-            None => put_text(buf, at, b"null"),
-        },
-    }
-}
-
-/// Puts a member with what stands before it.
-#[inline(always)]
-fn put_member(buf: &mut [u8], at: usize, id: u64, cells: &[ValueRef<'_>], label: &Label) -> usize
+fn put_member(
+    buf: &mut [u8],
+    at: usize,
+    id: u64,
+    cells: &[ValueRef<'_>],
+    label: &Label,
+) -> Option<usize>
     requires { at + 64 + source_room (map lent cells.now) label.now.source ≤ length buf.old }
-    ensures value { Placed buf.old buf.new at (label.now.text ++ compact_text (source_data id (map lent cells.now) label.now.source)) result }
-    ensures bound { result ≤ at + 64 + source_room (map lent cells.now) label.now.source }
+    ensures value { IfSome result (λ end. Placed buf.old buf.new at (label.now.text ++ compact_text (source_data id (map lent cells.now) label.now.source)) end) }
+    ensures bound { IfSome result (λ end. end ≤ at + 64 + source_room (map lent cells.now) label.now.source) }
+    ensures kept { take at buf.new ≡ take at buf.old }
 {
     let begun = put_label(buf, at, &label.bytes, label.len);
-    put_source(buf, begun, id, cells, label.source)
+    let value = shown(id, cells, label.source)?;
+    Some(put_value(buf, begun, value))
 }
 
-/// Puts a row behind a comma, if there is one before it.
+/// Puts a row behind a comma, if there is one before it; none where there is no value for a member. Then nothing is said of the bytes from
+/// that place on.
 #[inline(always)]
 fn put_row(
     buf: &mut [u8],
@@ -99,16 +101,74 @@ fn put_row(
     id: u64,
     cells: &[ValueRef<'_>],
     labels: &[Label],
-) -> usize
+) -> Option<usize>
     requires { at + labels_room (map lent cells.now) labels.now + 3 ≤ length buf.old }
-    ensures value { Placed buf.old buf.new at (comma_if later ++ labelled_text id (map lent cells.now) labels.now) result }
-    ensures bound { result ≤ at + labels_room (map lent cells.now) labels.now + 2 }
+    ensures value { IfSome result (λ end. Placed buf.old buf.new at (comma_if later ++ labelled_text id (map lent cells.now) labels.now) end) }
+    ensures kept { take at buf.new ≡ take at buf.old }
 {
     let mut end = put_comma(buf, at, later);
     'members: for label in labels {
-        end = put_member(buf, end, id, cells, label);
+        end = put_member(buf, end, id, cells, label)?;
     }
-    put_byte(buf, end, b'}')
+    Some(put_byte(buf, end, b'}'))
+}
+
+/// The room for a row by labels, with a comma before it; none for a record that is longer than any of a table.
+#[inline(always)]
+fn room_for(row: &Values<'_>, columns: &[Column]) -> Option<usize>
+    requires { length columns.now ≤ MAX_COLUMNS }
+    ensures enough { IfSome result (λ n. 64 * (length columns.now + 1) + texts_room row.now + 3 ≤ n) }
+    ensures bound { IfSome result (λ n. n ≤ 400000) }
+{
+    let bytes = row.byte_count();
+    if bytes > LONG_RECORD {
+        return None;
+    }
+    Some(MEMBER * (columns.len() + 1) + ESCAPED * bytes + 3)
+}
+
+/// Puts a row by its labels behind the first bytes of a vector, behind a comma, if there is one before it, and answers how many bytes
+/// count then. None where there are no labels, where the record is longer than any of a table, where it has fewer values than columns,
+/// and where its id is no signed number.
+#[inline(always)]
+fn add_labelled<'a>(
+    text: &mut Vec<u8>,
+    len: usize,
+    later: bool,
+    id: u64,
+    row: &'a Record,
+    columns: &[Column],
+    labels: &Option<Labels>,
+    cells: &mut [ValueRef<'a>],
+) -> Result<Option<usize>, AllocError>
+    requires few { length columns.now ≤ MAX_COLUMNS }
+    requires places { length cells.old ≤ MAX_COLUMNS }
+    requires within { len ≤ vec_len text.old }
+    requires labels { AreLabels columns.now labels.now }
+    ensures text { IfOk result (λ added. IfSome added (λ end. take end text.new.items
+        ≡ take len text.old.items ++ (comma_if later ++ compact_text (row_data columns.now id row.now)))) }
+    ensures within { IfOk result (λ added. IfSome added (λ end. end ≤ vec_len text.new)) }
+    ensures kept { take len text.new.items ≡ take len text.old.items }
+    ensures len { len ≤ vec_len text.new }
+{
+    let (Some(labels), Some(room)) = (labels, room_for(&row.values(), columns)) else {
+        return Ok(None);
+    };
+    let Some(count) = lend_values(row, cells) else {
+        return Ok(None);
+    };
+    if count < columns.len() {
+        return Ok(None);
+    }
+    make_room(text, len, room)?;
+    Ok(put_row(
+        text.as_mut_slice(),
+        len,
+        later,
+        id,
+        &cells[..count],
+        labels.as_slice(),
+    ))
 }
 
 /// Adds the text of a row behind a comma, if there is one before it, token by token.
@@ -146,25 +206,15 @@ fn add_row<'a>(
     cells: &mut [ValueRef<'a>],
 ) -> Result<usize, AllocError>
     requires few { length columns.now ≤ MAX_COLUMNS }
-    requires cells { length cells.old ≤ MAX_COLUMNS }
+    requires places { length cells.old ≤ MAX_COLUMNS }
     requires within { len ≤ vec_len text.old }
     requires labels { AreLabels columns.now labels.now }
     ensures text { IfOk result (λ end. take end text.new.items
         ≡ take len text.old.items ++ (comma_if later ++ compact_text (row_data columns.now id row.now))) }
     ensures within { IfOk result (λ end. end ≤ vec_len text.new) }
 {
-    if let (Some(labels), Some(lent)) = (labels, lend_values(row, cells)) {
-        if lent.count >= columns.len() {
-            make_room(text, len, MEMBER * (columns.len() + 1) + lent.room + 3)?;
-            return Ok(put_row(
-                text.as_mut_slice(),
-                len,
-                later,
-                id,
-                &cells[..lent.count],
-                labels.as_slice(),
-            ));
-        }
+    if let Some(end) = add_labelled(text, len, later, id, row, columns, labels, cells)? {
+        return Ok(end);
     }
     text.truncate(len);
     add_slowly(alloc, text, later, id, row, columns)
@@ -296,36 +346,6 @@ pub fn rows_text_with(
     }
 }
 
-/// Puts the reply that shows a row of these values at the beginning of a buffer.
-#[inline(always)]
-fn put_reply(buf: &mut [u8], id: u64, cells: &[ValueRef<'_>], labels: &[Label]) -> usize
-    requires { labels_room (map lent cells.now) labels.now + 21 ≤ length buf.old }
-    ensures { Placed buf.old buf.new 0 ((codes "{\"ok\":true,\"row\":" ++ labelled_text id (map lent cells.now) labels.now) ++ codes "}") result }
-{
-    let begun = put_text(buf, 0, b"{\"ok\":true,\"row\":");
-    let closed = put_row(buf, begun, false, id, cells, labels);
-    put_byte(buf, closed, b'}')
-}
-
-/// The text of the reply that shows a row of these values, by labels that fit into this room. All its memory is asked for at once.
-fn labelled_row(
-    alloc: Global,
-    id: u64,
-    cells: &[ValueRef<'_>],
-    labels: &[Label],
-    room: usize,
-) -> Result<Vec<u8>, AllocError>
-    requires fits { labels_room (map lent cells.now) labels.now ≤ room }
-    requires bound { room ≤ 100000 }
-    ensures { IfOk result (λ t. t.items ≡ (codes "{\"ok\":true,\"row\":" ++ labelled_text id (map lent cells.now) labels.now) ++ codes "}") }
-{
-    let mut text = Vec::new(alloc);
-    make_room(&mut text, 0, room + 21)?;
-    let end = put_reply(text.as_mut_slice(), id, cells, labels);
-    text.truncate(end);
-    Ok(text)
-}
-
 /// The text of `row_text`, with labels that were made of these columns before.
 pub fn row_text_with(
     alloc: Global,
@@ -340,13 +360,21 @@ pub fn row_text_with(
         ≡ compact_text (object (member (codes "ok") (boolean true) (member (codes "row") (row_data columns.now id row.now) no_members)))) }
 {
     let mut cells = NO_CELLS;
-    if let (Some(labels), Some(lent)) = (labels.members(), lend_values(row, &mut cells)) {
-        if lent.count >= columns.len() {
-            let room = MEMBER * (columns.len() + 1) + lent.room;
-            let cells = &cells[..lent.count];
-            let text = labelled_row(alloc, id, cells, labels.as_slice(), room)?;
-            return Ok(text);
-        }
-    }
-    row_text(alloc, id, row, columns)
+    let room = room_for(&row.values(), columns).unwrap_or(0);
+    let mut text = Vec::with_capacity(alloc, ROW_FRONT.len() + room)?;
+    text.extend_from_slice(&ROW_FRONT)?;
+    let end = add_row(
+        alloc,
+        &mut text,
+        ROW_FRONT.len(),
+        false,
+        id,
+        row,
+        columns,
+        labels.members(),
+        &mut cells,
+    )?;
+    text.truncate(end);
+    text.push(b'}')?;
+    Ok(text)
 }

@@ -1,17 +1,17 @@
 -- What the bytes of a record hold.
 use Rattle.std.proofs.Common.{◌≡◌, ◌≤◌, ◌<◌, ◌+◌, ◌++◌, ◌^◌, ℕ, true, false, FitsSigned, zero, suc, ℤ, Option, Some, None}
-use Rattle.std.proofs.Common.{List, [], ◌∷◌, length, take, drop, if◌then◌else◌, Bool, Result, Ok, Err, is_ok, OnOk, refl, ap, sym, ◌∙◌, arith}
+use Rattle.std.proofs.Common.{List, [], ◌∷◌, length, take, drop, if◌then◌else◌, Bool, Result, Ok, Err, is_ok, OnOk, IfSome, nat_lt, ◌-◌, ◌==◌, ◌⊎◌, inl, inr, refl, ap, sym, ◌∙◌, arith}
 use Rattle.std.specs.Int.{w32, w64, from_le_bytes, to_le_bytes, cast_signed, cast_unsigned}
-use Rattle.std.proofs.lemmas.Bool.{le-ltb}
+use Rattle.std.proofs.lemmas.Bool.{le-ltb, ltb-false}
 use Rattle.std.proofs.lemmas.Int.{to_z-of_z}
-use Rattle.std.proofs.lemmas.List.{append-nil, append_assoc, length-append, drop_at}
+use Rattle.std.proofs.lemmas.List.{append-nil, append_assoc, length-append, drop_at, length-take}
 use Rattle.std.proofs.lemmas.Nat.{from_le_bytes-to_le_bytes_4, from_le_bytes-to_le_bytes_8}
 use Rattle.std.proofs.Math.Facts.{Fits-of_z, Fits-lt-pow}
 use Rattle.std.proofs.Math.Seq.{take-append_seam}
 use Rattle.mi_value.specs.declared.value.Value.{Value}
 use Rattle.mi_value.specs.declared.value.Value.TheVariants.{Int, Text, Flag}
 use Rattle.mi_value.specs.Block.{packed_value, packed, IsPackable, ArePackable, int_at, text_of_length, text_at}
-use Rattle.mi_value.specs.Block.{value_at, begun_by, unpacked_behind, unpacked, BeginsWith, IsText, HasTexts}
+use Rattle.mi_value.specs.Block.{value_at, begun_by, unpacked_behind, unpacked, text_length, texts_length, BeginsWith, IsText, HasTexts}
 
 behind : (n : ℕ) (bs : List ℕ) → unpacked_behind n bs ≡ unpacked (drop n bs)
 behind zero bs = refl
@@ -48,6 +48,45 @@ within_behind zero (b ∷ bs) = within_begun (value_at b bs) bs (λ n. within_be
 
 pub within : (bs : List ℕ) → length (unpacked bs) ≤ length bs
 within bs = within_behind 0 bs
+
+-- the texts are no longer than the bytes that hold them
+abbrev TextFits : Option (Value × ℕ) → List ℕ → Type 0
+TextFits first bs = IfSome first (λ p. (text_length p.0 ≤ p.1) × ((text_length p.0 ≡ 0) ⊎ (p.1 ≤ length bs)))
+
+unless : (b : Bool) (first : Value × ℕ) (bs : List ℕ) → (b ≡ false → TextFits (Some first) bs) → TextFits (if b then None else Some first) bs
+unless true first bs fits = tt
+unless false first bs fits = fits refl
+
+either_fits : (b : Bool) (x y : Option (Value × ℕ)) (bs : List ℕ) → TextFits x bs → TextFits y bs → TextFits (if b then x else y) bs
+either_fits true x y bs fits others = fits
+either_fits false x y bs fits others = others
+
+text_fits : (n : ℕ) (bs : List ℕ) → TextFits (text_of_length n bs) bs
+text_fits n bs = unless (nat_lt (length bs) (4 + n)) (Text (take n (drop 4 bs)), 4 + n) bs (λ long.
+    let taken = length-take n (drop 4 bs) in
+    (omega (arith, taken), inr (ltb-false (length bs) (4 + n) long)))
+
+value_fits : (tag : ℕ) (bs : List ℕ) → TextFits (value_at tag bs) bs
+value_fits tag bs =
+    either_fits (tag == 0) _ _ bs (unless (nat_lt (length bs) 8) _ bs (λ long. (omega arith, inl refl)))
+    (either_fits (tag == 1) _ _ bs (text_fits (from_le_bytes w32 (take 4 bs)) bs)
+    (either_fits (tag == 2) _ _ bs (omega arith, inl refl) (either_fits (tag == 3) _ _ bs (omega arith, inl refl) tt)))
+
+begun_fits : (first : Option (Value × ℕ)) (bs : List ℕ) → TextFits first bs → ((n : ℕ) → texts_length (unpacked_behind n bs) ≤ length bs - n)
+    → texts_length (begun_by first (λ n. unpacked_behind n bs)) ≤ suc (length bs)
+begun_fits None bs fits behind = omega arith
+begun_fits (Some p) bs fits behind = elim fits.1 [
+  | inl none ↦ omega (arith, none, behind p.1)
+  | inr within ↦ omega (arith, fits.0, within, behind p.1)
+]
+
+behind_fits : (n : ℕ) (bs : List ℕ) → texts_length (unpacked_behind n bs) ≤ length bs - n
+behind_fits n [] = omega arith
+behind_fits (suc n) (b ∷ bs) = omega (arith, behind_fits n bs)
+behind_fits zero (b ∷ bs) = omega (arith, begun_fits (value_at b bs) bs (value_fits b bs) (λ n. behind_fits n bs))
+
+pub texts_fit : (bs : List ℕ) → texts_length (unpacked bs) ≤ length bs
+texts_fit bs = omega (arith, behind_fits 0 bs)
 
 -- a text is one, where the bytes hold texts
 pub is_text : (bytes : List ℕ) (tag : ℕ) (content : List ℕ) → bytes ≡ tag ∷ content → HasTexts (unpacked bytes)

@@ -72,3 +72,13 @@ IsPackable (Flag b) = ⊤
 
 abbrev pub ArePackable : List Value → Type 0
 ArePackable vs = AllByRecursion IsPackable vs
+
+-- the bytes of the texts among values
+abbrev pub text_length : Value → ℕ
+text_length (Int n) = 0
+text_length (Text bytes) = length bytes
+text_length (Flag b) = 0
+
+abbrev pub texts_length : List Value → ℕ
+texts_length [] = 0
+texts_length (v ∷ vs) = text_length v + texts_length vs

@@ -5,7 +5,7 @@ ghost use Rattle.mi_value.specs.Edits as meaning;
 ghost use Rattle.mi_value.specs.Numbers.{IsMade};
 ghost use Rattle.mi_value.specs.declared.value.Value.TheVariants.{Int};
 
-use crate::record::{InPlace, Record};
+use crate::record::{self, InPlace, Record};
 use crate::refusal::Refusal;
 use crate::value::{Value, ValueRef};
 use std::alloc::Global;
@@ -24,7 +24,7 @@ fn sum(value: Option<&ValueRef<'_>>, n: i64) -> Option<i64>
     ensures { option_map Int result ≡ meaning.add_to (option_map (λ v. lent v.now) value.entry) n }
 {
     match value {
-        Some(ValueRef::Int(m)) => m.checked_add(n),
+        Some(ValueRef::Int(m)) => record::sum(*m, n),
         _ => None,
     }
 }

@@ -109,8 +109,7 @@ fn split_value<'a>(tag: u8, bytes: &'a [u8]) -> Option<(ValueRef<'a>, &'a [u8])>
                 rest,
             ))
         }
-        FALSE => Some((ValueRef::Flag(false), bytes)),
-        TRUE => Some((ValueRef::Flag(true), bytes)),
+        FALSE | TRUE => Some((ValueRef::Flag(tag == TRUE), bytes)),
         _ => None,
     }
 }
@@ -127,6 +126,19 @@ impl<'a> Iterator for Values<'a> {
         let (value, rest) = split_value(*tag, content)?;
         self.bytes = rest;
         Some(value)
+    }
+}
+
+impl<'a> Values<'a> {
+    ghost use Rattle.std.specs.Prelude.{◌≤◌};
+    ghost use Rattle.mi_value.specs.Block.{texts_length};
+
+    /// How many bytes hold the values that are left, no fewer than those of their texts. It takes no longer for more of them.
+    #[inline]
+    pub fn byte_count(&self) -> usize
+        ensures { texts_length self.now ≤ result }
+    {
+        self.bytes.len()
     }
 }
 
