@@ -67,8 +67,13 @@ impl Accounts {
         }
         let row = account(alloc, owner, balance, vip).ok()?;
         self.rows.keeps_rules();
-        let inserted = self.rows.insert(alloc, row, None).ok()?;
-        Some(inserted.id)
+        match self.rows.insert(alloc, row, None) {
+            Ok((id, inverse)) => {
+                self.rows.settle(inverse);
+                Some(id)
+            }
+            Err(_) => None,
+        }
     }
 
     /// The balance of an account.

@@ -40,9 +40,13 @@ MakesModify (Some at) s e old i new = Makes s (Erase e (Some at)) old i new
 abbrev pub MeetsOn : {A : Type 0} → (Table → Outcome A) → Result A Refusal → Data → Data → Type 0
 MeetsOn outcome answer old new = Meets (outcome (as_table old)) answer (as_table old) (as_table new)
 
-abbrev pub insert_answer : {X : Type 0} → Result RowRef (Refusal × X) → Result ℕ Refusal
-insert_answer (Ok r) = Ok r.id
+abbrev pub insert_answer : {X : Type 0} → Result (ℕ × Inverse) (Refusal × X) → Result ℕ Refusal
+insert_answer (Ok p) = Ok p.0
 insert_answer (Err e) = Err e.0
+
+abbrev pub insert_row_answer : {X : Type 0} → Result RowRef (Refusal × X) → Result ℕ Refusal
+insert_row_answer (Ok r) = Ok r.id
+insert_row_answer (Err e) = Err e.0
 
 abbrev pub replace_answer : {X : Type 0} → Result Inverse (Refusal × X) → Result (Unit {0}) Refusal
 replace_answer (Ok i) = Ok tt

@@ -20,7 +20,7 @@ ghost use Rattle.mi_container.specs.Inverse.{taken_back, settled, lost_to};
 ghost use Rattle.mi_container.specs.Inverse.Inverse.{Inserted};
 ghost use Rattle.mi_container.specs.Fits.{Ready, KeptBy};
 ghost use Rattle.mi_container.specs.Run.Change.{Replace, Erase, Relocate};
-ghost use Rattle.mi_container.specs.Makes.{Makes, MakesInsert, MakesModify, MeetsOn, insert_answer, replace_answer, erase_answer, modify_answer, IsNoLoss};
+ghost use Rattle.mi_container.specs.Makes.{Makes, MakesInsert, MakesModify, MeetsOn, insert_answer, insert_row_answer, replace_answer, erase_answer, modify_answer, IsNoLoss};
 
 use crate::inverse::{Inverse, RowRef};
 use mi_catalog::Schema;
@@ -29,8 +29,7 @@ use std::alloc::{AllocError, Global};
 
 /// The rows of one table under its indexes.
 ///
-/// Each accepted change answers its inverse; an insert answers the row, of which `Undo::Inserted` is the inverse: who notes none
-/// lays none down. Of a change the clause `outcome` says what it means to the table, and `made`
+/// Each accepted change answers its inverse. Of a change the clause `outcome` says what it means to the table, and `made`
 /// which change of the data it was, and that the answer is its inverse. A refused change leaves the data as they were.
 ///
 /// `held` has the ids that stand in the nodes of the container's pool, one for each node: what memory has, and not what
@@ -64,7 +63,7 @@ pub trait Container: Drop {
         ensures held { IfOk result (λ made. held made ≡ []) }
         ensures secrets { IfOk result (λ made. secrets made ≡ opened_secrets secret schema) };
 
-    /// Adds a record and answers its row. It goes last in each index among its equals; in the sequenced index that `before`
+    /// Adds a record and answers its id. It goes last in each index among its equals; in the sequenced index that `before`
     /// names it stands directly before the record that `before` names.
     ///
     /// Refusals, in this order: `NoId`, `Full`, `Spent`, `Unique`, `Memory`. The refused record is handed back.
@@ -73,10 +72,25 @@ pub trait Container: Drop {
         alloc: Global,
         row: Record,
         before: Option<(usize, u64)>,
-    ) -> Result<RowRef, (Refusal, Record)>
+    ) -> Result<(u64, Inverse), (Refusal, Record)>
         requires row { RecordFits (shape self.old) row }
         requires before { IfSome before (λ at. IsSequenced (shape self.old) at.0) }
         ensures outcome { MeetsOn (insert_outcome (shape self.old) before row) (insert_answer result) (plain self.old) (plain self.new) }
+        ensures made { IfOk result (λ p. MakesInsert (shape self.old) before row (plain self.old) p.1 (plain self.new)) }
+        ensures refused { IfErr result (λ e. plain self.new ≡ plain self.old) }
+        ensures handed_back { IfErr result (λ e. e.1 ≡ row) }
+        ensures shape { shape self.new ≡ shape self.old };
+
+    /// `insert`, without its inverse, which is `Undo::Inserted` of the row that it answers: who notes none lays none down.
+    fn insert_row(
+        &mut self,
+        alloc: Global,
+        row: Record,
+        before: Option<(usize, u64)>,
+    ) -> Result<RowRef, (Refusal, Record)>
+        requires row { RecordFits (shape self.old) row }
+        requires before { IfSome before (λ at. IsSequenced (shape self.old) at.0) }
+        ensures outcome { MeetsOn (insert_outcome (shape self.old) before row) (insert_row_answer result) (plain self.old) (plain self.new) }
         ensures made { IfOk result (λ r. MakesInsert (shape self.old) before row (plain self.old) (Inserted (row_seen r)) (plain self.new)) }
         ensures refused { IfErr result (λ e. plain self.new ≡ plain self.old) }
         ensures handed_back { IfErr result (λ e. e.1 ≡ row) }

@@ -69,7 +69,7 @@ impl<C: Container> Sessions for Linked<C> {
         if self.make_room(1).is_err() {
             return Err((Refusal::Memory, row));
         }
-        match self.containers[table].insert(alloc, row, before) {
+        match self.containers[table].insert_row(alloc, row, before) {
             Ok(inserted) => {
                 let id = inserted.id;
                 keep_inserted(&mut self.journal, table, inserted);

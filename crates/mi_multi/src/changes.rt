@@ -5,7 +5,7 @@ ghost use Rattle.mi_model.specs.Table.{has as has_row};
 ghost use Rattle.mi_model.specs.Verdict.{has_place, insert_refusal, insert_outcome};
 ghost use Rattle.mi_container.specs.Asked.{IsSequenced, RecordFits};
 ghost use Rattle.mi_container.specs.Data.{IsData, as_table};
-ghost use Rattle.mi_container.specs.Makes.{MakesInsert, MeetsOn, insert_answer};
+ghost use Rattle.mi_container.specs.Makes.{MakesInsert, MeetsOn, insert_answer, insert_row_answer};
 ghost use Rattle.mi_container.specs.Inverse.{taken_back, settled};
 ghost use Rattle.mi_container.specs.Inverse.Inverse.{Inserted, Relocated};
 ghost use Rattle.mi_container.specs.Fits.{Ready, KeptBy};
@@ -134,7 +134,7 @@ impl MultiIndex {
         unique_refusal(self.conflict(row, None))
     }
 
-    /// Adds a record and answers its row. It goes last in each index among its equals; in the sequenced index that `before`
+    /// Adds a record and answers its id. It goes last in each index among its equals; in the sequenced index that `before`
     /// names it stands directly before the record that `before` names.
     ///
     /// Refusals, in this order: `NoId`, `Full`, `Spent`, `Unique`, `Memory`. The refused record is handed back.
@@ -143,10 +143,34 @@ impl MultiIndex {
         alloc: Global,
         row: Record,
         before: Option<(usize, u64)>,
-    ) -> Result<RowRef, (Refusal, Record)>
+    ) -> Result<(u64, Inverse), (Refusal, Record)>
         requires row { RecordFits self.old.shape row }
         requires before { IfSome before (λ at. IsSequenced self.old.shape at.0) }
         ensures outcome { MeetsOn (insert_outcome self.old.shape before row) (insert_answer result) self.old.plain self.new.plain }
+        ensures made { IfOk result (λ p. MakesInsert self.old.shape before row self.old.plain p.1 self.new.plain) }
+        ensures refused { IfErr result (λ e. self.new.plain ≡ self.old.plain) }
+        ensures handed_back { IfErr result (λ e. e.1 ≡ row) }
+        ensures shape { self.new.shape ≡ self.old.shape }
+    {
+        match self.insert_row(alloc, row, before) {
+            Ok(inserted) => {
+                let id = inserted.id;
+                Ok((id, Inverse::new(Undo::Inserted(inserted))))
+            }
+            Err(refused) => Err(refused),
+        }
+    }
+
+    /// `insert`, without its inverse, which is `Undo::Inserted` of the row that it answers: who notes none lays none down.
+    pub fn insert_row(
+        &mut self,
+        alloc: Global,
+        row: Record,
+        before: Option<(usize, u64)>,
+    ) -> Result<RowRef, (Refusal, Record)>
+        requires row { RecordFits self.old.shape row }
+        requires before { IfSome before (λ at. IsSequenced self.old.shape at.0) }
+        ensures outcome { MeetsOn (insert_outcome self.old.shape before row) (insert_row_answer result) self.old.plain self.new.plain }
         ensures made { IfOk result (λ r. MakesInsert self.old.shape before row self.old.plain (Inserted (row_seen r)) self.new.plain) }
         ensures refused { IfErr result (λ e. self.new.plain ≡ self.old.plain) }
         ensures handed_back { IfErr result (λ e. e.1 ≡ row) }

@@ -31,8 +31,17 @@ impl Container for MultiIndex {
         alloc: Global,
         row: Record,
         before: Option<(usize, u64)>,
-    ) -> Result<RowRef, (Refusal, Record)> {
+    ) -> Result<(u64, Inverse), (Refusal, Record)> {
         self.insert(alloc, row, before)
+    }
+
+    fn insert_row(
+        &mut self,
+        alloc: Global,
+        row: Record,
+        before: Option<(usize, u64)>,
+    ) -> Result<RowRef, (Refusal, Record)> {
+        self.insert_row(alloc, row, before)
     }
 
     fn replace(&mut self, id: u64, row: Record) -> Result<Inverse, (Refusal, Record)> {

@@ -5,7 +5,7 @@ ghost use Rattle.test_container.specs.Journaled.{CanGoBack};
 
 use super::fitting::fits_edits;
 use mi_catalog::Schema;
-use mi_container::{Container, Inverse, Undo};
+use mi_container::{Container, Inverse};
 use mi_journal::Journal;
 use mi_multi::MultiIndex;
 use mi_schema::read_schema;
@@ -78,9 +78,13 @@ impl<C: Container> Journaled<C> {
         assert!(rt; self.journal.depth() > 0);
         self.rows.keeps_rules();
         assert!(rt; self.fits(&row));
-        let inserted = self.rows.insert(alloc, row, None).ok()?;
-        self.journal.note(0, Inverse::new(Undo::Inserted(inserted)));
-        Some(inserted.id)
+        match self.rows.insert(alloc, row, None) {
+            Ok((id, inverse)) => {
+                self.journal.note(0, inverse);
+                Some(id)
+            }
+            Err(_) => None,
+        }
     }
 
     /// Changes columns of a record, without rollback, and notes the inverse. Answers whether it isn't refused.

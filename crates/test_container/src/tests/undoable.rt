@@ -9,7 +9,7 @@ ghost use Rattle.test_container.specs.Undone.{CanTakeBack};
 use super::change::Answer;
 use super::fitting::{fits_edits, is_hashed, is_keyed, is_listed, is_sequenced, is_sorted};
 use mi_catalog::Schema;
-use mi_container::{Container, Inverse, Undo};
+use mi_container::{Container, Inverse};
 use mi_value::{Edit, Record, Refusal, Steps, Value};
 use std::alloc::{AllocError, Global};
 use std::collections::VecDeque;
@@ -149,13 +149,13 @@ impl<C: Container> Undoable<C> {
         self.rows.keeps_rules();
         assert!(rt; self.fits(&row));
         self.want_place(rt, before);
-        let inserted = match self.rows.insert(alloc, row, before) {
-            Ok(inserted) => inserted,
-            Err((refusal, _)) => return Err(refusal),
-        };
-        let inverse = Inverse::new(Undo::Inserted(inserted));
-        self.inverses.push_back_reserved(inverse);
-        Ok(Some(inserted.id))
+        match self.rows.insert(alloc, row, before) {
+            Ok((id, inverse)) => {
+                self.inverses.push_back_reserved(inverse);
+                Ok(Some(id))
+            }
+            Err((refusal, _)) => Err(refusal),
+        }
     }
 
     /// Sets another record.

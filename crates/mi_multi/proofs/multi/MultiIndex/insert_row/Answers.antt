@@ -4,7 +4,7 @@ use Rattle.mi_container.specs.Data.{as_table}
 use Rattle.mi_container.specs.Run.Change.{Insert}
 use Rattle.mi_container.proofs.LawLemmas.{change_is_tables}
 use Rattle.mi_multi.proofs.AcceptLemmas.{insert_refused, insert_meets}
-use Rattle.mi_multi.proofs.multi.MultiIndex.insert.Goals as goal
+use Rattle.mi_multi.proofs.multi.MultiIndex.insert_row.Goals as goal
 
 pub returns-in-Some-clause-outcome : goal.returns-in-Some-clause-outcome
 returns-in-Some-clause-outcome c = insert_refused c.args.self.now.shape c.args.before c.args.row
