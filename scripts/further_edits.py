@@ -5,8 +5,8 @@
     further_edits.py --check        whether each further one still applies: each old text stands once in its file. It proves nothing
 
 The gate tries the edits in `crates/NAME/must-fail`. What stands in `crates/NAME/further-edits` has the same form, turns what an edit of the
-gate turns in another way or in a call that mirrors it, and is tried here. The further ones are copied beside the others for the time of a
-run, under names that begin with `further-`. Status 1 where one doesn't apply or was proved."""
+gate turns in another way or in a call that mirrors it, or a clause that a crate above is proved with, and is tried here. The further ones are
+copied beside the others for the time of a run, under names that begin with `further-`. Status 1 where one doesn't apply or was proved."""
 import argparse
 import glob
 import os
