@@ -51,6 +51,7 @@ def kinds_over(rows):
         ("insert, unique", line("insert", row=row(7, rows)), '"unique"'),
         ("range, empty", line("range", index="by_balance", lower={"ge": [rows + 7]}, limit=10), '"rows":[]'),
         ("range of 10", line("range", index="by_balance", lower={"ge": [7]}, limit=10), '"rows":[{'),
+        ("range of 1,000", line("range", index="by_balance", lower={"ge": [7]}, limit=1000), '"rows":[{'),
     ]
     found = [(name, lambda _, it=it: it, holds) for name, it, holds in same]
     changed = ("start", "modify", "undo")
