@@ -201,7 +201,7 @@ class Database {
     const ran = spawn(program, schema ? ["--schema", schema] : [], { stdio: ["pipe", "pipe", "pipe"] });
     let said = "";
     ran.stderr.on("data", (bytes) => (said += bytes));
-    const channel = new Channel(new Held(ran.stdout), ran.stdin, window);
+    const channel = new Channel(new Held(ran.stdout), new Held(ran.stdin), window);
     const closed = new Promise((resolve) => {
       ran.on("error", (error) => {
         channel.end(error.message);
@@ -458,14 +458,20 @@ class Database {
   }
 }
 
-/** The output of a program, whose end is told by the program's own: then its status is known, and what it said. */
+/** A stream of a program, whose end or fault is told by the program's own end: then its status is known, and what it said. A program that
+ * ends at once leaves a pipe that can't be written before that. */
 class Held {
   constructor(stream) {
     this.stream = stream;
+    stream.on("error", () => {});
   }
 
   on(event, call) {
-    if (event !== "close") this.stream.on(event, call);
+    if (event === "data") this.stream.on(event, call);
+  }
+
+  write(text) {
+    this.stream.write(text);
   }
 }
 

@@ -133,7 +133,8 @@ impl<'a> Values<'a> {
     ghost use Rattle.std.specs.Prelude.{◌≤◌};
     ghost use Rattle.mi_value.specs.Block.{texts_length};
 
-    /// How many bytes hold the values that are left, no fewer than those of their texts. It takes no longer for more of them.
+    /// How many bytes hold the values that are left. Contracts know of it that the texts among them have no more bytes. It takes no longer
+    /// for more of them.
     #[inline]
     pub fn byte_count(&self) -> usize
         ensures { texts_length self.now ≤ result }
