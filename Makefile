@@ -34,7 +34,7 @@ help:
 	@echo 'make check-docs  runs what README, guide and examples print, and the tests of the Python client and of the scripts'
 	@echo 'make fuzz        random lines to the program and to a reference in Python: SEED=$(SEED) LINES=$(LINES), of which DAMAGED=$(DAMAGED) are damaged'
 	@echo 'make faults      each request for memory refused in turn on worked rows and in blocks that need none, and a server under a hard'
-	@echo '                 limit of memory (needs a C compiler; ARGS=--short is the part that the gate runs, ARGS="--row WORDS" another)'
+	@echo '                 limit of memory (needs a C compiler; ARGS=--short is the part that .ci/run runs, ARGS="--row WORDS" another)'
 	@echo 'make sanitize    the tests of the pool of nodes under AddressSanitizer, without proofs, and with each of their requests for memory refused'
 	@echo '                 in turn (needs a C compiler; ARGS=--short leaves out the test of a hundred chunks: two minutes)'
 	@echo 'make soak        CLIENTS=$(CLIENTS) loopback clients of 10,000 lines each, all replies compared; clients that read slowly, break off or'
