@@ -12,8 +12,7 @@ use Rattle.std.specs.declared.option.Option.TheVariants.{None, Some}
 use Rattle.std.specs.declared.result.Result.TheVariants.{Ok, Err}
 use Rattle.mi_value.specs.declared.value.Value.{Value}
 use Rattle.mi_value.specs.declared.refusal.Refusal.{Refusal}
-use Rattle.mi_value.specs.declared.refusal.Refusal.TheVariants.{Line, Json, Form, Busy, NoTable, Index as RIndex, Kind, Row as RRow}
-use Rattle.mi_value.specs.declared.refusal.Refusal.TheVariants.{Key, NoId, Range, Full, Spent, Unique, Lost, Depth, Session, Memory}
+use Rattle.mi_value.specs.declared.refusal.Refusal.TheVariants.{NoId, Full, Spent, Memory}
 use Rattle.mi_value.specs.declared.limits.TheConstants.{LAST_COUNT}
 use Rattle.mi_catalog.specs.declared.index.Index.{Index}
 use Rattle.mi_catalog.specs.Kinds.{is_sequenced}
@@ -109,24 +108,8 @@ module _ (s : Shape) (at : Option (ℕ × ℕ)) (r : List Value) (t : Table) whe
 -- A refusal that is the definition's is met
 
 pub refused_meets : (A : Type 0) {S : Type 0} (e : Refusal) (t : S) → MeetsRefusal {A = A} (Err e, t) e t t
-refused_meets A Line t = (refl, refl)
-refused_meets A Json t = (refl, refl)
-refused_meets A Form t = (refl, refl)
-refused_meets A Busy t = (refl, refl)
-refused_meets A NoTable t = (refl, refl)
-refused_meets A RIndex t = (refl, refl)
-refused_meets A Kind t = (refl, refl)
-refused_meets A RRow t = (refl, refl)
-refused_meets A Key t = (refl, refl)
-refused_meets A NoId t = (refl, refl)
-refused_meets A Range t = (refl, refl)
-refused_meets A Full t = (refl, refl)
-refused_meets A Spent t = (refl, refl)
-refused_meets A (Unique x e) t = (refl, refl)
-refused_meets A (Lost x e) t = (refl, refl)
-refused_meets A Depth t = (refl, refl)
-refused_meets A Session t = (refl, refl)
 refused_meets A Memory t = refl
+refused_meets A e t = (refl, refl)
 
 pub insert_refused : (s : Shape) (at : Option (ℕ × ℕ)) (r : List Value) (t : Table) (e : Refusal)
     → insert_refusal s at r t ≡ Some e → MeetsRefusal (insert_outcome s at r t) e t t

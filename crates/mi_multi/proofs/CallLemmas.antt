@@ -13,7 +13,7 @@ use Rattle.mi_catalog.specs.declared.index.IndexKind.TheVariants as kinds
 use Rattle.mi_catalog.specs.Kinds.{is_sorted, is_ranked}
 use Rattle.mi_catalog.specs.Rules.{is_schema, are_indexes}
 use Rattle.mi_catalog.specs.Shape.{Shape, index_at}
-use Rattle.mi_model.specs.Table.{has, size}
+use Rattle.mi_model.specs.Table.{Table, has, size}
 use Rattle.mi_model.specs.LookUp as look
 use Rattle.mi_model.proofs.PlaceLaws.{listed_within, sorted_listed, length-view}
 use Rattle.mi_node.specs.Pool.{Pooled, IsHeld}
@@ -85,6 +85,11 @@ module _ (i : Inside) (is : AreMulti i) {w : Seen} (seen : seen_of i ≡ w) wher
   pub id_sorted : IsTrue (is_schema i.schema) → IsSorted w.shape 0
   id_sorted rules = subst (λ (v : Seen). IsSorted v.shape 0) seen (first_sorted (length i.schema.columns) i.schema.indexes _ (indexes_kept i.schema rules))
 
+  -- what the nodes answer, the container does, of the table that contracts see
+  pub id_shown : (f : Shape → Table → Option ℕ) {o p : Option Ref} → o ≡ p → option_map (id_at m) p ≡ f i.schema (as_table (seen_of i).plain)
+      → option_map (id_at m) o ≡ f w.shape (as_table w.plain)
+  id_shown f same known_ = ap (option_map (id_at m)) same ∙ known_ ∙ ap (λ (v : Seen). f v.shape (as_table v.plain)) seen
+
   module _ (x : ℕ) {y : Structure} (at : slice_get items x ≡ Some y) where
     abbrev n : Numbered i.schema i.ids.entries m items x y
     n = numbered i.schema i.ids.entries m items i.next i.arrivals is x y at
@@ -130,26 +135,20 @@ module _ (i : Inside) (is : AreMulti i) {w : Seen} (seen : seen_of i ≡ w) wher
 
     pub first_is : {o : Option Ref} → ((qs : List Ref) → Stands y m qs → o ≡ first_of qs None)
         → option_map (id_at m) o ≡ look.first w.shape (as_table w.plain) x
-    first_is h =
-        ap (option_map (id_at m)) (h rs n.stood.stands)
-        ∙ known.first_seen i.schema i.ids.entries m items i.next i.arrivals is x y n ∙ ap (λ (v : Seen). look.first v.shape (as_table v.plain) x) seen
+    first_is h = id_shown (λ s t. look.first s t x) (h rs n.stood.stands) (known.first_seen i.schema i.ids.entries m items i.next i.arrivals is x y n)
 
     pub last_held : {o : Option Ref} → ((qs : List Ref) → Stands y m qs → o ≡ last_of None qs) → IfSome o (IsHeld m)
     last_held h = subst (λ k. IfSome k (IsHeld m)) (sym (h rs n.stood.stands)) (all_last (IsHeld m) rs alls)
 
     pub last_is : {o : Option Ref} → ((qs : List Ref) → Stands y m qs → o ≡ last_of None qs) → option_map (id_at m) o ≡ look.last w.shape (as_table w.plain) x
-    last_is h =
-        ap (option_map (id_at m)) (h rs n.stood.stands)
-        ∙ known.last_seen i.schema i.ids.entries m items i.next i.arrivals is x y n ∙ ap (λ (v : Seen). look.last v.shape (as_table v.plain) x) seen
+    last_is h = id_shown (λ s t. look.last s t x) (h rs n.stood.stands) (known.last_seen i.schema i.ids.entries m items i.next i.arrivals is x y n)
 
     pub nth_held : (k : ℕ) {o : Option Ref} → ((qs : List Ref) → Stands y m qs → o ≡ nth_of qs k) → IfSome o (IsHeld m)
     nth_held k h = subst (λ q. IfSome q (IsHeld m)) (sym (h rs n.stood.stands)) (all_nth (IsHeld m) rs k alls)
 
     pub nth_is : (k : ℕ) {o : Option Ref} → ((qs : List Ref) → Stands y m qs → o ≡ nth_of qs k)
         → option_map (id_at m) o ≡ look.nth w.shape (as_table w.plain) x k
-    nth_is k h =
-        ap (option_map (id_at m)) (h rs n.stood.stands)
-        ∙ known.nth_seen i.schema i.ids.entries m items i.next i.arrivals is x y n k ∙ ap (λ (v : Seen). look.nth v.shape (as_table v.plain) x k) seen
+    nth_is k h = id_shown (λ s t. look.nth s t x k) (h rs n.stood.stands) (known.nth_seen i.schema i.ids.entries m items i.next i.arrivals is x y n k)
 
     -- those beside a node
 
@@ -176,20 +175,16 @@ module _ (i : Inside) (is : AreMulti i) {w : Seen} (seen : seen_of i ≡ w) wher
 
       pub after_is : {o : Option Ref} → ((xs ys : List Ref) → Stands y m (xs ++ r ∷ ys) → o ≡ first_of ys None)
           → option_map (id_at m) o ≡ look.after w.shape (as_table w.plain) x e
-      after_is h =
-          ap (option_map (id_at m)) (h a.xs a.ys a.stands)
-          ∙ known.after_seen i.schema i.ids.entries m items i.next i.arrivals is x y n e r there
-          ∙ ap (λ (v : Seen). look.after v.shape (as_table v.plain) x e) seen
+      after_is h = id_shown (λ s t. look.after s t x e) (h a.xs a.ys a.stands)
+          (known.after_seen i.schema i.ids.entries m items i.next i.arrivals is x y n e r there)
 
       pub before_held : {o : Option Ref} → ((xs ys : List Ref) → Stands y m (xs ++ r ∷ ys) → o ≡ last_of None xs) → IfSome o (IsHeld m)
       before_held h = subst (λ k. IfSome k (IsHeld m)) (sym (h a.xs a.ys a.stands)) (all_last (IsHeld m) a.xs (all_before (IsHeld m) a.xs (r ∷ a.ys) both))
 
       pub before_is : {o : Option Ref} → ((xs ys : List Ref) → Stands y m (xs ++ r ∷ ys) → o ≡ last_of None xs)
           → option_map (id_at m) o ≡ look.before w.shape (as_table w.plain) x e
-      before_is h =
-          ap (option_map (id_at m)) (h a.xs a.ys a.stands)
-          ∙ known.before_seen i.schema i.ids.entries m items i.next i.arrivals is x y n e r there
-          ∙ ap (λ (v : Seen). look.before v.shape (as_table v.plain) x e) seen
+      before_is h = id_shown (λ s t. look.before s t x e) (h a.xs a.ys a.stands)
+          (known.before_seen i.schema i.ids.entries m items i.next i.arrivals is x y n e r there)
 
       pub rank_is : {k : ℕ} → ((xs ys : List Ref) → Stands y m (xs ++ r ∷ ys) → k ≡ length xs) → k ≡ look.rank w.shape (as_table w.plain) x e
       rank_is h =

@@ -1,27 +1,24 @@
 -- A row leaves: what the passes leave are the data without it, and all stands again.
 use Rattle.std.proofs.Common.{◌≡◌, ◌≢◌, ℕ, ◌+◌, true, false, cond, List}
-use Rattle.std.proofs.Common.{[], ◌∷◌, ◌++◌, map, get_or, refl, ap, sym, ◌∙◌, subst, arith}
+use Rattle.std.proofs.Common.{[], ◌∷◌, ◌++◌, map, refl, ap, sym, ◌∙◌, subst, arith}
 use Rattle.std.specs.Prelude.{◌==◌}
 use Rattle.std.specs.List.{AllByRecursion}
 use Rattle.std.specs.Option.{option_and_then}
 use Rattle.std.specs.Ordering.{nat_cmp}
 use Rattle.std.specs.FinMap.{FinMap, get, entries}
 use Rattle.std.specs.declared.option.Option.TheVariants.{None, Some}
-use Rattle.mi_catalog.specs.declared.index.Index.{Index}
 use Rattle.mi_catalog.specs.Shape.{Shape}
 use Rattle.mi_model.specs.Table.{times}
 use Rattle.mi_model.specs.Change.{without}
-use Rattle.mi_node.specs.Pool.{Pooled, link_of}
+use Rattle.mi_node.specs.Pool.{Pooled}
 use Rattle.mi_node.specs.Refs.{Ref}
-use Rattle.mi_node.specs.declared.link.Tag.{Tag}
 use Rattle.mi_order.specs.declared.stored.Stored.{Stored}
 use Rattle.mi_index.specs.declared.structure.Structure.{Structure}
 use Rattle.mi_index.specs.declared.moves.Moves.TheVariants.{All}
 use Rattle.mi_index.specs.Places.{IsWith}
 use Rattle.mi_index.specs.Pass.{AllCan, AllLike, AreChanged, IsPass}
 use Rattle.mi_index.specs.Passes.{left, leaving}
-use Rattle.mi_container.specs.Data.{Data, Order, node_of, has_stamps, IsData}
-use Rattle.mi_container.specs.Data.Order.{ById}
+use Rattle.mi_container.specs.Data.{Data, Order, node_of, IsData}
 use Rattle.mi_container.specs.Changes.{in_order, entered, left_out, kept_node, erased, erased_node}
 use Rattle.mi_container.specs.Run.Change.{Erase}
 use Rattle.mi_container.proofs.PairLemmas.{climbs_some}
@@ -37,12 +34,12 @@ use Rattle.mi_multi.proofs.RowLemmas.{picked_lost, picked_entered}
 use Rattle.mi_multi.proofs.ListLemmas.{itself, without_middle, times_middle}
 use Rattle.mi_multi.proofs.SameNodeLemmas.{node_same, live_alike, kept_alike}
 use Rattle.mi_multi.proofs.OrderLemmas.{orders_map}
-use Rattle.mi_multi.proofs.EveryIndexLemmas.{Turned, Every, At, at, every, all_known, all_for, seq_by, one, none, at_stamps}
+use Rattle.mi_multi.proofs.EveryIndexLemmas.{Turned, Every, every, all_after, all_known, all_for, seq_by}
 use Rattle.mi_multi.proofs.LiveNodeLemmas.{IsLiveRef, holds, marked_here, marked_beside, names_apart}
 use Rattle.mi_multi.proofs.LiveNodeLemmas.{lacks_middle, out_of_all, ids_same, all_left, all_right, all_append, once_more}
 use Rattle.mi_multi.proofs.MarkedIdLemmas.{marked_multi}
 use Rattle.mi_multi.proofs.NeighbourLemmas.{id_is}
-use Rattle.mi_multi.proofs.LinkLemmas.{tags_at, links_seen}
+use Rattle.mi_multi.proofs.LinkLemmas.{says_by_tags, links_seen}
 
 -- the node stands in every index
 can_from : (ids : FinMap nat_cmp IdEntry) (m : Pooled Stored) (e : ℕ) (r : Ref) → get ids e ≡ Some (record { node = r; live = true })
@@ -75,16 +72,8 @@ module _ (s : Shape) (ids : FinMap nat_cmp IdEntry) (m n : Pooled Stored) (xs ys
   turns : Every (Turned (left All r) ids m n) 0 s.indexes xs ys is.rss changed.uss
   turns = every (left All r) ids m n 0 s.indexes xs ys is.rss changed.uss is.kinds like is.stand changed.stand changed.done is.live
 
-  tag_of : (x : ℕ) (o : Order) → At (Turned (left All r) ids m n) x o → has_stamps o ≡ true → (k : ℕ) → (link_of n k x).tag.stamp ≡ (link_of m k x).tag.stamp
-  tag_of x o (at i a b rs us l t is_order) has k =
-      let tags = tags_at i a m n l t.for_ t.done.tags (sym (ap has_stamps is_order) ∙ has) k in
-      ap (λ (w : Tag). w.stamp) (subst (λ w. (link_of n k w).tag ≡ (link_of m k w).tag) t.slot tags)
-
   says : (k : ℕ) → SaysSame os m n k
-  says k = record {
-    value = changed.keeps.values k;
-    stamps = λ x has. tag_of x (get_or os x ById) (at_stamps (Turned (left All r) ids m n) turns x has) has k;
-  }
+  says k = says_by_tags (left All r) ids m n (λ x a rs us done. done.tags) turns k (changed.keeps.values k)
 
   altered : IsAltered os ids m n e
   altered = record {
@@ -171,14 +160,12 @@ module _ (s : Shape) (ids : FinMap nat_cmp IdEntry) (m n : Pooled Stored) (xs ys
         each = each_left rs us live w;
       }
 
-  all_live_left : {k : ℕ} {js : List Index} {as_ bs : List Structure} {rss uss : List (List Ref)}
-      → Every (Turned (left All r) ids m n) k js as_ bs rss uss → AllByRecursion (AreLive new_ids n) uss
-  all_live_left none = tt
-  all_live_left (one {rs = rs} {us = us} t rest) = (live_left rs us t.live t.done.left, all_live_left rest)
+  all_live_left : AllByRecursion (AreLive new_ids n) changed.uss
+  all_live_left = all_after (Turned (left All r) ids m n) (AreLive new_ids n) (λ k i x y rs us t. live_left rs us t.live t.done.left) turns
 
   -- all stands after it
   pub erased_multi : IsMulti s new_ids n ys next arrivals
   erased_multi =
       marked_multi s ids m n xs next arrivals is e r true false there changed.keeps.refs changed.keeps.values
-      ys changed.uss changed.stand (all_for s.indexes xs ys like is.kinds) (all_live_left turns)
+      ys changed.uss changed.stand (all_for s.indexes xs ys like is.kinds) all_live_left
       (subst (IsData s) (sym erased_seen) (change_is_tables s (Erase e None) d is.is_data (node_in m os r, row_is)).0)

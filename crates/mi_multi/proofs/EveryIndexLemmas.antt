@@ -8,6 +8,7 @@ use Rattle.mi_catalog.specs.declared.index.Index.{Index}
 use Rattle.mi_catalog.specs.declared.index.IndexKind.{IndexKind}
 use Rattle.mi_catalog.specs.declared.index.IndexKind.TheVariants as kind
 use Rattle.mi_catalog.specs.Kinds.{is_sorted, is_hashed, is_sequenced}
+use Rattle.mi_catalog.proofs.KindLaws.{sequenced, hashed}
 use Rattle.mi_value.specs.declared.compare.KeyPart.{KeyPart}
 use Rattle.mi_node.specs.Pool.{Pooled, value_of}
 use Rattle.mi_node.specs.Refs.{Ref, names}
@@ -61,6 +62,14 @@ every Q ids m n s (i ∷ is) (x ∷ xs) (y ∷ ys) (rs ∷ rss) (us ∷ uss) f l
     one (record { slot = a.0; for_ = f.0; like = l.0; was = a.1; now = b.1; done = d.0; live = v.0 })
     (every Q ids m n (s + 1) is xs ys rss uss f.1 l.1 a.2 b.2 d.1 v.1)
 
+-- what follows of each index's list afterwards holds of all
+pub all_after : (P : ℕ → Index → Structure → Structure → List Ref → List Ref → Type 0) (L : List Ref → Type 0)
+    → ((k : ℕ) (i : Index) (x y : Structure) (rs us : List Ref) → P k i x y rs us → L us)
+    → {s : ℕ} {is : List Index} {xs ys : List Structure} {rss uss : List (List Ref)}
+    → Every P s is xs ys rss uss → AllByRecursion L uss
+all_after P L f none = tt
+all_after P L f (one {s = s} {i = i} {x = x} {y = y} {rs = rs} {us = us} p rest) = (f s i x y rs us p, all_after P L f rest)
+
 -- Structures that are alike
 
 like_for : (i : Index) (x y : Structure) → IsLike x y → IsFor i x → IsFor i y
@@ -85,16 +94,10 @@ own_line : (m : Pooled Stored) (l : Line) (rs : List Ref) → IsListed l m rs �
 own_line m l rs stands = ap (map (λ k. stored_id (value_of m k))) (order-listed l m rs stands) ∙ names_ids m rs
 
 pub sorted_not_sequenced : (k : IndexKind) → is_sorted k ≡ true → is_sequenced k ≡ true → ⊥
-sorted_not_sequenced kind.Ordered a b = false≢true b
-sorted_not_sequenced kind.Ranked a b = false≢true b
-sorted_not_sequenced kind.Hashed a b = false≢true a
-sorted_not_sequenced kind.Sequenced a b = false≢true a
+sorted_not_sequenced k a b = false≢true (ap is_sorted (sym (sequenced k b)) ∙ a)
 
 pub hashed_not_sequenced : (k : IndexKind) → is_hashed k ≡ true → is_sequenced k ≡ true → ⊥
-hashed_not_sequenced kind.Ordered a b = false≢true a
-hashed_not_sequenced kind.Ranked a b = false≢true a
-hashed_not_sequenced kind.Hashed a b = false≢true b
-hashed_not_sequenced kind.Sequenced a b = false≢true a
+hashed_not_sequenced k a b = false≢true (ap is_hashed (sym (sequenced k b)) ∙ a)
 
 pub own_is : (i : Index) (x : Structure) (m : Pooled Stored) (rs : List Ref) → IsFor i x
     → Stands x m rs → is_sequenced i.kind ≡ true → own_list m x ≡ ids_at m rs
@@ -141,16 +144,10 @@ sorted_parts kind.Hashed ps l is = absurd (false≢true is)
 sorted_parts kind.Sequenced ps l is = absurd (false≢true is)
 
 pub sequenced_order : (k : IndexKind) (ps : List KeyPart) (l : List ℕ) → is_sequenced k ≡ true → order_of k ps l ≡ Listed l
-sequenced_order kind.Ordered ps l is = absurd (false≢true is)
-sequenced_order kind.Ranked ps l is = absurd (false≢true is)
-sequenced_order kind.Hashed ps l is = absurd (false≢true is)
-sequenced_order kind.Sequenced ps l is = refl
+sequenced_order k ps l is = ap (λ w. order_of w ps l) (sequenced k is)
 
 pub hashed_order : (k : IndexKind) (ps : List KeyPart) (l : List ℕ) → is_hashed k ≡ true → order_of k ps l ≡ ByHash ps
-hashed_order kind.Ordered ps l is = absurd (false≢true is)
-hashed_order kind.Ranked ps l is = absurd (false≢true is)
-hashed_order kind.Hashed ps l is = refl
-hashed_order kind.Sequenced ps l is = absurd (false≢true is)
+hashed_order k ps l is = ap (λ w. order_of w ps l) (hashed k is)
 
 -- What stands at a number
 

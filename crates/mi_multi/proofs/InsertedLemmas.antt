@@ -49,7 +49,7 @@ use Rattle.mi_multi.proofs.RowLemmas.{picked_pushed, picked_still, get_here, get
 use Rattle.mi_multi.proofs.ListLemmas.{itself, LacksIf, stand_there, times_middle}
 use Rattle.mi_multi.proofs.SameNodeLemmas.{live_alike, kept_alike}
 use Rattle.mi_multi.proofs.OrderLemmas.{orders_map, orders_set}
-use Rattle.mi_multi.proofs.EveryIndexLemmas.{Turned, Every, At, at, every, all_for, seq_by, sorted_parts, hashed_order, at_stamps}
+use Rattle.mi_multi.proofs.EveryIndexLemmas.{Turned, Every, At, at, every, all_after, all_for, seq_by, sorted_parts, hashed_order, at_stamps}
 use Rattle.mi_multi.proofs.EveryIndexLemmas.{sequenced_order, sorted_not_sequenced, hashed_not_sequenced, one, none}
 use Rattle.mi_multi.proofs.LiveNodeLemmas.{live_rows_with, IsLiveRef, lacks_middle, id_of, out_of_all, all_left, all_right, once_more}
 use Rattle.mi_multi.proofs.NeighbourLemmas.{ids_append}
@@ -292,10 +292,8 @@ module _ (s : Shape) (ids : FinMap nat_cmp IdEntry) (m n : Pooled Stored) (xs ys
     each = each_with rs us live w;
   }
 
-  all_live : {k : ℕ} {js : List Index} {as_ bs : List Structure} {rss uss : List (List Ref)}
-      → Every (Turned Q ids m n) k js as_ bs rss uss → AllByRecursion (AreLive new_ids n) uss
-  all_live none = tt
-  all_live (one {rs = rs} {us = us} t rest) = (live_with rs us t.live t.done.joined, all_live rest)
+  all_live : AllByRecursion (AreLive new_ids n) came.uss
+  all_live = all_after (Turned Q ids m n) (AreLive new_ids n) (λ k i x y rs us t. live_with rs us t.live t.done.joined) turns
 
   ref_still : (q : Ref) → IsHeld m q → IsHeld n q
   ref_still q held = came.refs q.name ∙ ap (λ b. cond b (Some r) (ref_of m q.name)) (apart q held) ∙ held
@@ -327,7 +325,7 @@ module _ (s : Shape) (ids : FinMap nat_cmp IdEntry) (m n : Pooled Stored) (xs ys
     rss = came.uss;
     stand = came.stand;
     kinds = all_for s.indexes xs ys like is.kinds;
-    live = all_live turns;
+    live = all_live;
     held = λ q a here.
         elim (eqb_tells q next) [
           | inl it ↦

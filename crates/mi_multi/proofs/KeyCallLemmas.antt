@@ -35,7 +35,7 @@ use Rattle.mi_multi.proofs.IndexNumberLemmas.{Numbered, numbered, reaches}
 use Rattle.mi_multi.proofs.FoundIdLemmas.{all_where, all_first, all_filter, all_behind}
 use Rattle.mi_multi.proofs.LookUpLemmas as known
 use Rattle.mi_multi.proofs.ProbeLemmas as probes
-use Rattle.mi_multi.proofs.CallLemmas.{in_order, there, a as among}
+use Rattle.mi_multi.proofs.CallLemmas.{id_shown, in_order, there, a as among}
 
 -- nothing stands behind the end
 pub past_end : (ids : List ℕ) (k : ℕ) → slice_get ids k ≡ None → length ids ≤ k
@@ -85,15 +85,13 @@ module _ (i : Inside) (is : AreMulti i) {w : Seen} (seen : seen_of i ≡ w) wher
         → ((qs : List Ref) → Stands y m qs → o ≡ first_where (nodes.is_past past y m (Key k)) qs)
         → option_map (id_at m) o ≡ look.nth w.shape t x (rank_past past w.shape t x k.now)
     past_is sorted false k h =
-        ap (option_map (id_at m)) (h rs n.stood.stands)
-        ∙ probes.lower_seen i.schema i.ids.entries m items i.next i.arrivals is x y n k
-        (subst (λ (v : Seen). IsSorted v.shape x) (sym seen) sorted) (in_order i is seen x at sorted).2
-        ∙ ap (λ (v : Seen). look.lower v.shape (as_table v.plain) x k.now) seen
+        id_shown i is seen (λ s t. look.lower s t x k.now) (h rs n.stood.stands)
+        (probes.lower_seen i.schema i.ids.entries m items i.next i.arrivals is x y n k
+        (subst (λ (v : Seen). IsSorted v.shape x) (sym seen) sorted) (in_order i is seen x at sorted).2)
     past_is sorted true k h =
-        ap (option_map (id_at m)) (h rs n.stood.stands)
-        ∙ probes.upper_seen i.schema i.ids.entries m items i.next i.arrivals is x y n k
-        (subst (λ (v : Seen). IsSorted v.shape x) (sym seen) sorted) (in_order i is seen x at sorted).2
-        ∙ ap (λ (v : Seen). look.upper v.shape (as_table v.plain) x k.now) seen
+        id_shown i is seen (λ s t. look.upper s t x k.now) (h rs n.stood.stands)
+        (probes.upper_seen i.schema i.ids.entries m items i.next i.arrivals is x y n k
+        (subst (λ (v : Seen). IsSorted v.shape x) (sym seen) sorted) (in_order i is seen x at sorted).2)
 
     -- as many stand in front of it
     pub past_rank : IsSorted w.shape x → (past : Bool) (k : Bor (List Value)) {j : ℕ}
@@ -121,11 +119,10 @@ module _ (i : Inside) (is : AreMulti i) {w : Seen} (seen : seen_of i ≡ w) wher
         → WholeKey w.shape x k.now → ((qs : List Ref) → Stands y m qs → o ≡ first_where (nodes.has_sought y m (Key k)) qs)
         → option_map (id_at m) o ≡ look.find w.shape t x k.now
     find_is k rules keyed whole h =
-        ap (option_map (id_at m)) (h rs n.stood.stands)
-        ∙ probes.find_seen i.schema i.ids.entries m items i.next i.arrivals is x y n k
+        id_shown i is seen (λ s t. look.find s t x k.now) (h rs n.stood.stands)
+        (probes.find_seen i.schema i.ids.entries m items i.next i.arrivals is x y n k
         (whole_key_long i.schema.columns (index_at i.schema x).parts k.now (subst (λ (v : Seen). WholeKey v.shape x k.now) (sym seen) whole))
-        (parts_kept rules) (subst (λ (v : Seen). IsKeyed v.shape x) (sym seen) keyed).1
-        ∙ ap (λ (v : Seen). look.find v.shape (as_table v.plain) x k.now) seen
+        (parts_kept rules) (subst (λ (v : Seen). IsKeyed v.shape x) (sym seen) keyed).1)
 
     -- the next of a key
 
@@ -158,7 +155,6 @@ module _ (i : Inside) (is : AreMulti i) {w : Seen} (seen : seen_of i ≡ w) wher
           → ((xs ys : List Ref) → Stands y m (xs ++ r ∷ ys) → o ≡ first_of (filter (nodes.has_same_key y m r) ys) None)
           → option_map (id_at m) o ≡ look.next_with_key w.shape t x e
       next_of_is rules hashed h =
-          ap (option_map (id_at m)) (h a.xs a.ys a.stands)
-          ∙ probes.next_of_seen i.schema i.ids.entries m items i.next i.arrivals is x y n e r
-          (there i is seen x at e live found) (parts_kept rules (hashed_kind hashed)) y n.stood.for_ (chains hashed)
-          ∙ ap (λ (v : Seen). look.next_with_key v.shape (as_table v.plain) x e) seen
+          id_shown i is seen (λ s t. look.next_with_key s t x e) (h a.xs a.ys a.stands)
+          (probes.next_of_seen i.schema i.ids.entries m items i.next i.arrivals is x y n e r
+          (there i is seen x at e live found) (parts_kept rules (hashed_kind hashed)) y n.stood.for_ (chains hashed))

@@ -1,5 +1,5 @@
 -- What a node that left remembers in each index, and which tags stay in a pass.
-use Rattle.std.proofs.Common.{◌≡◌, ℕ, ◌+◌, suc, true, List, [], ◌∷◌, ◌++◌, refl, ap, sym, ◌∙◌, subst, arith}
+use Rattle.std.proofs.Common.{◌≡◌, ℕ, ◌+◌, suc, true, List, [], ◌∷◌, ◌++◌, get_or, refl, ap, sym, ◌∙◌, subst, arith}
 use Rattle.std.specs.List.{filter}
 use Rattle.std.specs.Ordering.{nat_cmp}
 use Rattle.std.specs.FinMap.{FinMap, get}
@@ -12,6 +12,7 @@ use Rattle.mi_catalog.specs.Kinds.{is_hashed, is_sequenced}
 use Rattle.mi_catalog.specs.Shape.{Shape}
 use Rattle.mi_node.specs.Pool.{Pooled, value_of, link_of}
 use Rattle.mi_node.specs.Refs.{Ref, first_of, last_of}
+use Rattle.mi_node.specs.declared.link.Tag.{Tag}
 use Rattle.mi_chain.specs.Keying.{same_nodes, stamp_at}
 use Rattle.mi_order.specs.declared.stored.Stored.{Stored}
 use Rattle.mi_index.specs.declared.structure.Structure.{Structure}
@@ -21,14 +22,16 @@ use Rattle.mi_index.specs.Orders.{keying_of}
 use Rattle.mi_order.specs.declared.orders.ByHash.{ByHash as HashedBy}
 use Rattle.mi_index.specs.Standing.{slot_in, Climb}
 use Rattle.mi_index.specs.Places.{KeepsTags}
+use Rattle.mi_index.specs.Pass.{Gives}
 use Rattle.mi_index.specs.Passes.{left}
-use Rattle.mi_container.specs.Data.{Node, Link, has_stamps, ids_by_stamp, content_of, IsData}
-use Rattle.mi_container.specs.Data.Order.{ByHash, Listed}
+use Rattle.mi_container.specs.Data.{Node, Link, Order, has_stamps, ids_by_stamp, content_of, IsData}
+use Rattle.mi_container.specs.Data.Order.{ById, ByHash, Listed}
 use Rattle.mi_container.specs.Changes.{sorted_order, link_in, links_from, link_of_id as link_at, group}
 use Rattle.mi_ids.specs.declared.entry.IdEntry.{IdEntry}
 use Rattle.mi_multi.specs.Physical.{order_of, orders_of, plan, neighbours_in, all_neighbours}
+use Rattle.mi_multi.specs.Alike.{SaysSame}
 use Rattle.mi_multi.specs.Multi.{ids_at, own_list, own_lists, IsFor, AreLive, HasNode, plain_of}
-use Rattle.mi_multi.proofs.EveryIndexLemmas.{Every, one, none, Numbered, Known, sorted_parts, hashed_order, sequenced_order, own_is}
+use Rattle.mi_multi.proofs.EveryIndexLemmas.{Turned, Every, one, none, At, at, at_stamps, Numbered, Known, sorted_parts, hashed_order, sequenced_order, own_is}
 use Rattle.mi_multi.proofs.StampLemmas.{rows, by_stamp_is}
 use Rattle.mi_multi.proofs.NeighbourLemmas.{link_listed, link_hashed}
 
@@ -39,6 +42,21 @@ pub tags_at : (i : Index) (x : Structure) (m n : Pooled Stored) (l : List ℕ) �
 tags_at i (Sorted t) m n l f tags has k = tags k
 tags_at i (Hashed c) m n l f tags has k = tags k
 tags_at i (Sequenced q) m n l f tags has k = absurd (false≢true (sym (ap has_stamps (sequenced_order i.kind i.parts l f)) ∙ has))
+
+-- a pass that keeps the tags of every index keeps what a node says
+module _ (Q : Gives) (ids : FinMap nat_cmp IdEntry) (m n : Pooled Stored)
+    (tags : (s : ℕ) (x : Structure) (rs us : List Ref) → Q s x m n rs us → KeepsTags x m n) where
+  stamp_by_tag : (x : ℕ) (o : Order) → At (Turned Q ids m n) x o → has_stamps o ≡ true → (k : ℕ) → (link_of n k x).tag.stamp ≡ (link_of m k x).tag.stamp
+  stamp_by_tag x o (at i a b rs us l t is_order) has k =
+      let same = tags_at i a m n l t.for_ (tags x a rs us t.done) (sym (ap has_stamps is_order) ∙ has) k in
+      ap (λ (w : Tag). w.stamp) (subst (λ w. (link_of n k w).tag ≡ (link_of m k w).tag) t.slot same)
+
+  pub says_by_tags : {is : List Index} {xs ys : List Structure} {rss uss : List (List Ref)} → Every (Turned Q ids m n) 0 is xs ys rss uss
+      → (k : ℕ) → value_of n k ≡ value_of m k → SaysSame (plan is) m n k
+  says_by_tags {is = is} turns k value = record {
+    value = value;
+    stamps = λ x has. stamp_by_tag x (get_or (plan is) x ById) (at_stamps (Turned Q ids m n) turns x has) has k;
+  }
 
 -- Neighbours
 

@@ -8,8 +8,8 @@ use Rattle.std.specs.FinMap.{FinMap}
 use Rattle.std.proofs.lemmas.Bool.{false≢true}
 use Rattle.std.specs.declared.option.Option.TheVariants.{None, Some}
 use Rattle.mi_catalog.specs.declared.index.IndexKind.{IndexKind}
-use Rattle.mi_catalog.specs.declared.index.IndexKind.TheVariants as kind
-use Rattle.mi_catalog.specs.Kinds.{is_sorted, is_hashed, is_sequenced, shows_one_list}
+use Rattle.mi_catalog.specs.Kinds.{is_sorted, is_hashed, shows_one_list}
+use Rattle.mi_catalog.proofs.KindLaws.{hashed}
 use Rattle.mi_catalog.specs.Shape.{Shape, index_at}
 use Rattle.mi_model.specs.Table.{Table}
 use Rattle.mi_model.specs.View.{view}
@@ -32,6 +32,7 @@ use Rattle.mi_ids.specs.IdMap.{live_node}
 use Rattle.mi_multi.specs.Physical.{stored_id}
 use Rattle.mi_multi.specs.Multi.{id_at, ids_at, IsFor, AreLive, IsMulti, plain_of}
 use Rattle.mi_multi.proofs.AnswerLemmas.{live_is}
+use Rattle.mi_multi.proofs.EveryIndexLemmas.{sorted_not_sequenced}
 use Rattle.mi_multi.proofs.NeighbourLemmas.{ids_append}
 use Rattle.mi_multi.proofs.LiveNodeLemmas.{IsLiveRef, holds, lacks_middle}
 use Rattle.mi_multi.proofs.IndexNumberLemmas.{Numbered}
@@ -41,22 +42,10 @@ use Rattle.mi_multi.proofs.FoundIdLemmas.{first_ids, last_of_ids, nth_ids, after
 -- Kinds
 
 hashed_lists : (k : IndexKind) → IsTrue (shows_one_list k) → is_hashed k ≡ true → ⊥
-hashed_lists kind.Ordered a b = false≢true b
-hashed_lists kind.Ranked a b = false≢true b
-hashed_lists kind.Hashed a b = false≢true a
-hashed_lists kind.Sequenced a b = false≢true b
+hashed_lists k a b = false≢true (ap shows_one_list (sym (hashed k b)) ∙ a)
 
 pub sorted_hashed : (k : IndexKind) → is_sorted k ≡ true → is_hashed k ≡ true → ⊥
-sorted_hashed kind.Ordered a b = false≢true b
-sorted_hashed kind.Ranked a b = false≢true b
-sorted_hashed kind.Hashed a b = false≢true a
-sorted_hashed kind.Sequenced a b = false≢true b
-
-sorted_sequenced : (k : IndexKind) → is_sorted k ≡ true → is_sequenced k ≡ true → ⊥
-sorted_sequenced kind.Ordered a b = false≢true b
-sorted_sequenced kind.Ranked a b = false≢true b
-sorted_sequenced kind.Hashed a b = false≢true a
-sorted_sequenced kind.Sequenced a b = false≢true a
+sorted_hashed k a b = false≢true (ap is_sorted (sym (hashed k b)) ∙ a)
 
 -- a node that stands in the list of an index
 pub record Among (ids : FinMap nat_cmp IdEntry) (m : Pooled Stored) (y : Structure) (rs : List Ref) (e : ℕ) (r : Ref) : Type 0 where
@@ -87,7 +76,7 @@ module _ (s : Shape) (ids : FinMap nat_cmp IdEntry) (m : Pooled Stored) (xs : Li
   is_tree : (w : Structure) → IsFor (index_at s x) w → IsSorted s x → nodes.IsSortedStructure w
   is_tree (Sorted u) f h = tt
   is_tree (Hashed c) f h = absurd (sorted_hashed (index_at s x).kind h f.0)
-  is_tree (Sequenced l) f h = absurd (sorted_sequenced (index_at s x).kind h f)
+  is_tree (Sequenced l) f h = absurd (sorted_not_sequenced (index_at s x).kind h f)
 
   pub sorts : IsSorted s x → nodes.IsSortedStructure y
   sorts h = is_tree y n.stood.for_ h

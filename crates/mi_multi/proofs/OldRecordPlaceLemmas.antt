@@ -18,7 +18,7 @@ use Rattle.mi_value.specs.declared.compare.KeyPart.{KeyPart}
 use Rattle.mi_value.specs.Order.{compare_key}
 use Rattle.mi_value.proofs.OrderLaws.{compare_key_total}
 use Rattle.mi_catalog.specs.declared.index.Index.{Index}
-use Rattle.mi_catalog.specs.Kinds.{is_hashed, is_sequenced}
+use Rattle.mi_catalog.specs.Kinds.{is_sequenced}
 use Rattle.mi_catalog.specs.Shape.{Shape}
 use Rattle.mi_model.proofs.ViewLaws.{Lacks}
 use Rattle.mi_node.specs.Pool.{Pooled, value_of, link_of}
@@ -50,11 +50,11 @@ use Rattle.mi_multi.specs.Restored.{to_place}
 use Rattle.mi_multi.proofs.ListLemmas.{filter_ids}
 use Rattle.mi_multi.proofs.EveryIndexLemmas.{Every, one, none, sorted_parts, hashed_order, sequenced_order, has_plan, length_orders}
 use Rattle.mi_multi.proofs.LiveNodeLemmas.{IsLiveRef, node_live, holds, lacks_middle, all_left, all_right, all_append}
-use Rattle.mi_multi.proofs.StampLemmas.{stamp_held, by_stamp_is}
+use Rattle.mi_multi.proofs.StampLemmas.{stamp_held}
 use Rattle.mi_multi.proofs.NeighbourLemmas.{filter_eq, filter_append, ids_append}
 use Rattle.mi_multi.proofs.CountLemmas.{no_longer}
 use Rattle.mi_multi.proofs.PlaceLemmas.{value_not_equal, cut_at}
-use Rattle.mi_multi.proofs.ReturnLemmas.{Now, standing, has_sorted, meets_between}
+use Rattle.mi_multi.proofs.ReturnLemmas.{Now, standing, has_sorted, hashed_plan, hashed_climb, hashed_ids, meets_between}
 
 -- Keys
 
@@ -284,17 +284,14 @@ module _ (s : Shape) (ids : FinMap nat_cmp IdEntry) (m : Pooled Stored) (xs : Li
     place_in k i (Hashed c) y rs us h was is_ met as_ bs parts live others =
         let slot : c.slot ≡ k = h.0.slot in
         let same : c.keys.parts ≡ i.parts = h.0.for_.1 in
-        let hashed : is_hashed i.kind ≡ true = h.0.for_.0 in
-        let climb : Climb (stamp_at m k) rs = subst (λ w. Climb (stamp_at m w) rs) slot h.0.was.1 in
-        let order_is : get_or d.orders k ById ≡ ByHash i.parts = h.1.order_is ∙ hashed_order i.kind i.parts (own_list m (Hashed c)) hashed in
-        let plan_is : get_or os k ById ≡ ByHash i.parts = h.1.plan_is ∙ hashed_order i.kind i.parts [] hashed in
-        let by : ids_by_stamp k d.rows ≡ ids_at m rs = by_stamp_is s d ids m os k i.parts rs
-        is.is_data refl h.1.fewer h.1.few order_is plan_is h.0.live climb in
+        let by : ids_by_stamp k d.rows ≡ ids_at m rs = hashed_ids s ids m xs next arrivals is k i c y rs us h in
+        let climb : Climb (stamp_at m k) rs = hashed_climb s ids m xs next arrivals is k i c y rs us h in
+        let has : has_stamps (get_or os k ById) ≡ true = ap has_stamps (hashed_plan s ids m xs next arrivals is k i c y rs us h) in
         let met' : PlaceMeets k d.rows now old.values (Some was) (ByHash i.parts) = subst
-        (PlaceMeets k d.rows now old.values (Some was)) (hashed_order i.kind i.parts (own_list m (Hashed c)) hashed) met in
+        (PlaceMeets k d.rows now old.values (Some was)) (hashed_order i.kind i.parts (own_list m (Hashed c)) h.0.for_.0) met in
         let got : ByStamp i.parts k was (as_ ++ bs) =
         in_chains k i.parts as_ bs (by ∙ ap (ids_at m) parts) live others
-        (subst (Climb (stamp_at m k)) parts climb) h.1.few (ap has_stamps plan_is) was is_ met'.0 met'.1 in
+        (subst (Climb (stamp_at m k)) parts climb) h.1.few has was is_ met'.0 met'.1 in
         let it : ByStamp c.keys.parts k was (as_ ++ bs) = subst (λ w. ByStamp w k was (as_ ++ bs)) (sym same) got in
         record {
           xs = it.0;

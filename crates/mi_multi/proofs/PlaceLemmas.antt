@@ -1,10 +1,9 @@
 -- Where a node that left may come back: what data ask of an inverse pays what structures ask of a place.
-use Rattle.std.proofs.Common.{◌≡◌, ◌≢◌, ℕ, ◌<◌, ◌≤◌, inl, inr, List, [], ◌∷◌, ◌++◌, refl, ap, sym, ◌∙◌, arith}
+use Rattle.std.proofs.Common.{◌≡◌, ◌≢◌, ℕ, ◌<◌, List, [], ◌∷◌, ◌++◌, refl, ap, sym, ◌∙◌, arith}
 use Rattle.std.specs.Prelude.{pos}
 use Rattle.std.specs.List.{AllByRecursion}
 use Rattle.std.specs.Ordering.{nat_cmp, int_cmp, ordering_then}
 use Rattle.std.proofs.lemmas.Cmp.{ranked}
-use Rattle.std.proofs.lemmas.Bool.Decides.{leb_tells}
 use Rattle.std.proofs.lemmas.Map.Lookups.{exact_signed}
 use Rattle.std.specs.declared.cmp.Ordering.{Ordering}
 use Rattle.std.specs.declared.cmp.Ordering.TheVariants.{Less, Equal, Greater}
@@ -16,7 +15,9 @@ use Rattle.mi_tree.specs.Sorted.{side_of_new, item_of, stamped, compared, by_sta
 use Rattle.mi_order.specs.declared.stored.Stored.{Stored}
 use Rattle.mi_index.specs.Orders.{stored_order}
 use Rattle.mi_index.specs.Rekeying.{side_of_value}
-use Rattle.mi_index.specs.Standing.{AllAbove, AllBelow, Climb}
+use Rattle.mi_index.specs.Standing.{Climb}
+use Rattle.mi_index.specs.Places.{NoneHas}
+use Rattle.mi_index.proofs.JoinLemmas.{IsCut, cut_at as stamps_cut}
 use Rattle.mi_multi.specs.Multi.{HasNode}
 
 both_equal : (a b : Ordering) → ordering_then a b ≡ Equal → (a ≡ Equal) × (b ≡ Equal)
@@ -72,30 +73,12 @@ value_not_equal (p ∷ ps) m s q stamp v b g ne differ is =
 
 -- A list by its stamps, parted at one that no node has
 
-less_or_more : (a b : ℕ) → a ≢ b → (b < a → ⊥) → a < b
-less_or_more a b ne no_ = omega arith
+none_has : (f : Ref → ℕ) (a : ℕ) (rs : List Ref) → AllByRecursion (λ r. a ≢ f r) rs → NoneHas f a rs
+none_has f a [] none = tt
+none_has f a (r ∷ rs) none = (none.0, none_has f a rs none.1)
 
-pub record Cut (f : Ref → ℕ) (a : ℕ) (rs : List Ref) : Type 0 where
-  pub xs : List Ref
-  pub ys : List Ref
-  pub parts : rs ≡ xs ++ ys
-  pub below : AllBelow f a xs
-  pub above : AllAbove f a ys
-
-above_more : (f : Ref → ℕ) (a b : ℕ) (rs : List Ref) → a < b → AllAbove f b rs → AllAbove f a rs
-above_more f a b [] l all = tt
-above_more f a b (r ∷ rs) l all = (let k : b < f r = all.0 in omega arith, above_more f a b rs l all.1)
-
-pub cut_at : (f : Ref → ℕ) (a : ℕ) (rs : List Ref) → Climb f rs → AllByRecursion (λ r. a ≢ f r) rs → Cut f a rs
-cut_at f a [] up none = record { xs = []; ys = []; parts = refl; below = tt; above = tt }
-cut_at f a (r ∷ rs) up none =
-    elim (leb_tells a (f r)) [
-      | inr l ↦
-          let c = cut_at f a rs up.1 none.1 in record { xs = r ∷ c.xs; ys = c.ys; parts = ap (λ k. r ∷ k) c.parts; below = (l.1, c.below); above = c.above }
-      | inl l ↦
-          let more : a < f r = (let ne : a ≢ f r = none.0 in let n : a ≤ f r = l.1 in omega arith) in
-          record { xs = []; ys = r ∷ rs; parts = refl; below = tt; above = (more, above_more f a (f r) rs more up.0) }
-    ]
+pub cut_at : (f : Ref → ℕ) (a : ℕ) (rs : List Ref) → Climb f rs → AllByRecursion (λ r. a ≢ f r) rs → IsCut f a rs
+cut_at f a rs up none = stamps_cut f a rs up (none_has f a rs none)
 
 -- a list that is parted at a number in two ways is parted in one
 pub one_cut : (f : ℕ → ℕ) (a : ℕ) (xs ys us vs : List ℕ) → xs ++ ys ≡ us ++ vs → AllByRecursion (λ b. f b < a) xs

@@ -7,7 +7,7 @@ use Rattle.std.specs.Option.{option_map}
 use Rattle.std.specs.Ordering.{is_lt, is_eq, is_gt, is_ge, nat_cmp, ordering_reverse}
 use Rattle.std.specs.Cmp.{IsTotalOrder, tied_itself}
 use Rattle.std.specs.FinMap.{FinMap, get}
-use Rattle.std.proofs.lemmas.Bool.{and_parts}
+use Rattle.std.proofs.lemmas.Bool.{and_parts, false≢true}
 use Rattle.std.proofs.lemmas.List.Sums.{length-filter}
 use Rattle.std.specs.declared.cmp.Ordering.{Ordering}
 use Rattle.std.specs.declared.cmp.Ordering.TheVariants.{Less, Equal, Greater}
@@ -21,6 +21,7 @@ use Rattle.mi_catalog.specs.declared.index.IndexKind.{IndexKind}
 use Rattle.mi_catalog.specs.declared.index.IndexKind.TheVariants as kind
 use Rattle.mi_catalog.specs.Kinds.{has_keys, is_hashed, is_sequenced, is_ranked}
 use Rattle.mi_catalog.specs.Rules.{keeps_kind, is_declared_index, are_indexes}
+use Rattle.mi_catalog.proofs.KindLaws
 use Rattle.mi_catalog.specs.Shape.{Shape, index_at}
 use Rattle.mi_catalog.specs.Key.{compare_rows, compare_to_row, parts_or_id}
 use Rattle.mi_model.specs.Table.{Table, row}
@@ -114,15 +115,22 @@ falls i t key a b up =
     let total : IsTotalOrder (compare_ids i t) = compare_ids_total i t in
     key_falls i t key a b (ap is_gt (total.antisymm a b) ∙ not_above (compare_ids i t b a) up)
 
-past_lower : (o : Ordering) → past false (ordering_reverse o) ≡ not (is_gt o)
-past_lower Less = refl
-past_lower Equal = refl
-past_lower Greater = refl
+-- how a key stands to the ids before the first that is past it
+abbrev stands_behind : Bool → Ordering → Bool
+stands_behind false = is_gt
+stands_behind true = is_ge
 
-past_upper : (o : Ordering) → past true (ordering_reverse o) ≡ not (is_ge o)
-past_upper Less = refl
-past_upper Equal = refl
-past_upper Greater = refl
+behind_back : (strict : Bool) (o later : Ordering) → NotBelow o later → stands_behind strict later ≡ true → stands_behind strict o ≡ true
+behind_back false = gt_back
+behind_back true = ge_back
+
+past_behind : (strict : Bool) (o : Ordering) → past strict (ordering_reverse o) ≡ not (stands_behind strict o)
+past_behind false Less = refl
+past_behind false Equal = refl
+past_behind false Greater = refl
+past_behind true Less = refl
+past_behind true Equal = refl
+past_behind true Greater = refl
 
 eq_turned : (o : Ordering) → is_eq (ordering_reverse o) ≡ is_eq o
 eq_turned Less = refl
@@ -130,10 +138,7 @@ eq_turned Equal = refl
 eq_turned Greater = refl
 
 pub no_keys : (k : IndexKind) → has_keys k ≡ true → is_sequenced k ≡ true → ⊥
-no_keys kind.Ordered a b = cc
-no_keys kind.Ranked a b = cc
-no_keys kind.Hashed a b = cc
-no_keys kind.Sequenced a b = cc
+no_keys k a b = false≢true (ap has_keys (sym (KindLaws.sequenced k b)) ∙ a)
 
 -- A hashed index has parts
 
@@ -145,10 +150,7 @@ parts_there columns kind.Hashed u (p ∷ ps) h hashed = λ same. absurd (cc)
 parts_there columns kind.Sequenced u ps h hashed = absurd (cc)
 
 ranked_hashed : (k : IndexKind) → is_ranked k ≡ true → is_hashed k ≡ true → ⊥
-ranked_hashed kind.Ordered a b = cc
-ranked_hashed kind.Ranked a b = cc
-ranked_hashed kind.Hashed a b = cc
-ranked_hashed kind.Sequenced a b = cc
+ranked_hashed k a b = false≢true (ap is_ranked (sym (KindLaws.hashed k b)) ∙ a)
 
 declared_parts : (columns : ℕ) (is : List Index) (k : ℕ) (none : Index) → k < length is
     → list_all (is_declared_index columns) is ≡ true → is_hashed (get_or is k none).kind ≡ true → (get_or is k none).parts ≢ []
@@ -200,45 +202,43 @@ module _ (s : Shape) (ids : FinMap nat_cmp IdEntry) (m : Pooled Stored) (xs : Li
     past_is strict (Hashed c) f sorted q live = absurd sorted
     past_is strict (Sequenced l) f sorted q live = absurd sorted
 
+    -- the first that is past the key, and how many stand before it
+
+    module _ (sorts : IsSorted s x) (sorted : nodes.IsSortedStructure y) (strict : Bool) where
+      abbrev before : ℕ → Bool
+      before id = stands_behind strict (compare_to_id i t k.now id)
+
+      each_past : AllByRecursion (λ q. nodes.is_past strict y m (Key k) q ≡ not (before (id_at m q))) rs
+      each_past =
+          each_of (λ q. nodes.is_past strict y m (Key k) q ≡ not (before (id_at m q)))
+          (λ q live. past_is strict y n.stood.for_ sorted q live ∙ past_behind strict (compare_to_id i t k.now (id_at m q))) rs n.stood.live.rows
+
+      began : (a b : ℕ) → is_lt (compare_ids i t b a) ≡ false → before b ≡ true → before a ≡ true
+      began a b up later = behind_back strict _ _ (falls i t k.now a b up) later
+
+      seen_past : option_map (id_at m) (first_where (nodes.is_past strict y m (Key k)) rs) ≡ slice_get (view s t x) (length (filter before (view s t x)))
+      seen_past =
+          where_ids (id_at m) (nodes.is_past strict y m (Key k)) (λ id. not (before id)) rs each_past
+          ∙ ap (λ l. slice_get (filter (λ id. not (before id)) l) 0) shown_ids
+          ∙ first_past (compare_ids i t) before began (view s t x) (view_ascends s t x sorts)
+
+      placed_past : position_or_len (nodes.is_past strict y m (Key k)) rs ≡ length (filter before (view s t x))
+      placed_past =
+          place_ids (id_at m) (nodes.is_past strict y m (Key k)) (λ id. not (before id)) rs each_past
+          ∙ ap (λ l. position_or_len (λ id. not (before id)) l) shown_ids
+          ∙ place_past (compare_ids i t) before began (view s t x) (view_ascends s t x sorts)
+
     pub lower_seen : IsSorted s x → nodes.IsSortedStructure y → option_map (id_at m) (first_where (nodes.is_past false y m (Key k)) rs) ≡ look.lower s t x k.now
-    lower_seen sorts sorted =
-        let p : ℕ → Bool = λ id. is_gt (compare_to_id i t k.now id) in
-        where_ids (id_at m) (nodes.is_past false y m (Key k)) (λ id. not (p id)) rs
-        (each_of (λ q. nodes.is_past false y m (Key k) q ≡ not (p (id_at m q)))
-        (λ q live. past_is false y n.stood.for_ sorted q live ∙ past_lower (compare_to_id i t k.now (id_at m q))) rs n.stood.live.rows)
-        ∙ ap (λ l. slice_get (filter (λ id. not (p id)) l) 0) shown_ids
-        ∙ first_past (compare_ids i t) p (λ a b up yes. gt_back _ _ (falls i t k.now a b up) yes) (view s t x) (view_ascends s t x sorts)
-        ∙ ap (slice_get (view s t x)) (length-filter p (view s t x))
+    lower_seen sorts sorted = seen_past sorts sorted false ∙ ap (slice_get (view s t x)) (length-filter (λ id. is_gt (compare_to_id i t k.now id)) (view s t x))
 
     pub upper_seen : IsSorted s x → nodes.IsSortedStructure y → option_map (id_at m) (first_where (nodes.is_past true y m (Key k)) rs) ≡ look.upper s t x k.now
-    upper_seen sorts sorted =
-        let p : ℕ → Bool = λ id. is_ge (compare_to_id i t k.now id) in
-        where_ids (id_at m) (nodes.is_past true y m (Key k)) (λ id. not (p id)) rs
-        (each_of (λ q. nodes.is_past true y m (Key k) q ≡ not (p (id_at m q)))
-        (λ q live. past_is true y n.stood.for_ sorted q live ∙ past_upper (compare_to_id i t k.now (id_at m q))) rs n.stood.live.rows)
-        ∙ ap (λ l. slice_get (filter (λ id. not (p id)) l) 0) shown_ids
-        ∙ first_past (compare_ids i t) p (λ a b up yes. ge_back _ _ (falls i t k.now a b up) yes) (view s t x) (view_ascends s t x sorts)
-        ∙ ap (slice_get (view s t x)) (length-filter p (view s t x))
+    upper_seen sorts sorted = seen_past sorts sorted true ∙ ap (slice_get (view s t x)) (length-filter (λ id. is_ge (compare_to_id i t k.now id)) (view s t x))
 
     pub lower_placed : IsSorted s x → nodes.IsSortedStructure y → position_or_len (nodes.is_past false y m (Key k)) rs ≡ look.lower_rank s t x k.now
-    lower_placed sorts sorted =
-        let p : ℕ → Bool = λ id. is_gt (compare_to_id i t k.now id) in
-        place_ids (id_at m) (nodes.is_past false y m (Key k)) (λ id. not (p id)) rs
-        (each_of (λ q. nodes.is_past false y m (Key k) q ≡ not (p (id_at m q)))
-        (λ q live. past_is false y n.stood.for_ sorted q live ∙ past_lower (compare_to_id i t k.now (id_at m q))) rs n.stood.live.rows)
-        ∙ ap (λ l. position_or_len (λ id. not (p id)) l) shown_ids
-        ∙ place_past (compare_ids i t) p (λ a b up yes. gt_back _ _ (falls i t k.now a b up) yes) (view s t x) (view_ascends s t x sorts)
-        ∙ length-filter p (view s t x)
+    lower_placed sorts sorted = placed_past sorts sorted false ∙ length-filter (λ id. is_gt (compare_to_id i t k.now id)) (view s t x)
 
     pub upper_placed : IsSorted s x → nodes.IsSortedStructure y → position_or_len (nodes.is_past true y m (Key k)) rs ≡ look.upper_rank s t x k.now
-    upper_placed sorts sorted =
-        let p : ℕ → Bool = λ id. is_ge (compare_to_id i t k.now id) in
-        place_ids (id_at m) (nodes.is_past true y m (Key k)) (λ id. not (p id)) rs
-        (each_of (λ q. nodes.is_past true y m (Key k) q ≡ not (p (id_at m q)))
-        (λ q live. past_is true y n.stood.for_ sorted q live ∙ past_upper (compare_to_id i t k.now (id_at m q))) rs n.stood.live.rows)
-        ∙ ap (λ l. position_or_len (λ id. not (p id)) l) shown_ids
-        ∙ place_past (compare_ids i t) p (λ a b up yes. ge_back _ _ (falls i t k.now a b up) yes) (view s t x) (view_ascends s t x sorts)
-        ∙ length-filter p (view s t x)
+    upper_placed sorts sorted = placed_past sorts sorted true ∙ length-filter (λ id. is_ge (compare_to_id i t k.now id)) (view s t x)
 
   -- Whole keys
 

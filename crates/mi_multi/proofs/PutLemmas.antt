@@ -26,14 +26,14 @@ use Rattle.mi_container.specs.Data.Order.{ById}
 use Rattle.mi_container.specs.Changes.{with_content}
 use Rattle.mi_container.proofs.PairLemmas.{is_itself}
 use Rattle.mi_ids.specs.declared.entry.IdEntry.{IdEntry}
-use Rattle.mi_multi.specs.Physical.{stored_id, order_of, orders_of, plan, node_in, live_in, kept_in, picked}
+use Rattle.mi_multi.specs.Physical.{stored_id, order_of, orders_of, plan, node_in, live_in, picked}
 use Rattle.mi_multi.specs.Alike.{SaysSame, IsAltered}
 use Rattle.mi_multi.specs.Multi.{id_at, ids_at, own_lists, AreLive, HasNode, IsMulti, plain_of}
-use Rattle.mi_multi.proofs.RowLemmas.{picked_with, picked_still}
+use Rattle.mi_multi.proofs.RowLemmas.{picked_with}
 use Rattle.mi_multi.proofs.ListLemmas.{times_middle}
-use Rattle.mi_multi.proofs.SameNodeLemmas.{live_alike, kept_alike}
+use Rattle.mi_multi.proofs.SameNodeLemmas.{live_alike, kept_still}
 use Rattle.mi_multi.proofs.OrderLemmas.{orders_map, orders_same}
-use Rattle.mi_multi.proofs.EveryIndexLemmas.{Turned, Known, Every, At, at, every, all_known, all_for, seq_known, one, none, at_stamps}
+use Rattle.mi_multi.proofs.EveryIndexLemmas.{Turned, Known, Every, At, at, every, all_after, all_known, all_for, seq_known, at_stamps}
 use Rattle.mi_multi.proofs.LiveNodeLemmas.{IsLiveRef, id_of, names_apart, out_of_all, all_left, all_right, all_append}
 
 -- a list is the same, or the node has moved in it
@@ -116,11 +116,6 @@ module _ (s : Shape) (ids : FinMap nat_cmp IdEntry) (m : Pooled Stored) (xs : Li
       (node_in m os r) c (ap (option_and_then (live_in m os)) there)
       (ap (option_and_then (live_in n os)) there ∙ ap (λ w. Some (record { at = r; content = w })) same)
 
-  kept_still : picked (kept_in n os) (entries ids) ≡ d.kept
-  kept_still =
-      picked_still (kept_in m os) (kept_in n os) ids ids e (λ q ne. refl) (kept_alike os ids m n e altered)
-      (ap (option_and_then (kept_in n os)) there ∙ sym (ap (option_and_then (kept_in m os)) there))
-
   orders_still : orders_of s.indexes (own_lists n ys) ≡ d.orders
   orders_still =
       orders_map (λ l. l) (λ _ l. l) s.indexes (own_lists m xs) (own_lists n ys) (λ k. refl)
@@ -133,7 +128,7 @@ module _ (s : Shape) (ids : FinMap nat_cmp IdEntry) (m : Pooled Stored) (xs : Li
   revalued_seen now c same =
       let rows = rows_with c same in
       let orders = orders_still in
-      let kept = kept_still in
+      let kept = kept_still os ids m n e there refl altered in
       (λ i. record { rows = rows i; orders = orders i; next = next; arrivals = now; kept = kept i })
 
   -- Lists
@@ -164,10 +159,9 @@ module _ (s : Shape) (ids : FinMap nat_cmp IdEntry) (m : Pooled Stored) (xs : Li
             ∙ sym (times_middle (id_at m) k as_ r bs) ∙ ap (λ a. times k (ids_at m a)) (sym moved.2) ∙ live.each k;
       }
 
-  all_live : {k : ℕ} {js : List Index} {as_ bs : List Structure} {rss uss : List (List Ref)}
-      → Every (Known Q ids m n os d.orders) k js as_ bs rss uss → AllByRecursion (AreLive ids n) uss
-  all_live none = tt
-  all_live (one {s = k} {i = i} {x = x} {y = y} {rs = rs} {us = us} h rest) = (live_shifted rs us h.0.live (shifts k i x y rs us h).shifted, all_live rest)
+  all_live : AllByRecursion (AreLive ids n) given.uss
+  all_live =
+      all_after (Known Q ids m n os d.orders) (AreLive ids n) (λ k i x y rs us h. live_shifted rs us h.0.live (shifts k i x y rs us h).shifted) known
 
   has_still : (q : ℕ) (b : Ref) → HasNode m q b → HasNode n q b
   has_still q b h =
@@ -187,7 +181,7 @@ module _ (s : Shape) (ids : FinMap nat_cmp IdEntry) (m : Pooled Stored) (xs : Li
     rss = given.uss;
     stand = given.stand;
     kinds = all_for s.indexes xs ys like is.kinds;
-    live = all_live known;
+    live = all_live;
     held = λ q a here. has_still q a.node (is.held q a here);
     owned = λ a h. is.owned a (sym (given.refs a.name) ∙ h);
     is_data = data_;

@@ -39,7 +39,7 @@ use Rattle.mi_container.proofs.PairLemmas.{none_some, some_is, is_itself, is_oth
 use Rattle.mi_container.proofs.SequenceLemmas.{lacks_of_times, lacks_left}
 use Rattle.mi_model.proofs.ViewLaws.{Lacks}
 use Rattle.mi_ids.specs.declared.entry.IdEntry.{IdEntry}
-use Rattle.mi_multi.specs.Physical.{stored_id, order_of, orders_of, plan, live_in, kept_in, picked}
+use Rattle.mi_multi.specs.Physical.{stored_id, order_of, orders_of, plan, live_in, picked}
 use Rattle.mi_multi.specs.Alike.{SaysSame, IsAltered}
 use Rattle.mi_multi.specs.Multi.{id_at, ids_at, own_list, own_lists, is_live, AreLive, HasNode, IsMulti, plain_of}
 use Rattle.mi_multi.specs.Seen.{Seen, seen_of}
@@ -47,9 +47,9 @@ use Rattle.mi_multi.specs.declared.multi.MultiIndex.TheInside.{Inside}
 use Rattle.mi_multi.proofs.MarkedIdLemmas.{same_ids_multi}
 use Rattle.mi_multi.proofs.RowLemmas.{picked_still}
 use Rattle.mi_multi.proofs.ListLemmas.{itself, LacksIf, stand_there, times_middle, without_middle}
-use Rattle.mi_multi.proofs.SameNodeLemmas.{node_same, live_alike, kept_alike}
+use Rattle.mi_multi.proofs.SameNodeLemmas.{node_same, live_alike, kept_still}
 use Rattle.mi_multi.proofs.OrderLemmas.{orders_set, orders_same}
-use Rattle.mi_multi.proofs.EveryIndexLemmas.{Turned, Every, At, at, every, all_for, seq_by, has_plan, at_stamps}
+use Rattle.mi_multi.proofs.EveryIndexLemmas.{Turned, Every, At, at, every, all_after, all_for, seq_by, has_plan, at_stamps}
 use Rattle.mi_multi.proofs.EveryIndexLemmas.{sorted_not_sequenced, hashed_not_sequenced, one, none}
 use Rattle.mi_multi.proofs.LiveNodeLemmas.{IsLiveRef, found, holds, id_of, lacks_middle, names_apart, out_of_all, ids_same, all_left, all_right, all_append}
 use Rattle.mi_multi.proofs.NeighbourLemmas.{ids_append}
@@ -181,11 +181,6 @@ module _ (s : Shape) (ids : FinMap nat_cmp IdEntry) (m : Pooled Stored) (xs : Li
         picked_still (live_in m os) (live_in n os) ids ids e (λ w ne. refl) (live_alike os ids m n e altered)
         (ap (option_and_then (live_in n os)) there ∙ ap Some (node_same os m n r (says r.name)) ∙ sym (ap (option_and_then (live_in m os)) there))
 
-    kept_still : picked (kept_in n os) (entries ids) ≡ d.kept
-    kept_still =
-        picked_still (kept_in m os) (kept_in n os) ids ids e (λ w ne. refl) (kept_alike os ids m n e altered)
-        (ap (option_and_then (kept_in n os)) there ∙ sym (ap (option_and_then (kept_in m os)) there))
-
     -- The list in which it moves
 
     names_it : (w : Option ℕ) (f : Option Ref) → IsOtherNode ids e w f → option_map (id_at m) f ≡ w
@@ -249,7 +244,9 @@ module _ (s : Shape) (ids : FinMap nat_cmp IdEntry) (m : Pooled Stored) (xs : Li
 
     -- the data after it
     pub moved_seen : plain_of s ids n ys next arrivals ≡ record d { orders = moved_order x (λ ids_. stand q e (without e ids_)) d.orders }
-    moved_seen = (λ i. record { rows = rows_still i; orders = orders_moved i; next = next; arrivals = arrivals; kept = kept_still i })
+    moved_seen =
+        let kept = kept_still os ids m n e there refl altered in
+        (λ i. record { rows = rows_still i; orders = orders_moved i; next = next; arrivals = arrivals; kept = kept i })
 
     -- Lists
 
@@ -279,15 +276,13 @@ module _ (s : Shape) (ids : FinMap nat_cmp IdEntry) (m : Pooled Stored) (xs : Li
               ∙ sym (times_others k w.xs w.ys) ∙ ap (λ a. times k (ids_at m a)) (sym w.was) ∙ live.each k;
         }
 
-    all_live : {k : ℕ} {js : List Index} {as_ bs : List Structure} {rss uss : List (List Ref)}
-        → Every (Turned (moves_to x r b) ids m n) k js as_ bs rss uss → AllByRecursion (AreLive ids n) uss
-    all_live none = tt
-    all_live (one {s = k} {x = y} {rs = rs} {us = us} t rest) = (live_moved (k == x) y rs us t.live t.done, all_live rest)
+    all_live : AllByRecursion (AreLive ids n) changed.uss
+    all_live = all_after (Turned (moves_to x r b) ids m n) (AreLive ids n) (λ k i y z rs us t. live_moved (k == x) y rs us t.live t.done) turns
 
     -- all stands after it
     pub moved_multi : IsData s (record d { orders = moved_order x (λ ids_. stand q e (without e ids_)) d.orders }) → IsMulti s ids n ys next arrivals
     moved_multi data_ = same_ids_multi s ids m n xs ys next arrivals is changed.keeps.refs changed.keeps.values changed.uss
-        changed.stand (all_for s.indexes xs ys like is.kinds) (all_live turns) (subst (IsData s) (sym moved_seen) data_)
+        changed.stand (all_for s.indexes xs ys like is.kinds) all_live (subst (IsData s) (sym moved_seen) data_)
 
 -- the row that an inverse names
 pub other_node : (i : Inside) (w : Seen) → seen_of i ≡ w → (e : ℕ) (b : Option Row) → IsOther w.plain.rows e (option_map row_seen b)

@@ -79,6 +79,13 @@ module _ (s : Shape) (e : ℕ) (edits : List Edit) (rollback : Bool) (t : Table)
       (subst (λ o. MeetsRefusal o Range t t) (sym (modify_there h ∙ ap (λ o. modified s e rollback o t) (range is))) (refl, refl))
   edits_refused x h range (inr is) = subst (λ k. MeetsRefusal (modify_outcome s e edits rollback t) k t t) (sym is) refl
 
+-- what is said of a row's edited record
+pub record IsEdited (s : Shape) (e : ℕ) (edits : List Edit) (t : Table) (res : Result (List Value) Refusal) : Type 0 where
+  pub there : IfOk res (λ edited. has t e ≡ true)
+  pub edited : IfOk res (λ edited. apply edits (row t e).1 ≡ Some edited)
+  pub refused : (rollback : Bool) → IfErr res (λ x. MeetsRefusal (modify_outcome s e edits rollback t) x t t)
+  pub loss : IfErr res IsNoLoss
+
 -- what the edits make of a record that was got
 module _ (s : Shape) (e : ℕ) (edits : List Edit) (t : Table) (r : List Value) (at : get t e ≡ Some r) (res : Result (List Value) Refusal)
     (ok : IfOk res (λ edited. apply edits r ≡ Some edited)) (range : res ≡ Err Range → apply edits r ≡ None)
@@ -89,10 +96,10 @@ module _ (s : Shape) (e : ℕ) (edits : List Edit) (t : Table) (r : List Value) 
   same : (row t e).1 ≡ r
   same = ap (λ o. unwrap_or o []) at
 
-  pub got_there : IfOk res (λ edited. has t e ≡ true)
+  got_there : IfOk res (λ edited. has t e ≡ true)
   got_there = elim res as (λ k. IfOk k (λ edited. has t e ≡ true)) [ Ok edited ↦ there | Err x ↦ tt ]
 
-  pub got_edited : IfOk res (λ edited. apply edits (row t e).1 ≡ Some edited)
+  got_edited : IfOk res (λ edited. apply edits (row t e).1 ≡ Some edited)
   got_edited = subst (λ v. IfOk res (λ edited. apply edits v ≡ Some edited)) (sym same) ok
 
   refused_of : (k : Result (List Value) Refusal) → res ≡ k → IfErr k (λ x. (x ≡ Range) ⊎ (x ≡ Memory))
@@ -100,7 +107,7 @@ module _ (s : Shape) (e : ℕ) (edits : List Edit) (t : Table) (r : List Value) 
   refused_of (Ok edited) is which rollback = tt
   refused_of (Err x) is which rollback = edits_refused s e edits rollback t x there (λ ranged. ap (apply edits) same ∙ range (is ∙ ap Err ranged)) which
 
-  pub got_refused : (rollback : Bool) → IfErr res (λ x. MeetsRefusal (modify_outcome s e edits rollback t) x t t)
+  got_refused : (rollback : Bool) → IfErr res (λ x. MeetsRefusal (modify_outcome s e edits rollback t) x t t)
   got_refused = refused_of res refl only
 
   loss_of : (k : Result (List Value) Refusal) → IfErr k (λ x. (x ≡ Range) ⊎ (x ≡ Memory)) → IfErr k IsNoLoss
@@ -108,8 +115,8 @@ module _ (s : Shape) (e : ℕ) (edits : List Edit) (t : Table) (r : List Value) 
   loss_of (Err x) (inl is) = subst IsNoLoss (sym is) tt
   loss_of (Err x) (inr is) = subst IsNoLoss (sym is) tt
 
-  pub got_loss : IfErr res IsNoLoss
-  got_loss = loss_of res only
+  pub got_all : IsEdited s e edits t res
+  got_all = record { there = got_there; edited = got_edited; refused = got_refused; loss = loss_of res only }
 
 module _ (s : Shape) (e : ℕ) (r : List Value) (rollback : Bool) (t : Table) where
   abbrev later : Outcome (Unit {0})

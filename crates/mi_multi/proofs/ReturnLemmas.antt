@@ -17,6 +17,7 @@ use Rattle.mi_node.specs.Pool.{Pooled, value_of, link_of}
 use Rattle.mi_node.specs.Refs.{Ref, first_of, last_of}
 use Rattle.mi_tree.specs.Sorted.{NoneAre, side_of_new}
 use Rattle.mi_chain.specs.Keying.{same_nodes, same_values, stamp_at}
+use Rattle.mi_chain.specs.declared.chains.Chains.{Chains}
 use Rattle.mi_order.specs.declared.stored.Stored.{Stored}
 use Rattle.mi_index.specs.declared.structure.Structure.{Structure}
 use Rattle.mi_index.specs.declared.structure.Structure.TheVariants.{Sorted, Hashed, Sequenced}
@@ -115,6 +116,19 @@ module _ (s : Shape) (ids : FinMap nat_cmp IdEntry) (m : Pooled Stored) (xs : Li
   pub standing : Every Now 0 s.indexes xs xs is.rss is.rss
   standing = all_known nothing ids m m (every nothing ids m m 0 s.indexes xs xs is.rss is.rss
       is.kinds (all_like xs) is.stand is.stand (done_nothing 0 m xs is.rss is.stand) is.live)
+
+  -- of a hashed index: its order, that its stamps climb, and that its nodes are in the order of their stamps
+  module _ (k : ℕ) (i : Index) (c : Chains HashedBy) (y : Structure) (rs us : List Ref) (h : Now k i (Hashed c) y rs us) where
+    pub hashed_plan : get_or os k ById ≡ ByHash i.parts
+    hashed_plan = h.1.plan_is ∙ hashed_order i.kind i.parts [] h.0.for_.0
+
+    pub hashed_climb : Climb (stamp_at m k) rs
+    hashed_climb = subst (λ w. Climb (stamp_at m w) rs) h.0.slot h.0.was.1
+
+    pub hashed_ids : ids_by_stamp k d.rows ≡ ids_at m rs
+    hashed_ids =
+        by_stamp_is s d ids m os k i.parts rs is.is_data refl h.1.fewer h.1.few
+        (h.1.order_is ∙ hashed_order i.kind i.parts (own_list m (Hashed c)) h.0.for_.0) hashed_plan h.0.live hashed_climb
 
   module _ (e : ℕ) (r : Ref) (there : get ids e ≡ Some (record { node = r; live = false }))
       (meet : AllMeet 0 d.rows (node_in m os r).content (all_neighbours m r.name 0 os) d.orders) (b : Data)
@@ -245,12 +259,8 @@ module _ (s : Shape) (ids : FinMap nat_cmp IdEntry) (m : Pooled Stored) (xs : Li
         let slot : c.slot ≡ k = h.0.slot in
         let parts : c.keys.parts ≡ i.parts = h.0.for_.1 in
         let hashed : is_hashed i.kind ≡ true = h.0.for_.0 in
-        let climb : Climb (stamp_at m k) rs = subst (λ w. Climb (stamp_at m w) rs) slot h.0.was.1 in
-        let order_is : get_or d.orders k ById ≡ ByHash i.parts = h.1.order_is ∙ hashed_order i.kind i.parts (own_list m (Hashed c)) hashed in
-        let plan_is : get_or os k ById ≡ ByHash i.parts = h.1.plan_is ∙ hashed_order i.kind i.parts [] hashed in
-        let by : ids_by_stamp k d.rows ≡ ids_at m rs = by_stamp_is s d ids m os k i.parts rs
-        is.is_data refl h.1.fewer h.1.few order_is plan_is h.0.live climb in
-        let stamp = stamp_held m os k r h.1.few (ap has_stamps plan_is) in
+        let has : has_stamps (get_or os k ById) ≡ true = ap has_stamps (hashed_plan k i c y rs us h) in
+        let stamp = stamp_held m os k r h.1.few has in
         let met : MeetIn k d.rows (record_in (value_of m r.name)) (get_or (stamps_in m r.name 0 os) k 0)
         (neighbours_in m r.name k (ByHash i.parts)) (ByHash i.parts) =
         subst (λ w. MeetIn k d.rows (record_in (value_of m r.name)) (get_or (stamps_in m r.name 0 os) k 0) (neighbours_in m r.name k (ByHash i.parts)) w)
@@ -258,7 +268,7 @@ module _ (s : Shape) (ids : FinMap nat_cmp IdEntry) (m : Pooled Stored) (xs : Li
         (subst (λ w. MeetIn k d.rows (record_in (value_of m r.name)) (get_or (stamps_in m r.name 0 os) k 0)
         (neighbours_in m r.name k w) (order_of i.kind i.parts (own_list m (Hashed c))))
         (hashed_order i.kind i.parts [] hashed) meets) in
-        let same : ByStamp c.keys k rs = in_chains k c.keys rs by h.0.live climb h.1.few (ap has_stamps plan_is) (get_or (stamps_in m r.name 0 os) k 0) stamp
+        let same : ByStamp c.keys k rs = in_chains k c.keys rs (hashed_ids k i c y rs us h) h.0.live (hashed_climb k i c y rs us h) h.1.few has (get_or (stamps_in m r.name 0 os) k 0) stamp
         (subst (λ w. MeetByStamp k d.rows (get_or (stamps_in m r.name 0 os) k 0)
         (record { back = (link_of m r.name k).back; forth = (link_of m r.name k).forth }) (group w k d.rows (record_in (value_of m r.name))))
         (sym parts) met) in

@@ -1,7 +1,9 @@
 -- What a pool says of nodes stays where their values, stamps and links stay.
-use Rattle.std.proofs.Common.{◌≡◌, ◌≢◌, ℕ, ◌+◌, zero, suc, Bool, true, false, cond, List, [], ◌∷◌, get_or, refl, ap, sym, subst, arith}
+use Rattle.std.proofs.Common.{◌≡◌, ◌≢◌, ℕ, ◌+◌, zero, suc, Bool, true, false, cond, List, [], ◌∷◌, get_or, refl, ap, sym, ◌∙◌, subst, arith}
+use Rattle.std.specs.Option.{option_and_then}
 use Rattle.std.specs.Ordering.{nat_cmp}
-use Rattle.std.specs.FinMap.{FinMap, get}
+use Rattle.std.specs.FinMap.{FinMap, get, entries}
+use Rattle.std.specs.declared.option.Option.{Option}
 use Rattle.std.specs.declared.option.Option.TheVariants.{None, Some}
 use Rattle.mi_catalog.specs.declared.index.Index.{Index}
 use Rattle.mi_catalog.specs.declared.index.IndexKind.{IndexKind}
@@ -14,8 +16,9 @@ use Rattle.mi_container.specs.Data.{Order, has_stamps}
 use Rattle.mi_container.specs.Data.Order.{ById, ByKey, ByHash, Listed}
 use Rattle.mi_ids.specs.declared.entry.IdEntry.{IdEntry}
 use Rattle.mi_multi.specs.Physical.{order_of, orders_of, plan, stamp_in, stamps_in, neighbours_in}
-use Rattle.mi_multi.specs.Physical.{all_neighbours, record_in, node_in, kept_node_in, live_in, kept_in}
+use Rattle.mi_multi.specs.Physical.{all_neighbours, record_in, node_in, kept_node_in, live_in, kept_in, picked}
 use Rattle.mi_multi.specs.Alike.{SaysSame, IsAltered}
+use Rattle.mi_multi.proofs.RowLemmas.{picked_still}
 
 one_stamp : (m n : Pooled Stored) (k x : ℕ) (o : Order)
     → (has_stamps o ≡ true → (link_of n k x).tag.stamp ≡ (link_of m k x).tag.stamp) → stamp_in n k x o ≡ stamp_in m k x o
@@ -82,6 +85,14 @@ live_alike os ids m n e altered q a ne is = live_of os m n a a.live (altered.say
 pub kept_alike : (os : List Order) (ids : FinMap nat_cmp IdEntry) (m n : Pooled Stored) (e : ℕ)
     → IsAltered os ids m n e → (q : ℕ) (a : IdEntry) → q ≢ e → get ids q ≡ Some a → kept_in n os a ≡ kept_in m os a
 kept_alike os ids m n e altered q a ne is = kept_of os m n a a.live (altered.says q a ne is) (altered.kept q a ne is)
+
+-- so all kept nodes stay, where that row is kept neither before nor after
+pub kept_still : (os : List Order) (ids : FinMap nat_cmp IdEntry) (m n : Pooled Stored) (e : ℕ) {o : Option IdEntry} → get ids e ≡ o
+    → option_and_then (kept_in n os) o ≡ option_and_then (kept_in m os) o → IsAltered os ids m n e
+    → picked (kept_in n os) (entries ids) ≡ picked (kept_in m os) (entries ids)
+kept_still os ids m n e is same altered =
+    picked_still (kept_in m os) (kept_in n os) ids ids e (λ q ne. refl) (kept_alike os ids m n e altered)
+    (ap (option_and_then (kept_in n os)) is ∙ same ∙ sym (ap (option_and_then (kept_in m os)) is))
 
 -- Orders with lists, and without
 

@@ -44,8 +44,8 @@ use Rattle.mi_multi.proofs.RowLemmas.{picked_lost, picked_entered}
 use Rattle.mi_multi.proofs.ListLemmas.{LacksIf, stand_there, times_middle}
 use Rattle.mi_multi.proofs.SameNodeLemmas.{node_same, live_alike, kept_alike}
 use Rattle.mi_multi.proofs.OrderLemmas.{Enough, orders_relinked}
-use Rattle.mi_multi.proofs.EveryIndexLemmas.{Turned, Every, At, at, every, Known, all_known, all_for, seq_known, length_orders, at_stamps}
-use Rattle.mi_multi.proofs.EveryIndexLemmas.{has_plan, sequenced_order, sorted_not_sequenced, hashed_not_sequenced, one, none}
+use Rattle.mi_multi.proofs.EveryIndexLemmas.{Turned, Every, At, at, every, all_after, Known, all_known, all_for, seq_known, length_orders, at_stamps}
+use Rattle.mi_multi.proofs.EveryIndexLemmas.{has_plan, sequenced_order, sorted_not_sequenced, hashed_not_sequenced}
 use Rattle.mi_multi.proofs.LiveNodeLemmas.{live_rows_with, IsLiveRef, node_live, marked_here, marked_beside, names_apart}
 use Rattle.mi_multi.proofs.LiveNodeLemmas.{lacks_middle, out_of_all, ids_same, all_right, once_more}
 use Rattle.mi_multi.proofs.MarkedIdLemmas.{marked_multi}
@@ -244,13 +244,11 @@ module _ (s : Shape) (ids : FinMap nat_cmp IdEntry) (m n : Pooled Stored) (xs ys
       each = each_back rs us live w;
     }
 
-    all_live_back : {k : ℕ} {js : List Index} {as_ bs : List Structure} {rss uss : List (List Ref)}
-        → Every (Turned (comes_back All r) ids m n) k js as_ bs rss uss → AllByRecursion (AreLive new_ids n) uss
-    all_live_back none = tt
-    all_live_back (one {rs = rs} {us = us} t rest) = (live_back rs us t.live t.done.back, all_live_back rest)
+    all_live_back : AllByRecursion (AreLive new_ids n) changed.uss
+    all_live_back = all_after (Turned (comes_back All r) ids m n) (AreLive new_ids n) (λ k i x y rs us t. live_back rs us t.live t.done.back) turns
 
     -- all stands after it
     pub back_multi : IsMulti s new_ids n ys next arrivals
     back_multi =
         marked_multi s ids m n xs next arrivals is e r false true there changed.keeps.refs changed.keeps.values
-        ys changed.uss changed.stand (all_for s.indexes xs ys like is.kinds) (all_live_back turns) (subst (IsData s) (sym back_seen) back)
+        ys changed.uss changed.stand (all_for s.indexes xs ys like is.kinds) all_live_back (subst (IsData s) (sym back_seen) back)

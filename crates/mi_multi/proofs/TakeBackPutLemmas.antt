@@ -32,16 +32,16 @@ use Rattle.mi_container.specs.Inverse.{OldPlace, Old, stamp_back, stamps_back, o
 use Rattle.mi_container.specs.Fits.{PlaceMeets, PlacesMeet}
 use Rattle.mi_container.proofs.PairLemmas.{is_itself, is_other}
 use Rattle.mi_ids.specs.declared.entry.IdEntry.{IdEntry}
-use Rattle.mi_multi.specs.Physical.{stored_id, order_of, orders_of, plan, record_in, stamps_in, stamp_in, node_in, live_in, kept_in, picked}
+use Rattle.mi_multi.specs.Physical.{stored_id, order_of, orders_of, plan, record_in, stamps_in, stamp_in, node_in, live_in, picked}
 use Rattle.mi_multi.specs.Alike.{SaysSame, IsAltered}
 use Rattle.mi_multi.specs.Multi.{id_at, ids_at, own_list, own_lists, IsFor, AreLive, HasNode, IsMulti, plain_of}
 use Rattle.mi_multi.specs.Restored.{to_place}
-use Rattle.mi_multi.proofs.RowLemmas.{picked_still, picked_with}
+use Rattle.mi_multi.proofs.RowLemmas.{picked_with}
 use Rattle.mi_multi.proofs.ListLemmas.{itself, times_middle}
-use Rattle.mi_multi.proofs.SameNodeLemmas.{live_alike, kept_alike}
+use Rattle.mi_multi.proofs.SameNodeLemmas.{live_alike, kept_still}
 use Rattle.mi_multi.proofs.SettleLemmas.{orders_still}
-use Rattle.mi_multi.proofs.EveryIndexLemmas.{Turned, Known, Every, At, at, every, all_known, at_plan, all_for, seq_known, at_stamps}
-use Rattle.mi_multi.proofs.EveryIndexLemmas.{sequenced_order, one_plan, length_orders, one, none}
+use Rattle.mi_multi.proofs.EveryIndexLemmas.{Turned, Known, Every, At, at, every, all_after, all_known, at_plan, all_for, seq_known, at_stamps}
+use Rattle.mi_multi.proofs.EveryIndexLemmas.{sequenced_order, one_plan, length_orders}
 use Rattle.mi_multi.proofs.LiveNodeLemmas.{IsLiveRef, names_apart, out_of_all, all_left, all_right, all_append}
 use Rattle.mi_multi.proofs.StampLemmas.{stamp_given}
 use Rattle.mi_multi.proofs.OldRecordPlaceLemmas.{b, here, meets_at, places_long, given_is, placed}
@@ -221,11 +221,6 @@ module _ (s : Shape) (ids : FinMap nat_cmp IdEntry) (m n : Pooled Stored) (xs ys
         (ap (option_and_then (live_in m os)) there) (ap (option_and_then (live_in n os)) there ∙ ap Some own_node_is)
         ∙ ap (λ o. with_content e (old_content old (content_in o)) d.rows) (sym (here s ids m xs next arrivals is e r there old))
 
-    kept_still : picked (kept_in n os) (entries ids) ≡ d.kept
-    kept_still =
-        picked_still (kept_in m os) (kept_in n os) ids ids e (λ w ne. refl) (kept_alike os ids m n e altered)
-        (ap (option_and_then (kept_in n os)) there ∙ sym (ap (option_and_then (kept_in m os)) there))
-
     -- Lists
 
     list_still : (p : Option OldPlace) (i : Index) (x : Structure) (rs us : List Ref) → is_sequenced i.kind ≡ true
@@ -249,7 +244,9 @@ module _ (s : Shape) (ids : FinMap nat_cmp IdEntry) (m n : Pooled Stored) (xs ys
 
     -- the data before the put
     pub unput_seen : plain_of s ids n ys next (arrivals - 1) ≡ back_to
-    unput_seen = (λ i. record { rows = rows_back i; orders = orders_back i; next = next; arrivals = arrivals - 1; kept = kept_still i })
+    unput_seen =
+        let kept = kept_still os ids m n e there refl altered in
+        (λ i. record { rows = rows_back i; orders = orders_back i; next = next; arrivals = arrivals - 1; kept = kept i })
 
     live_still : (us : List Ref) → AllByRecursion (IsLiveRef ids m) us → AllByRecursion (IsLiveRef ids n) us
     live_still [] all = tt
@@ -278,10 +275,8 @@ module _ (s : Shape) (ids : FinMap nat_cmp IdEntry) (m n : Pooled Stored) (xs ys
               ∙ sym (times_middle (id_at m) k moved.xs r moved.ys) ∙ ap (λ a. times k (ids_at m a)) (sym moved.parts) ∙ live.each k;
         }
 
-    all_live : {k : ℕ} {js : List Index} {as_ bs : List Structure} {rss uss : List (List Ref)}
-        → Every Has k js as_ bs rss uss → AllByRecursion (AreLive ids n) uss
-    all_live none = tt
-    all_live (one {s = k} {i = i} {x = x} {y = y} {rs = rs} {us = us} h rest) = (live_back (place k) x rs us h.0.live (has_done k i x y rs us h), all_live rest)
+    all_live : AllByRecursion (AreLive ids n) done.uss
+    all_live = all_after Has (AreLive ids n) (λ k i x y rs us h. live_back (place k) x rs us h.0.live (has_done k i x y rs us h)) known
 
     held_now : (q : ℕ) (a : IdEntry) → get ids q ≡ Some a → HasNode n q a.node
     held_now q a there_ =
@@ -302,7 +297,7 @@ module _ (s : Shape) (ids : FinMap nat_cmp IdEntry) (m n : Pooled Stored) (xs ys
       rss = done.uss;
       stand = done.stand;
       kinds = all_for s.indexes xs ys like is.kinds;
-      live = all_live known;
+      live = all_live;
       held = held_now;
       owned = λ a h. is.owned a (sym (done.refs a.name) ∙ h);
       is_data = subst (IsData s) (sym unput_seen) back;
