@@ -160,12 +160,9 @@ module _ (s : Shape) (ids : FinMap nat_cmp IdEntry) (m n : Pooled Stored) (xs ys
         each = each_left rs us live w;
       }
 
-  all_live_left : AllByRecursion (AreLive new_ids n) changed.uss
-  all_live_left = all_after (Turned (left All r) ids m n) (AreLive new_ids n) (λ k i x y rs us t. live_left rs us t.live t.done.left) turns
-
   -- all stands after it
   pub erased_multi : IsMulti s new_ids n ys next arrivals
-  erased_multi =
-      marked_multi s ids m n xs next arrivals is e r true false there changed.keeps.refs changed.keeps.values
-      ys changed.uss changed.stand (all_for s.indexes xs ys like is.kinds) all_live_left
+  erased_multi = marked_multi s ids m n xs next arrivals is e r true false there changed.keeps.refs changed.keeps.values
+      ys changed.uss changed.stand (all_for s.indexes xs ys like is.kinds)
+      (all_after (Turned (left All r) ids m n) (AreLive new_ids n) (λ k i x y rs us t. live_left rs us t.live t.done.left) turns)
       (subst (IsData s) (sym erased_seen) (change_is_tables s (Erase e None) d is.is_data (node_in m os r, row_is)).0)

@@ -1,11 +1,12 @@
 -- An id is marked as live, or as only kept, and the nodes keep their names and values.
-use Rattle.std.proofs.Common.{◌≡◌, ◌≢◌, ℕ, ◌^◌, ◌≤◌, Bool, inl, inr, List, ap, sym, ◌∙◌, subst, arith}
+use Rattle.std.proofs.Common.{◌≡◌, ◌≢◌, ℕ, ◌^◌, ◌≤◌, Bool, inl, inr, List, [], ◌∷◌, ap, sym, ◌∙◌, subst, arith}
 use Rattle.std.specs.List.{AllByRecursion}
 use Rattle.std.specs.Ordering.{nat_cmp}
 use Rattle.std.specs.FinMap.{FinMap, get, len}
 use Rattle.std.proofs.lemmas.Bool.Decides.{eqb_tells}
 use Rattle.std.specs.declared.option.Option.TheVariants.{Some}
 use Rattle.mi_catalog.specs.Shape.{Shape}
+use Rattle.mi_model.specs.Table.{times}
 use Rattle.mi_node.specs.Pool.{Pooled, ref_of, value_of, IsHeld}
 use Rattle.mi_node.specs.Refs.{Ref}
 use Rattle.mi_order.specs.declared.stored.Stored.{Stored}
@@ -15,8 +16,9 @@ use Rattle.mi_container.specs.Data.{IsData}
 use Rattle.mi_container.proofs.PairLemmas.{some_is}
 use Rattle.mi_ids.specs.declared.entry.IdEntry.{IdEntry}
 use Rattle.mi_ids.specs.IdMap.{with_live}
-use Rattle.mi_multi.specs.Multi.{AllFor, AreLive, HasNode, IsMulti, plain_of}
-use Rattle.mi_multi.proofs.LiveNodeLemmas.{marked_here, marked_beside, len_marked}
+use Rattle.mi_multi.specs.Physical.{stored_id}
+use Rattle.mi_multi.specs.Multi.{ids_at, AllFor, AreLive, HasNode, IsMulti, plain_of}
+use Rattle.mi_multi.proofs.LiveNodeLemmas.{IsLiveRef, ids_same, marked_here, marked_beside, len_marked}
 
 module _ (s : Shape) (ids : FinMap nat_cmp IdEntry) (m n : Pooled Stored) (xs : List Structure) (next arrivals : ℕ)
     (is : IsMulti s ids m xs next arrivals) (e : ℕ) (r : Ref) (was mark : Bool) (there : get ids e ≡ Some (record { node = r; live = was }))
@@ -77,6 +79,18 @@ module _ (s : Shape) (ids : FinMap nat_cmp IdEntry) (m n : Pooled Stored) (xs : 
   }
 
 -- a pool whose references and values stay, for the same ids
+
+module _ (ids : FinMap nat_cmp IdEntry) (m n : Pooled Stored) (values : (k : ℕ) → value_of n k ≡ value_of m k) where
+  pub same_refs : (qs : List Ref) → AllByRecursion (IsLiveRef ids m) qs → AllByRecursion (IsLiveRef ids n) qs
+  same_refs [] all = tt
+  same_refs (q ∷ qs) all = (ap (get ids) (ap stored_id (values q.name)) ∙ all.0, same_refs qs all.1)
+
+  pub same_live : (rs us : List Ref) → AreLive ids m rs → us ≡ rs → AreLive ids n us
+  same_live rs us live same = record {
+    rows = same_refs us (subst (AllByRecursion (IsLiveRef ids m)) (sym same) live.rows);
+    each = λ q. ap (times q) (ids_same m n us values ∙ ap (ids_at m) same) ∙ live.each q;
+  }
+
 pub same_ids_multi : (s : Shape) (ids : FinMap nat_cmp IdEntry) (m n : Pooled Stored) (xs ys : List Structure) (next arrivals : ℕ)
     → IsMulti s ids m xs next arrivals → ((k : ℕ) → ref_of n k ≡ ref_of m k) → ((k : ℕ) → value_of n k ≡ value_of m k)
     → (uss : List (List Ref)) → AllStand ys 0 n uss → AllFor s.indexes ys → AllByRecursion (AreLive ids n) uss

@@ -39,12 +39,12 @@ use Rattle.mi_container.proofs.PairLemmas.{none_some, some_is, is_itself, is_oth
 use Rattle.mi_container.proofs.SequenceLemmas.{lacks_of_times, lacks_left}
 use Rattle.mi_model.proofs.ViewLaws.{Lacks}
 use Rattle.mi_ids.specs.declared.entry.IdEntry.{IdEntry}
-use Rattle.mi_multi.specs.Physical.{stored_id, order_of, orders_of, plan, live_in, picked}
+use Rattle.mi_multi.specs.Physical.{order_of, orders_of, plan, live_in, picked}
 use Rattle.mi_multi.specs.Alike.{SaysSame, IsAltered}
 use Rattle.mi_multi.specs.Multi.{id_at, ids_at, own_list, own_lists, is_live, AreLive, HasNode, IsMulti, plain_of}
 use Rattle.mi_multi.specs.Seen.{Seen, seen_of}
 use Rattle.mi_multi.specs.declared.multi.MultiIndex.TheInside.{Inside}
-use Rattle.mi_multi.proofs.MarkedIdLemmas.{same_ids_multi}
+use Rattle.mi_multi.proofs.MarkedIdLemmas.{same_ids_multi, same_refs, same_live}
 use Rattle.mi_multi.proofs.RowLemmas.{picked_still}
 use Rattle.mi_multi.proofs.ListLemmas.{itself, LacksIf, stand_there, times_middle, without_middle}
 use Rattle.mi_multi.proofs.SameNodeLemmas.{node_same, live_alike, kept_still}
@@ -250,19 +250,9 @@ module _ (s : Shape) (ids : FinMap nat_cmp IdEntry) (m : Pooled Stored) (xs : Li
 
     -- Lists
 
-    live_still : (us : List Ref) → AllByRecursion (IsLiveRef ids m) us → AllByRecursion (IsLiveRef ids n) us
-    live_still [] all = tt
-    live_still (w ∷ us) all = (ap (get ids) (ap stored_id (changed.keeps.values w.name)) ∙ all.0, live_still us all.1)
-
-    live_same : (rs us : List Ref) → AreLive ids m rs → us ≡ rs → AreLive ids n us
-    live_same rs us live same = record {
-      rows = live_still us (subst (AllByRecursion (IsLiveRef ids m)) (sym same) live.rows);
-      each = λ w. ap (times w) (ids_same m n us changed.keeps.values ∙ ap (ids_at m) same) ∙ live.each w;
-    }
-
     live_moved : (t : Bool) (y : Structure) (rs us : List Ref) → AreLive ids m rs → IsRelocatedIf t y m n r b rs us → AreLive ids n us
-    live_moved false y rs us live done = live_same rs us live done.list
-    live_moved true y rs us live (inl no_) = live_same rs us live no_.1
+    live_moved false y rs us live done = same_live ids m n changed.keeps.values rs us live done.list
+    live_moved true y rs us live (inl no_) = same_live ids m n changed.keeps.values rs us live no_.1
     live_moved true y rs us live (inr w) =
         let rows_ : AllByRecursion (IsLiveRef ids m) (w.ps ++ w.qs) = subst (AllByRecursion (IsLiveRef ids m))
         w.others (all_others w.xs w.ys (subst (AllByRecursion (IsLiveRef ids m)) w.was live.rows)) in
@@ -270,7 +260,7 @@ module _ (s : Shape) (ids : FinMap nat_cmp IdEntry) (m : Pooled Stored) (xs : Li
         let now_ : AllByRecursion (IsLiveRef ids m) us = subst (AllByRecursion (IsLiveRef ids m)) (sym w.now)
         (all_append (IsLiveRef ids m) w.ps (r ∷ w.qs) (all_left (IsLiveRef ids m) w.ps w.qs rows_) (here, all_right (IsLiveRef ids m) w.ps w.qs rows_)) in
         record {
-          rows = live_still us now_;
+          rows = same_refs ids m n changed.keeps.values us now_;
           each = λ k. ap (times k) (ids_same m n us changed.keeps.values ∙ ap (ids_at m) w.now) ∙ times_middle (id_at m) k w.ps r w.qs
               ∙ ap (λ a. cond (id_at m r == k) 1 0 + times k (ids_at m a)) (sym w.others)
               ∙ sym (times_others k w.xs w.ys) ∙ ap (λ a. times k (ids_at m a)) (sym w.was) ∙ live.each k;

@@ -6,7 +6,6 @@ use Rattle.std.specs.Ordering.{nat_cmp}
 use Rattle.std.specs.FinMap.{FinMap, get, entries}
 use Rattle.std.specs.declared.option.Option.TheVariants.{None}
 use Rattle.mi_catalog.specs.Shape.{Shape}
-use Rattle.mi_model.specs.Table.{times}
 use Rattle.mi_node.specs.Pool.{Pooled}
 use Rattle.mi_node.specs.Refs.{Ref}
 use Rattle.mi_order.specs.declared.stored.Stored.{Stored}
@@ -16,14 +15,14 @@ use Rattle.mi_index.specs.Passes.{nothing_asked, grown}
 use Rattle.mi_container.specs.Data.{Data, Order, IsData}
 use Rattle.mi_container.proofs.PairLemmas.{is_other}
 use Rattle.mi_ids.specs.declared.entry.IdEntry.{IdEntry}
-use Rattle.mi_multi.specs.Physical.{stored_id, orders_of, plan, live_in, picked}
+use Rattle.mi_multi.specs.Physical.{orders_of, plan, live_in, picked}
 use Rattle.mi_multi.specs.Alike.{SaysSame, IsAltered}
 use Rattle.mi_multi.specs.Multi.{ids_at, own_lists, AreLive, IsMulti, plain_of}
-use Rattle.mi_multi.proofs.MarkedIdLemmas.{same_ids_multi}
+use Rattle.mi_multi.proofs.MarkedIdLemmas.{same_ids_multi, same_live}
 use Rattle.mi_multi.proofs.RowLemmas.{picked_still}
 use Rattle.mi_multi.proofs.SameNodeLemmas.{live_alike, kept_still}
 use Rattle.mi_multi.proofs.EveryIndexLemmas.{Turned, Every, every, all_after, all_for, seq_by}
-use Rattle.mi_multi.proofs.LiveNodeLemmas.{IsLiveRef, out_of_all, ids_same}
+use Rattle.mi_multi.proofs.LiveNodeLemmas.{out_of_all, ids_same}
 use Rattle.mi_multi.proofs.LinkLemmas.{says_by_tags}
 use Rattle.mi_multi.proofs.SettleLemmas.{orders_still}
 use Rattle.mi_multi.proofs.InsertLemmas.{fresh}
@@ -86,18 +85,8 @@ module _ (s : Shape) (ids : FinMap nat_cmp IdEntry) (m n : Pooled Stored) (xs ys
       let kept = kept_still os ids m n next was refl altered in
       (λ i. record { rows = rows_still i; orders = orders_same i; next = next; arrivals = arrivals; kept = kept i })
 
-  live_still : (qs : List Ref) → AllByRecursion (IsLiveRef ids m) qs → AllByRecursion (IsLiveRef ids n) qs
-  live_still [] all = tt
-  live_still (q ∷ qs) all = (ap (get ids) (ap stored_id (changed.keeps.values q.name)) ∙ all.0, live_still qs all.1)
-
-  live_grown : (rs us : List Ref) → AreLive ids m rs → us ≡ rs → AreLive ids n us
-  live_grown rs us live same = record {
-    rows = subst (AllByRecursion (IsLiveRef ids n)) (sym same) (live_still rs live.rows);
-    each = λ q. ap (times q) (ids_same m n us changed.keeps.values ∙ ap (ids_at m) same) ∙ live.each q;
-  }
-
   all_live : AllByRecursion (AreLive ids n) changed.uss
-  all_live = all_after (Turned grown ids m n) (AreLive ids n) (λ k i x y rs us t. live_grown rs us t.live t.done.list) turns
+  all_live = all_after (Turned grown ids m n) (AreLive ids n) (λ k i x y rs us t. same_live ids m n changed.keeps.values rs us t.live t.done.list) turns
 
   -- all stands
   pub grown_multi : IsMulti s ids n ys next arrivals

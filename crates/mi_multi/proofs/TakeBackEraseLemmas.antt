@@ -244,11 +244,9 @@ module _ (s : Shape) (ids : FinMap nat_cmp IdEntry) (m n : Pooled Stored) (xs ys
       each = each_back rs us live w;
     }
 
-    all_live_back : AllByRecursion (AreLive new_ids n) changed.uss
-    all_live_back = all_after (Turned (comes_back All r) ids m n) (AreLive new_ids n) (λ k i x y rs us t. live_back rs us t.live t.done.back) turns
-
     -- all stands after it
     pub back_multi : IsMulti s new_ids n ys next arrivals
-    back_multi =
-        marked_multi s ids m n xs next arrivals is e r false true there changed.keeps.refs changed.keeps.values
-        ys changed.uss changed.stand (all_for s.indexes xs ys like is.kinds) all_live_back (subst (IsData s) (sym back_seen) back)
+    back_multi = marked_multi s ids m n xs next arrivals is e r false true there changed.keeps.refs changed.keeps.values
+        ys changed.uss changed.stand (all_for s.indexes xs ys like is.kinds)
+        (all_after (Turned (comes_back All r) ids m n) (AreLive new_ids n) (λ k i x y rs us t. live_back rs us t.live t.done.back) turns)
+        (subst (IsData s) (sym back_seen) back)
