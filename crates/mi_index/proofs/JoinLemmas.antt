@@ -1,5 +1,6 @@
 -- A node that joins the structure of an index, leaves it, or comes back to it.
 --     cut_at      a list of rising stamps, cut at one that isn't there
+--     tree_with      a tree in which a node was put
 --     chain_placed, fits_again      where a node may join chains, and where it may come back to
 --     chains_stand      chains after a change
 use Rattle.std.proofs.Common.{◌≡◌, ℕ, ◌<◌, ◌≤◌, ◌+◌, ◌^◌, ◌==◌, nat_lt, ◌⊎◌, inl, inr, Bool, true, false}
@@ -8,18 +9,23 @@ use Rattle.std.proofs.lemmas.Bool.{ltb-true, ltb-false}
 use Rattle.mi_node.specs.Pool.{Pooled, link_of, IsHeld, Keeps}
 use Rattle.mi_node.specs.Refs.{Ref, IsOut}
 use Rattle.mi_node.specs.declared.link.Tag.{Tag}
+use Rattle.mi_node.proofs.EntryLemmas.{flip, same_refl}
 use Rattle.mi_node.proofs.RefLemmas.{out_left, out_right}
 use Rattle.mi_node.proofs.KeepingLemmas.{keeps_more}
 use Rattle.mi_list.proofs.ChangeLemmas.{out_among}
+use Rattle.mi_tree.specs.Sorted.{side_of_new, IsPutIn}
+use Rattle.mi_tree.specs.Standing.{IsTree}
+use Rattle.mi_tree.specs.declared.tree.Tree.{Tree}
 use Rattle.mi_chain.specs.Keying.{Keying, same_nodes, stamp_at}
 use Rattle.mi_chain.specs.Chained.{AreAfter, AreBefore, IsPlaced, AreChained}
 use Rattle.mi_chain.specs.declared.chains.Chains.{Chains}
-use Rattle.mi_order.specs.Orders.{keying_of}
+use Rattle.mi_order.specs.Orders.{stored_order, stored_tag, keying_of}
 use Rattle.mi_index.specs.Standing.{AllAbove, AllBelow, Climb, Stands}
-use Rattle.mi_index.specs.Places.{NoneHas}
+use Rattle.mi_index.specs.Places.{IsWith, NoneHas, HasStamp}
 use Rattle.mi_order.specs.declared.stored.Stored.{Stored}
+use Rattle.mi_order.specs.declared.orders.ByKey.{ByKey}
 use Rattle.mi_order.specs.declared.orders.ByHash.{ByHash}
-use Rattle.mi_index.specs.declared.structure.Structure.TheVariants.{Hashed}
+use Rattle.mi_index.specs.declared.structure.Structure.TheVariants.{Sorted, Hashed}
 
 -- a list of rising stamps, cut at a stamp that isn't there
 pub record IsCut (f : Ref → ℕ) (n : ℕ) (rs : List Ref) : Type 0 where
@@ -91,6 +97,27 @@ module _ (f g : Ref → ℕ) (k : ℕ) (same : (q : Ref) → (k == q.name) ≡ f
   climb_in r stamp xs ys o e h b a = climb_with g r xs ys (climb_on (xs ++ ys) o h)
       (below_on stamp (g r) xs (out_left k xs ys o) e b) (above_on stamp (g r) ys (out_right k xs ys o) e a)
 
+-- A tree
+
+-- in which a node was put
+pub record IsGrownBy (t u : Tree ByKey) (m n : Pooled Stored) (r : Ref) (stamp : ℕ) (rs : List Ref) : Type 0 where
+  pub us : List Ref
+  pub with_it : IsWith r rs us
+  pub stamped : HasStamp (Sorted t) m n r stamp
+  pub stands : Stands (Sorted u) n us
+
+pub tree_with : (t u : Tree ByKey) (m n : Pooled Stored) (r : Ref) (stamp : ℕ) (rs : List Ref) → u.order ≡ t.order
+    → (us : List Ref) × IsPutIn (side_of_new (stored_order t.order.parts) m t.slot r stamp) r rs us
+    × IsTree u n (stored_order t.order.parts) (stored_tag t.order.types t.order.parts) us
+    → (link_of n r.name t.slot).tag.stamp ≡ stamp
+    → ((k : ℕ) → (k == r.name) ≡ false → (link_of n k t.slot).tag ≡ (link_of m k t.slot).tag) → IsGrownBy t u m n r stamp rs
+tree_with t u m n r stamp rs order put stamped tags = record {
+  us = put.0;
+  with_it = record { xs = put.1.xs; ys = put.1.ys; was = put.1.was; now = put.1.now };
+  stamped = (stamped, λ k d. tags k (flip k r.name ∙ d));
+  stands = subst (λ (o : ByKey). IsTree u n (stored_order o.parts) (stored_tag o.types o.parts) put.0) (sym order) put.2;
+}
+
 -- Chains
 
 are_before : (R : Ref → Ref → Bool) (f : Ref → ℕ) (r : Ref) (n : ℕ) (xs : List Ref) → AllBelow f n xs → AreBefore R f r n xs
@@ -120,6 +147,14 @@ chain_placed k m s r stamp rs xs ys held out few parts below above = record {
 chains_same : (c d : Chains ByHash) (n : Pooled Stored) (us : List Ref) → d.slot ≡ c.slot → d.keys ≡ c.keys
     → AreChained d (keying_of c.keys) n us → Climb (stamp_at n c.slot) us → Stands (Hashed d) n us
 chains_same c d n us slot keys h w = (subst (λ (k : ByHash). AreChained d (keying_of k) n us) (sym keys) h, subst (λ s. Climb (stamp_at n s) us) (sym slot) w)
+
+-- a node that has a tag of its own has its stamp, and the others have theirs
+pub chains_stamped : (c : Chains ByHash) (m n : Pooled Stored) (r : Ref) (tag : Tag)
+    → ((k : ℕ) → (link_of n k c.slot).tag ≡ cond (r.name == k) tag (link_of m k c.slot).tag) → HasStamp (Hashed c) m n r tag.stamp
+chains_stamped c m n r tag tags = (
+  ap (λ (t : Tag). t.stamp) (tags r.name ∙ ap (λ b. cond b tag (link_of m r.name c.slot).tag) (same_refl r.name)),
+  λ k other. tags k ∙ ap (λ b. cond b tag (link_of m k c.slot).tag) other,
+)
 
 -- after a change that keeps all tags
 pub chains_kept : (c d : Chains ByHash) (m n : Pooled Stored) (us : List Ref) → d.slot ≡ c.slot

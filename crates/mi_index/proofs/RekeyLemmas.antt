@@ -1,7 +1,8 @@
 -- A node gets another value: it leaves the structures in which its key changes, and comes into them again, or back to an old place.
 --     cut_once      a list without doubles is cut at a node in one way
---     can_leave, can_rejoin, is_rekeyed      with a new stamp
---     can_leave_for, can_return, is_returned      to the places that are given
+--     can_again, is_again      out and in again, by what is asked of each
+--     can_leave, can_come, is_rekeyed      with a new stamp
+--     can_go_leave, can_go_come, is_given_back      to the places that are given
 use Rattle.std.proofs.Common.{◌≡◌, ℕ, ◌+◌, ◌<◌, ◌^◌, ◌==◌, Bool, true, false, cond, List, [], ◌∷◌, ◌++◌}
 use Rattle.std.proofs.Common.{length, Option, Some, None, option_map, refl, sym, ap, ◌∙◌, subst, arith}
 use Rattle.std.specs.declared.cmp.Ordering.TheVariants.{Equal}
@@ -13,7 +14,7 @@ use Rattle.mi_tree.specs.Sorted.{compared}
 use Rattle.mi_tree.specs.Frame.{IsAlike, AreAlike}
 use Rattle.mi_index.specs.Standing.{slot_in, swap_order, AllAbove, AllBelow, Stands, IsLike}
 use Rattle.mi_index.specs.Places.{is_given, IsWith, IsBeside, IsLeft}
-use Rattle.mi_index.specs.Pass.{Asks, Gives, AllStand, AllCan, AllGiven, AllLike, AreReady, IsPass, IsOutOfAll}
+use Rattle.mi_index.specs.Pass.{Asks, Gives, AllStand, AllCan, AllGiven, AllLike, AreReady, AreChanged, IsPass, IsOutOfAll}
 use Rattle.mi_index.specs.Passes.{IsSame, CanJoinIf, IsJoinedIf, HasNodeIf, IsLeftIf, CanReturnTo, IsBackAt}
 use Rattle.mi_index.specs.Rekeying.{side_of_value, HasPlaceFor, HasOldPlaceFor, KeepsKey, CanMoveIf, HasMovedIf, CanMoveBackTo, HasMovedBackTo, IsRekeyed}
 use Rattle.std.specs.List.{filter}
@@ -257,6 +258,9 @@ module _ (P L J : Asks) (D E Q : Gives) (m n o : Pooled Stored) where
     all_leave (x ∷ xs) s [] c = tt
     all_leave (x ∷ xs) s (rs ∷ rss) c = (leave s x rs c.0, all_leave xs (s + 1) rss c.1)
 
+    can_out : (xs : List Structure) → AreReady P 0 xs m → AreReady L 0 xs m
+    can_out xs q = record { rss = q.rss; stand = q.stand; can = all_leave xs 0 q.rss q.can }
+
   module _ (stand : (s : ℕ) (x y : Structure) (rs us : List Ref) → IsLike x y → Stands x m rs → Stands y n us → P s x m rs → D s x m n rs us → Stands y o us)
       (rejoin : (s : ℕ) (x y : Structure) (rs us : List Ref) → IsLike x y → Stands x m rs → P s x m rs → D s x m n rs us → J s y o us) where
     all_ready : (xs ys : List Structure) (s : ℕ) (rss uss : List (List Ref)) → AllLike xs ys → AllStand xs s m rss
@@ -310,6 +314,61 @@ values_with m n r v refs values held k = (elim (r.name == k) as (λ b. (r.name =
   | false ↦ λ e. (but_value n r.name v).values k e ∙ values k
 ]) refl
 
+-- a pass D takes the node out, it gets its value, and a pass E lets it in again
+
+module _ (P L J : Asks) (D E Q : Gives) (r : Ref) (v : Stored) (xs ys : List Structure) (m n : Pooled Stored) (held : IsHeld m r)
+    (like : AllLike xs ys) (out : IsPass L D r 0 xs ys m n) (leave : (s : ℕ) (x : Structure) (rs : List Ref) → P s x m rs → L s x m rs) where
+  abbrev revalued : Pooled Stored
+  revalued = with_value n r.name v
+
+  abbrev Kept : Type 0
+  Kept = ((k : ℕ) → ref_of n k ≡ ref_of m k) × ((k : ℕ) → value_of n k ≡ value_of m k)
+
+  gone : (rss : List (List Ref)) → AllStand xs 0 m rss → AllCan P xs 0 m rss → AreChanged D r 0 xs ys m n rss
+  gone rss a c = out rss a (all_leave P L J D E Q m n revalued leave xs 0 rss c)
+
+  module _ (stand : Kept → (s : ℕ) (x y : Structure) (rs us : List Ref)
+      → IsLike x y → Stands x m rs → Stands y n us → P s x m rs → D s x m n rs us → Stands y revalued us)
+      (rejoin : Kept → (s : ℕ) (x y : Structure) (rs us : List Ref) → IsLike x y → Stands x m rs → P s x m rs → D s x m n rs us → J s y revalued us) where
+    ready : (rss : List (List Ref)) (a : AllStand xs 0 m rss) (c : AllCan P xs 0 m rss)
+        → AllStand ys 0 revalued (gone rss a c).uss × AllCan J ys 0 revalued (gone rss a c).uss
+    ready rss a c =
+        let g = gone rss a c in let kept : Kept = (g.keeps.refs, g.keeps.values) in
+        all_ready P L J D E Q m n revalued (stand kept) (rejoin kept) xs ys 0 rss g.uss like a g.stand c g.done
+
+    can_again : AreReady P 0 xs m → AreReady J 0 ys revalued
+    can_again q = let both = ready q.rss q.stand q.can in record { rss = (gone q.rss q.stand q.can).uss; stand = both.0; can = both.1 }
+
+    is_again : (zs : List Structure) (p : Pooled Stored) → IsPass J E r 0 ys zs revalued p
+        → ((k s : ℕ) (x : Structure) (rs us : List Ref) → D s x m n rs us → IsOut k rs → IsOut k us)
+        → (Kept → ((k : ℕ) → value_of p k ≡ value_of revalued k) → (s : ℕ) (x y : Structure) (rs us ws : List Ref)
+        → IsLike x y → Stands x m rs → P s x m rs → D s x m n rs us → E s y revalued p us ws → Q s x m p rs ws)
+        → (rss : List (List Ref)) → AllStand xs 0 m rss → AllCan P xs 0 m rss → IsRekeyed Q r v xs zs m p rss
+    is_again zs p back outs over rss a c =
+        let g = gone rss a c in let refs = g.keeps.refs in let values = g.keeps.values in
+        let both = ready rss a c in
+        let b = back g.uss both.0 both.1 in
+        record {
+          uss = b.uss;
+          done = all_over P L J D E Q m n revalued p (over (refs, values) b.keeps.values) xs ys 0 rss g.uss b.uss like a c g.done b.done;
+          stand = b.stand;
+          refs = λ k. b.keeps.refs k ∙ ref-with_value n r.name v k ∙ refs k;
+          values = λ k. b.keeps.values k ∙ values_with m n r v refs values held k;
+          slots = b.keeps.slots ∙ slots-with_value n r.name v ∙ g.keeps.slots;
+          other_nodes = λ k t d h.
+              b.keeps.other_nodes k t d (all_outs P L J D E Q m n revalued k (outs k) xs 0 rss g.uss g.done h)
+              ∙ link-with_value n r.name v k t ∙ g.keeps.other_nodes k t d h;
+        }
+
+-- what a pass keeps, where it can run
+pub kept_refs : {L : Asks} {D : Gives} {r : Ref} {s : ℕ} {xs ys : List Structure} {m n : Pooled Stored}
+    → AreReady L s xs m → IsPass L D r s xs ys m n → (k : ℕ) → ref_of n k ≡ ref_of m k
+kept_refs q pass = (pass q.rss q.stand q.can).keeps.refs
+
+pub kept_values : {L : Asks} {D : Gives} {r : Ref} {s : ℕ} {xs ys : List Structure} {m n : Pooled Stored}
+    → AreReady L s xs m → IsPass L D r s xs ys m n → (k : ℕ) → value_of n k ≡ value_of m k
+kept_values q pass = (pass q.rss q.stand q.can).keeps.values
+
 -- by a new stamp, where the flag of a slot is set
 
 module _ (flag : ℕ → Bool) (r : Ref) (v : Stored) (t : ℕ) where
@@ -331,45 +390,26 @@ module _ (flag : ℕ → Bool) (r : Ref) (v : Stored) (t : ℕ) where
   abbrev has_come : Gives
   has_come s x m n rs us = IsJoinedIf (flag s) x m n r t None rs us
 
-  leaves_all : (xs : List Structure) (m : Pooled Stored) (rss : List (List Ref)) → AllCan asks xs 0 m rss → AllCan leaves xs 0 m rss
-  leaves_all xs m rss c = all_leave asks leaves comes is_left has_come gives m m m (λ s x rs c. leave_one (flag s) x m r v t rs c) xs 0 rss c
+  leaves_one : (m : Pooled Stored) (s : ℕ) (x : Structure) (rs : List Ref) → asks s x m rs → leaves s x m rs
+  leaves_one m s x rs c = leave_one (flag s) x m r v t rs c
 
   pub can_leave : (xs : List Structure) (m : Pooled Stored) → AreReady asks 0 xs m → AreReady leaves 0 xs m
-  can_leave xs m q = record { rss = q.rss; stand = q.stand; can = leaves_all xs m q.rss q.can }
+  can_leave xs m q = can_out asks leaves comes is_left has_come gives m m m (leaves_one m) xs q
 
   module _ (xs ys : List Structure) (m n : Pooled Stored) (held : IsHeld m r) (like : AllLike xs ys) (out : IsPass leaves is_left r 0 xs ys m n) where
-    ready : (rss uss : List (List Ref)) → AllStand xs 0 m rss → AllStand ys 0 n uss → ((k : ℕ) → ref_of n k ≡ ref_of m k)
-        → ((k : ℕ) → value_of n k ≡ value_of m k) → AllCan asks xs 0 m rss → AllGiven is_left xs 0 m n rss uss
-        → AllStand ys 0 (with_value n r.name v) uss × AllCan comes ys 0 (with_value n r.name v) uss
-    ready rss uss g h refs values c d = all_ready asks leaves comes is_left has_come gives m n (with_value n r.name v)
-        (λ s x y rs us w g h c d. stand_one m n r v refs values held t (flag s) x y rs us w g h c d)
-        (λ s x y rs us w g c d. rejoin_one m n r v refs values held t (flag s) x y rs us w g c d) xs ys 0 rss uss like g h c d
-
     pub can_come : AreReady asks 0 xs m → AreReady comes 0 ys (with_value n r.name v)
-    can_come q =
-        let a = out q.rss q.stand (leaves_all xs m q.rss q.can) in let both = ready q.rss a.uss q.stand a.stand a.keeps.refs a.keeps.values q.can a.done in
-        record { rss = a.uss; stand = both.0; can = both.1 }
+    can_come = can_again asks leaves comes is_left has_come gives r v xs ys m n held like out (leaves_one m)
+        (λ kept s x y rs us w g h c d. stand_one m n r v kept.0 kept.1 held t (flag s) x y rs us w g h c d)
+        (λ kept s x y rs us w g c d. rejoin_one m n r v kept.0 kept.1 held t (flag s) x y rs us w g c d)
 
     pub is_rekeyed : (zs : List Structure) (p : Pooled Stored) → IsPass comes has_come r 0 ys zs (with_value n r.name v) p
         → (rss : List (List Ref)) → AllStand xs 0 m rss → AllCan asks xs 0 m rss → IsRekeyed gives r v xs zs m p rss
-    is_rekeyed zs p back rss stand can =
-        let a = out rss stand (leaves_all xs m rss can) in let refs = a.keeps.refs in let values = a.keeps.values in
-        let both = ready rss a.uss stand a.stand refs values can a.done in
-        let b = back a.uss both.0 both.1 in
-        record {
-          uss = b.uss;
-          done = all_over asks leaves comes is_left has_come gives m n (with_value n r.name v) p
-              (λ s x y rs us ws w g c d e. moved_one m n r v refs values held t (flag s) x y p rs us ws w g c d e)
-              xs ys 0 rss a.uss b.uss like stand can a.done b.done;
-          stand = b.stand;
-          refs = λ k. b.keeps.refs k ∙ ref-with_value n r.name v k ∙ refs k;
-          values = λ k. b.keeps.values k ∙ values_with m n r v refs values held k;
-          slots = b.keeps.slots ∙ slots-with_value n r.name v ∙ a.keeps.slots;
-          other_nodes = λ k t d o.
-              b.keeps.other_nodes k t d (all_outs asks leaves comes is_left has_come gives m n n k
-              (λ s x rs us d h. left_outs (flag s) x m n r k rs us d h) xs 0 rss a.uss a.done o)
-              ∙ link-with_value n r.name v k t ∙ a.keeps.other_nodes k t d o;
-        }
+    is_rekeyed zs p back =
+        is_again asks leaves comes is_left has_come gives r v xs ys m n held like out (leaves_one m)
+        (λ kept s x y rs us w g h c d. stand_one m n r v kept.0 kept.1 held t (flag s) x y rs us w g h c d)
+        (λ kept s x y rs us w g c d. rejoin_one m n r v kept.0 kept.1 held t (flag s) x y rs us w g c d)
+        zs p back (λ k s x rs us d h. left_outs (flag s) x m n r k rs us d h)
+        (λ kept values s x y rs us ws w g c d e. moved_one m n r v kept.0 kept.1 held t (flag s) x y p rs us ws w g c d e)
 
 -- back to the places that are given
 
@@ -392,43 +432,23 @@ module _ (given : ℕ → Option OldPlace) (r : Ref) (v : Stored) where
   abbrev back_has_come : Gives
   back_has_come s x m n rs us = IsBackAt (given s) x m n r rs us
 
-  goes_all : (xs : List Structure) (m : Pooled Stored) (rss : List (List Ref)) → AllCan back_asks xs 0 m rss → AllCan back_leaves xs 0 m rss
-  goes_all xs m rss c = all_leave back_asks back_leaves back_comes back_is_left back_has_come
-      back_gives m m m (λ s x rs c. leave_for (given s) x m r v rs c) xs 0 rss c
+  goes_one : (m : Pooled Stored) (s : ℕ) (x : Structure) (rs : List Ref) → back_asks s x m rs → back_leaves s x m rs
+  goes_one m s x rs c = leave_for (given s) x m r v rs c
 
   pub can_go_leave : (xs : List Structure) (m : Pooled Stored) → AreReady back_asks 0 xs m → AreReady back_leaves 0 xs m
-  can_go_leave xs m q = record { rss = q.rss; stand = q.stand; can = goes_all xs m q.rss q.can }
+  can_go_leave xs m q = can_out back_asks back_leaves back_comes back_is_left back_has_come back_gives m m m (goes_one m) xs q
 
   module _ (xs ys : List Structure) (m n : Pooled Stored) (held : IsHeld m r) (like : AllLike xs ys) (out : IsPass back_leaves back_is_left r 0 xs ys m n) where
-    ready_back : (rss uss : List (List Ref)) → AllStand xs 0 m rss → AllStand ys 0 n uss → ((k : ℕ) → ref_of n k ≡ ref_of m k)
-        → ((k : ℕ) → value_of n k ≡ value_of m k) → AllCan back_asks xs 0 m rss → AllGiven back_is_left xs 0 m n rss uss
-        → AllStand ys 0 (with_value n r.name v) uss × AllCan back_comes ys 0 (with_value n r.name v) uss
-    ready_back rss uss g h refs values c d = all_ready back_asks back_leaves back_comes back_is_left back_has_come back_gives m
-        n (with_value n r.name v) (λ s x y rs us w g h c d. stand_for m n r v refs values held (given s) x y rs us w g h c d)
-        (λ s x y rs us w g c d. return_one m n r v refs values held (given s) x y rs us w g c d) xs ys 0 rss uss like g h c d
-
     pub can_go_come : AreReady back_asks 0 xs m → AreReady back_comes 0 ys (with_value n r.name v)
-    can_go_come q =
-        let a = out q.rss q.stand (goes_all xs m q.rss q.can) in let both = ready_back q.rss a.uss q.stand a.stand a.keeps.refs a.keeps.values q.can a.done in
-        record { rss = a.uss; stand = both.0; can = both.1 }
+    can_go_come = can_again back_asks back_leaves back_comes back_is_left back_has_come back_gives r v xs ys m n held like out (goes_one m)
+        (λ kept s x y rs us w g h c d. stand_for m n r v kept.0 kept.1 held (given s) x y rs us w g h c d)
+        (λ kept s x y rs us w g c d. return_one m n r v kept.0 kept.1 held (given s) x y rs us w g c d)
 
     pub is_given_back : (zs : List Structure) (p : Pooled Stored) → IsPass back_comes back_has_come r 0 ys zs (with_value n r.name v) p
         → (rss : List (List Ref)) → AllStand xs 0 m rss → AllCan back_asks xs 0 m rss → IsRekeyed back_gives r v xs zs m p rss
-    is_given_back zs p back rss stand can =
-        let a = out rss stand (goes_all xs m rss can) in let refs = a.keeps.refs in let values = a.keeps.values in
-        let both = ready_back rss a.uss stand a.stand refs values can a.done in
-        let b = back a.uss both.0 both.1 in
-        record {
-          uss = b.uss;
-          done = all_over back_asks back_leaves back_comes back_is_left back_has_come back_gives m n (with_value n r.name v) p
-              (λ s x y rs us ws w g c d e. back_one m n r v refs values held (given s) x y p rs us ws b.keeps.values w c d e)
-              xs ys 0 rss a.uss b.uss like stand can a.done b.done;
-          stand = b.stand;
-          refs = λ k. b.keeps.refs k ∙ ref-with_value n r.name v k ∙ refs k;
-          values = λ k. b.keeps.values k ∙ values_with m n r v refs values held k;
-          slots = b.keeps.slots ∙ slots-with_value n r.name v ∙ a.keeps.slots;
-          other_nodes = λ k t d o.
-              b.keeps.other_nodes k t d (all_outs back_asks back_leaves back_comes back_is_left back_has_come back_gives m
-              n n k (λ s x rs us d h. left_outs (is_given (given s)) x m n r k rs us d h) xs 0 rss a.uss a.done o)
-              ∙ link-with_value n r.name v k t ∙ a.keeps.other_nodes k t d o;
-        }
+    is_given_back zs p back =
+        is_again back_asks back_leaves back_comes back_is_left back_has_come back_gives r v xs ys m n held like out (goes_one m)
+        (λ kept s x y rs us w g h c d. stand_for m n r v kept.0 kept.1 held (given s) x y rs us w g h c d)
+        (λ kept s x y rs us w g c d. return_one m n r v kept.0 kept.1 held (given s) x y rs us w g c d)
+        zs p back (λ k s x rs us d h. left_outs (is_given (given s)) x m n r k rs us d h)
+        (λ kept values s x y rs us ws w g c d e. back_one m n r v kept.0 kept.1 held (given s) x y p rs us ws values w c d e)

@@ -1,12 +1,12 @@
 -- A node joins the chains between those of lower and of greater stamps.
-use Rattle.std.proofs.Common.{ap, ◌∙◌, sym, subst, ◌∷◌, ◌++◌, refl, cond}
-use Rattle.mi_node.specs.Pool.{Keeps, link_of}
+use Rattle.std.proofs.Common.{sym, subst, ◌∷◌, ◌++◌, refl}
+use Rattle.mi_node.specs.Pool.{Keeps}
 use Rattle.mi_node.specs.declared.link.Tag.{Tag}
 use Rattle.mi_node.proofs.EntryLemmas.{same_refl}
 use Rattle.mi_chain.specs.Keying.{stamp_at, hash_node}
 use Rattle.mi_chain.specs.Chained.{AreChained}
 use Rattle.mi_order.specs.Orders.{keying_of}
-use Rattle.mi_index.proofs.JoinLemmas.{cut_at, chain_placed, chains_with}
+use Rattle.mi_index.proofs.JoinLemmas.{cut_at, chain_placed, chains_with, chains_stamped}
 use Rattle.mi_index.proofs.structure.link_chains.Goals as goal
 
 pub insert-requires : goal.insert-requires
@@ -32,10 +32,7 @@ returns-clause-step c rs h j =
       done = record {
         joined = record { xs = u.xs; ys = u.ys; was = u.parts; now = refl };
         put = tt;
-        stamped = (
-          ap (λ (t : Tag). t.stamp) (e.tags r.name ∙ ap (λ z. cond z tag (link_of m r.name d.slot).tag) (same_refl r.name)),
-          λ q f. e.tags q ∙ ap (λ z. cond z tag (link_of m q d.slot).tag) f,
-        );
+        stamped = chains_stamped d m n r tag e.tags;
       };
       stands = chains_with d c.insert.new.self m n r tag rs u.xs u.ys e.slot e.keys e.tags
           (same_refl r.name) j.out u.parts h.1 u.below u.above (e.list u.xs u.ys a b);

@@ -1,12 +1,12 @@
 -- A node comes back to the chains, between those of its key that the place names.
-use Rattle.std.proofs.Common.{ap, ◌∙◌, sym, subst, ◌∷◌, ◌++◌, refl, cond}
-use Rattle.mi_node.specs.Pool.{Keeps, link_of}
+use Rattle.std.proofs.Common.{sym, subst, ◌∷◌, ◌++◌, refl}
+use Rattle.mi_node.specs.Pool.{Keeps}
 use Rattle.mi_node.specs.declared.link.Link.{Link}
 use Rattle.mi_node.specs.declared.link.Tag.{Tag}
 use Rattle.mi_node.proofs.EntryLemmas.{same_refl}
 use Rattle.mi_chain.specs.Chained.{AreChained, FitsBetween}
 use Rattle.mi_order.specs.Orders.{keying_of}
-use Rattle.mi_index.proofs.JoinLemmas.{chain_placed, chains_with}
+use Rattle.mi_index.proofs.JoinLemmas.{chain_placed, chains_with, chains_stamped}
 use Rattle.mi_index.proofs.structure.relink_chains.Goals as goal
 
 pub hash_of-hash-requires : goal.hash_of-hash-requires
@@ -45,10 +45,7 @@ returns-clause-step c rs h j =
       done = record {
         back = record { xs = p.xs; ys = p.ys; was = p.parts; now = refl };
         beside = p.beside;
-        stamped = (
-          ap (λ (t : Tag). t.stamp) (e.tags r.name ∙ ap (λ z. cond z tag (link_of m r.name d.slot).tag) (same_refl r.name)),
-          λ q f. e.tags q ∙ ap (λ z. cond z tag (link_of m q d.slot).tag) f,
-        );
+        stamped = chains_stamped d m n r tag e.tags;
       };
       stands = chains_with d c.relink.new.self m n r tag rs p.xs p.ys e.slot e.keys e.tags
           (same_refl r.name) j.out p.parts h.1 p.below p.above (e.list p.xs p.ys a b);

@@ -7,7 +7,7 @@ use Rattle.mi_index.specs.Passes.{returning, returned}
 use Rattle.mi_index.specs.Places.{given_at}
 use Rattle.mi_index.specs.declared.moves.Moves.TheVariants.{Placed}
 use Rattle.mi_index.proofs.InsertLemmas.{like_both}
-use Rattle.mi_index.proofs.RekeyLemmas.{can_go_leave, can_go_come, is_given_back}
+use Rattle.mi_index.proofs.RekeyLemmas.{can_go_leave, can_go_come, is_given_back, kept_refs, kept_values}
 use Rattle.mi_index.proofs.nodes.Nodes.rekey_back.Goals as goal
 
 pub unlink-requires : goal.unlink-requires
@@ -16,15 +16,15 @@ unlink-requires c = can_go_leave (given_at c.args.places.now) c.args.node c.args
 
 pub swap_value-old-requires : goal.swap_value-old-requires
 swap_value-old-requires c =
-    let q = c.requires.places in
-    let l = can_go_leave (given_at c.args.places.now) c.args.node c.args.stored c.args.self.now.structures.items c.args.self.now.pool q in
-    (c.unlink.ensures.pass l.rss l.stand l.can).keeps.refs c.args.node.name ∙ c.requires.held
+    let i = c.args.self.now in
+    let leaves = can_go_leave (given_at c.args.places.now) c.args.node c.args.stored i.structures.items i.pool c.requires.places in
+    kept_refs leaves c.unlink.ensures.pass c.args.node.name ∙ c.requires.held
 
 pub relink-requires-clause-held : goal.relink-requires-clause-held
 relink-requires-clause-held c =
-    let q = c.requires.places in
-    let l = can_go_leave (given_at c.args.places.now) c.args.node c.args.stored c.args.self.now.structures.items c.args.self.now.pool q in
-    let still = (c.unlink.ensures.pass l.rss l.stand l.can).keeps.refs c.args.node.name ∙ c.requires.held in
+    let i = c.args.self.now in
+    let leaves = can_go_leave (given_at c.args.places.now) c.args.node c.args.stored i.structures.items i.pool c.requires.places in
+    let still = kept_refs leaves c.unlink.ensures.pass c.args.node.name ∙ c.requires.held in
     subst (λ z. IsHeld z c.args.node) (sym c.swap_value-old.ensures.pool)
     (ref-with_value c.unlink.new.p c.args.node.name c.args.stored c.args.node.name ∙ still)
 
@@ -37,16 +37,15 @@ relink-requires-clause-all c =
 
 pub returns-clause-value : goal.returns-clause-value
 returns-clause-value c =
-    let q = c.requires.places in
-    let l = can_go_leave (given_at c.args.places.now) c.args.node c.args.stored c.args.self.now.structures.items c.args.self.now.pool q in
-    sym ((c.unlink.ensures.pass l.rss l.stand l.can).keeps.values c.args.node.name) ∙ c.swap_value-old.ensures.value
+    let i = c.args.self.now in
+    let leaves = can_go_leave (given_at c.args.places.now) c.args.node c.args.stored i.structures.items i.pool c.requires.places in
+    sym (kept_values leaves c.unlink.ensures.pass c.args.node.name) ∙ c.swap_value-old.ensures.value
 
 pub returns-clause-rekeyed : goal.returns-clause-rekeyed
 returns-clause-rekeyed c =
     let i = c.args.self.now in let r = c.args.node in let ys = c.unlink.new.self.items in
-    let n = c.unlink.new.p in let zs = c.relink.new.self.items in
-    let p = c.relink.new.p in
-    is_given_back (given_at c.args.places.now) r c.args.stored i.structures.items ys i.pool n
+    let zs = c.relink.new.self.items in let p = c.relink.new.p in
+    is_given_back (given_at c.args.places.now) r c.args.stored i.structures.items ys i.pool c.unlink.new.p
     c.requires.held c.unlink.ensures.like c.unlink.ensures.pass zs p
     (subst (λ z. IsPass (returning (Placed c.args.places) r) (returned (Placed c.args.places) r) r 0 ys zs z p)
     c.swap_value-old.ensures.pool c.relink.ensures.pass)
