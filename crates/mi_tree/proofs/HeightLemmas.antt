@@ -5,6 +5,7 @@ use Rattle.std.proofs.Common.{◌≡◌, ℕ, zero, suc, ◌+◌, ◌*◌, ◌^�
 use Rattle.std.proofs.Math.Nat.{pow-suc}
 use Rattle.mi_tree.specs.BinaryTree.{BinaryTree, Tip, Fork, forks, height, DifferByAtMost, IsEven}
 use Rattle.mi_tree.specs.Height.{fib, HasEnough}
+use Rattle.mi_tree.specs.declared.walk.TheConstants.{MAX_LEVELS}
 
 pub at_most_or_more : (a b : ℕ) → (a ≤ b) ⊎ (b + 1 ≤ a)
 at_most_or_more zero b = inl (omega arith)
@@ -79,8 +80,8 @@ shorter t e (suc b) h k = elim (at_most_or_more (height t + 1) (2 * suc b)) [
       absurd (omega arith)
 ]
 
-pub low_enough : (t : BinaryTree) → IsEven t → forks t < 2 ^ 32 → height t ≤ 45
-low_enough t e h = elim (at_most_or_more (height t) 45) [
+pub low_enough : (t : BinaryTree) → IsEven t → forks t < 2 ^ 32 → height t ≤ MAX_LEVELS
+low_enough t e h = elim (at_most_or_more (height t) MAX_LEVELS) [
   | inl i ↦ i
-  | inr i ↦ let j = has_enough t e in let k : fib 48 ≤ fib (suc (suc (height t))) = (fib_mono 48 (suc (suc (height t))) (omega arith)).0 in absurd (omega arith)
+  | inr i ↦ let j = has_enough t e in let k : fib (MAX_LEVELS + 3) ≤ fib (suc (suc (height t))) = (fib_mono (MAX_LEVELS + 3) (suc (suc (height t))) (omega arith)).0 in absurd (omega arith)
 ]

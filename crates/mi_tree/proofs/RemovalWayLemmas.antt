@@ -14,6 +14,7 @@ use Rattle.mi_tree.specs.BinaryTree.{BinaryTree, Tip, Fork, nodes, top, forks, h
 use Rattle.mi_tree.specs.Sorted.{Rising, AreTagged, SameTags, CanTake, HasTaken, AreEnds, AreAppended, side}
 use Rattle.mi_tree.specs.Ways.{Frame, forked, plug, risen, IsLevel, Sinks, HasSunk, Climbs, HasClimbed}
 use Rattle.mi_tree.specs.declared.turns.Turn.{Turn}
+use Rattle.mi_tree.specs.declared.walk.TheConstants.{MAX_LEVELS}
 use Rattle.mi_tree.proofs.BinaryTreeLemmas.{moved, opened, tip_is, size-nodes, height-root}
 use Rattle.mi_tree.proofs.HeightLemmas.{low_enough}
 use Rattle.mi_tree.proofs.RemoveLemmas.{TakeOpened, take_opened, out_less, apart_less}
@@ -156,7 +157,7 @@ module _ {T : Type 0} where
         (sym (ap nodes o.is) ∙ h.has ∙ ap (λ k. k ++ x ∷ ys) none) in
         (first.0, lowered_left first.0 (first.1 ∙ ap (λ k. k ++ x ∷ first.0) (sym none)) first.2)
 
-    pub room_here : length items < 45
+    pub room_here : length items < MAX_LEVELS
     room_here = let a = h.room in let b = ap length h.path_is in let c = path_length fs in let d = ap height open_here.is in omega arith
 
     sunk_on : (b : Bool) (us zs : List Ref) (k : Lowered b us zs) (v : Pooled T) (last : List Turn) (gs : List Frame) (A B : BinaryTree)

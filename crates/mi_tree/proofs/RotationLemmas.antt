@@ -10,6 +10,7 @@ use Rattle.mi_tree.specs.BinaryTree.{BinaryTree, Fork, nodes, forks, height, Dif
 use Rattle.mi_tree.specs.Sorted.{SameTags}
 use Rattle.mi_tree.specs.Joining.{IsSized, read, Two, Three, Four, IsDown, IsUp, IsBoth, Rebalanced, AreSides, AreLinked, IsBalanced}
 use Rattle.mi_tree.specs.declared.parts.Sub.{Sub}
+use Rattle.mi_tree.specs.declared.walk.TheConstants.{MAX_LEVELS}
 use Rattle.mi_tree.proofs.HeightLemmas.{low_enough}
 use Rattle.mi_tree.proofs.BinaryTreeLemmas.{Sides, sides}
 use Rattle.mi_tree.proofs.JoinLemmas.{two, three, four, sized, at_root, root_read}
@@ -84,7 +85,7 @@ out_three_right k A x B y C z D h = let o = out_right k A (x ∷ (B ++ y ∷ C) 
 module _ {T : Type 0} where
   -- neither side is high
   sides_low : {m : Pooled T} {s : ℕ} {left : Option Ref} {x : Ref} {right : Option Ref} {l q : BinaryTree} → AreSides m s left x right l q
-      → (height l ≤ 45) × (height q ≤ 45)
+      → (height l ≤ MAX_LEVELS) × (height q ≤ MAX_LEVELS)
   sides_low {l = l} {q} h = let f = h.fits in (low_enough l h.left_even (omega arith), low_enough q h.right_even (omega arith))
 
   -- the left side, opened

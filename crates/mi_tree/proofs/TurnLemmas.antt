@@ -7,6 +7,7 @@ use Rattle.std.proofs.lemmas.List.{get_or-set_same, get_or-set_other}
 use Rattle.mi_node.specs.Refs.{Ref}
 use Rattle.mi_tree.specs.declared.turns.Turn.{Turn}
 use Rattle.mi_tree.specs.Turns.{anyone, turns_of, AreBits}
+use Rattle.mi_tree.specs.declared.walk.TheConstants.{MAX_LEVELS}
 
 pub turns_long : (ns : List Ref) (b n : ℕ) → length (turns_of ns b n) ≡ n
 turns_long ns b zero = refl
@@ -30,7 +31,7 @@ bit_is : (l : Bool) → (from_bool l == 1) ≡ l
 bit_is false = refl
 bit_is true = refl
 
-pub pushed : (ns : List Ref) (b n : ℕ) (t : Turn) → AreBits ns (record { lefts = b; len = n }) → n < 45
+pub pushed : (ns : List Ref) (b n : ℕ) (t : Turn) → AreBits ns (record { lefts = b; len = n }) → n < MAX_LEVELS
     → turns_of (slice_set ns n t.node) (b * 2 + from_bool t.left) (suc n) ≡ turns_of ns b n ++ t ∷ []
 pushed ns b n t h room =
     let k = h.0 in

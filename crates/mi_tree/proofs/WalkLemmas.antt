@@ -14,6 +14,7 @@ use Rattle.mi_tree.specs.Walking.{Pending, onward, beyond, near_of, far_of, is_a
 use Rattle.mi_tree.specs.declared.walk.Direction.{Direction}
 use Rattle.mi_tree.specs.declared.walk.Direction.TheVariants.{Ascending, Descending}
 use Rattle.mi_tree.specs.declared.walk.Walk.{Walk}
+use Rattle.mi_tree.specs.declared.walk.TheConstants.{MAX_LEVELS}
 use Rattle.mi_tree.proofs.BinaryTreeLemmas.{sides, height-root}
 
 path_length : (xs : List Pending) → length (path_of xs) ≡ length xs
@@ -65,7 +66,7 @@ module _ {T : Type 0} where
     pub after : Enters m s d levels items (far_of d y) xs (farther d left right)
     pub near_lower : height_at m s (near_of d y) < height_at m s (Some r)
     pub far_lower : height_at m s (far_of d y) < height_at m s (Some r)
-    pub room : length items < 45
+    pub room : length items < MAX_LEVELS
 
   pub entered : {m : Pooled T} {s : ℕ} {d : Direction} {levels : ℕ} {items : List (Option Ref)}
       {at : Option Ref} {r : Ref} {y : Link} {xs : List Pending} {t : BinaryTree}

@@ -21,6 +21,7 @@ use Rattle.mi_tree.specs.Sorted.{NoneAre, Rising, AreTagged, SameTags, IsPutIn, 
 use Rattle.mi_tree.specs.Ways.{Frame, way_of, forked, forked_size, forked_height, forked_link, rehung, plug}
 use Rattle.mi_tree.specs.Ways.{risen, IsLevel, AreEven, IsRootOf, Above, Falls, HasFallen, Climbs, HasClimbed, AreRejoined}
 use Rattle.mi_tree.specs.declared.turns.Turn.{Turn}
+use Rattle.mi_tree.specs.declared.walk.TheConstants.{MAX_LEVELS}
 use Rattle.mi_tree.proofs.BinaryTreeLemmas.{moved, tip_is, size-nodes, height-root, held-root}
 use Rattle.mi_tree.proofs.JoinLemmas.{link_kept, stands_kept, rooted_past, tags_set}
 use Rattle.mi_tree.proofs.HeightLemmas.{low_enough}
@@ -347,7 +348,7 @@ module _ {T : Type 0} where
     pub held : IsHeldIf m other
     pub top_is : max k j ≡ max (height l) (height q)
     pub near : DifferByAtMost 1 k j → DifferByAtMost 1 (height l) (height q)
-    pub low : max k j ≤ 45
+    pub low : max k j ≤ MAX_LEVELS
 
   sides_high : {m : Pooled T} {s : ℕ} {x : Ref} {l q : BinaryTree} {k j : ℕ} (b : Bool) (below : Option Ref) (y : Link)
       → AreSides m s (cond b below y.back) x (cond b y.forth below) l q
@@ -682,7 +683,7 @@ module _ {T : Type 0} where
     pub beside_on : AreEven fs (height t) → AreEven (frame (record { node = r; left = b }) k.other ∷ fs) (height k.sub)
     beside_on a = (k.near, k.other_even, even_moved fs _ _ (ap height k.is ∙ height_forked b r k.other k.sub) a)
 
-    pub room_on : height t + length fs ≤ 45 → height k.sub + length (frame (record { node = r; left = b }) k.other ∷ fs) ≤ 45
+    pub room_on : height t + length fs ≤ MAX_LEVELS → height k.sub + length (frame (record { node = r; left = b }) k.other ∷ fs) ≤ MAX_LEVELS
     room_on room = let part = height_part b r k.other k.sub in let tall = ap height k.is in omega arith
 
   -- the size of a node on a way down changes, and the way goes on to one of its sides
@@ -797,7 +798,7 @@ module _ {T : Type 0} where
     here_tagged =
         (o.held_root, ((tagged_right tag m s (nodes o.A) (here ∷ nodes o.B) (subst (AreTagged tag m s) (ap nodes o.is) h.tagged.1)).0, tt))
 
-    pub room_here : length items < 45
+    pub room_here : length items < MAX_LEVELS
     room_here = let a = h.room in let b = ap length h.path_is in let c = path_length fs in let d = ap height o.is in omega arith
 
     fallen_on : (b : Bool) (v : Pooled T) (last : List Turn) (gs : List Frame)

@@ -2,6 +2,7 @@
 use Rattle.std.proofs.Common.{◌≡◌, ℕ, suc, ◌+◌, ◌-◌, ◌<◌, ◌≤◌, length, refl, ap, ◌∙◌, arith}
 use Rattle.mi_node.specs.Pool.{Pooled}
 use Rattle.mi_tree.specs.BinaryTree.{BinaryTree, IsRooted, nodes, size_at}
+use Rattle.mi_tree.specs.declared.walk.TheConstants.{MAX_LEVELS}
 use Rattle.mi_tree.proofs.BinaryTreeLemmas.{size-root, size-nodes, slot-moved}
 use Rattle.mi_tree.proofs.WalkLemmas.{entered, enters_left, enters_right, enters_lower, goes_moved, way_left, way_right}
 use Rattle.mi_tree.proofs.walk.+cut_down.Given.{Over}
@@ -10,7 +11,7 @@ use Rattle.mi_tree.proofs.walk.+cut_down.Goals as goal
 
 module _ (g : Over) (t : ℕ) (c : In-Some g t) where
   -- there is room on the path for one more node
-  room : length c.args.path.now.items < 45
+  room : length c.args.path.now.items < MAX_LEVELS
   room = (entered c.requires.way.3 c.in-Some.is refl).room
 
 module _ (g : Over) (t : ℕ) (c : After-size-before g t) where

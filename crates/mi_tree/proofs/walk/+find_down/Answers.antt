@@ -4,6 +4,7 @@ use Rattle.mi_node.specs.Pool.{Pooled, link_of}
 use Rattle.mi_node.specs.declared.link.Link.{Link}
 use Rattle.mi_tree.specs.BinaryTree.{nodes}
 use Rattle.mi_tree.specs.Sorted.{AreTagged, side}
+use Rattle.mi_tree.specs.declared.walk.TheConstants.{MAX_LEVELS}
 use Rattle.mi_tree.proofs.BinaryTreeLemmas.{moved, tip_is, slot-moved}
 use Rattle.mi_tree.proofs.SortedLemmas.{side_read, tagged_read, tagged_right, none_here}
 use Rattle.mi_tree.proofs.RemoveLemmas.{held_in}
@@ -20,7 +21,7 @@ module _ (g : Over) (t : ℕ) (c : In-Some g t) where
   sought = let w = c.requires.way in record { enters = w.5; can = w.6; rising = w.7; is = w.9 }
 
   -- there is room on the path for one more node
-  room : length c.args.path.now.items < 45
+  room : length c.args.path.now.items < MAX_LEVELS
   room = (entered c.requires.way.5 c.in-Some.is refl).room
 
 module _ (g : Over) (t : ℕ) (c : After-link-link g t) where

@@ -3,13 +3,14 @@ use Rattle.std.proofs.Common.{◌<◌, length, Option, refl, sym, subst, arith}
 use Rattle.mi_node.specs.Pool.{Pooled}
 use Rattle.mi_node.specs.Refs.{Ref}
 use Rattle.mi_tree.specs.BinaryTree.{height_at}
+use Rattle.mi_tree.specs.declared.walk.TheConstants.{MAX_LEVELS}
 use Rattle.mi_tree.proofs.BinaryTreeLemmas.{slot-moved}
 use Rattle.mi_tree.proofs.WalkLemmas.{entered, enters_moved, goes_moved, ahead_near}
 use Rattle.mi_tree.proofs.walk.+go_down.Goals as goal
 
 pub push-requires : goal.push-requires
 push-requires g t c =
-    let room : length c.args.path.now.items < 45 = (entered c.requires.way.3 c.in-Some.is refl).room in (omega arith, room)
+    let room : length c.args.path.now.items < MAX_LEVELS = (entered c.requires.way.3 c.in-Some.is refl).room in (omega arith, room)
 
 pub go_down-requires : goal.go_down-requires
 go_down-requires g t c κs within =

@@ -6,6 +6,7 @@ use Rattle.mi_node.specs.declared.link.Link.{Link}
 use Rattle.mi_tree.specs.BinaryTree.{BinaryTree, Tip}
 use Rattle.mi_tree.specs.Turns.{turns}
 use Rattle.mi_tree.specs.Ways.{Frame, Sinks}
+use Rattle.mi_tree.specs.declared.walk.TheConstants.{MAX_LEVELS}
 use Rattle.mi_tree.proofs.WayLemmas.{sized_link}
 use Rattle.mi_tree.proofs.RemovalWayLemmas.{NextSink, sunk_first, keeps_here, room_here, next_first}
 use Rattle.mi_tree.proofs.way.+go_first.Given.{Over}
@@ -32,7 +33,7 @@ returns-in_default-clause-way g t c fs u x ys vs ws h =
 
 pub push-deeper-requires-clause-room : goal.push-deeper-requires-clause-room
 push-deeper-requires-clause-room g t c =
-    let room : length (turns c.args.nodes.now c.args.depth) < 45 = room_here c.requires.way.6 refl c.link-link.ensures (set g t (goal.at.push-deeper-requires-clause-room g t c).After-set_size) in
+    let room : length (turns c.args.nodes.now c.args.depth) < MAX_LEVELS = room_here c.requires.way.6 refl c.link-link.ensures (set g t (goal.at.push-deeper-requires-clause-room g t c).After-set_size) in
     room
 
 pub go_first-requires : goal.go_first-requires

@@ -6,6 +6,7 @@ use Rattle.mi_tree.specs.BinaryTree.{BinaryTree}
 use Rattle.mi_tree.specs.Sorted.{side}
 use Rattle.mi_tree.specs.Turns.{turns}
 use Rattle.mi_tree.specs.Ways.{Frame, Falls}
+use Rattle.mi_tree.specs.declared.walk.TheConstants.{MAX_LEVELS}
 use Rattle.mi_tree.proofs.SortedLemmas.{side_read, tagged_read}
 use Rattle.mi_tree.proofs.WayLemmas.{sized_link, NextFall, fallen_none, here_tagged, room_here, keeps_here, same_tag, next_fall}
 use Rattle.mi_tree.proofs.way.+go_in.Given.{Over}
@@ -44,7 +45,7 @@ compare_nodes-side-requires-clause-right g t c =
 
 pub push-deeper-requires-clause-room : goal.push-deeper-requires-clause-room
 push-deeper-requires-clause-room g t c =
-    let room : length (turns c.args.nodes.now c.args.depth) < 45 = room_here (g.met.O.NodeOrder.total c.args.order.now) c.requires.way.2 c.in-Some.is
+    let room : length (turns c.args.nodes.now c.args.depth) < MAX_LEVELS = room_here (g.met.O.NodeOrder.total c.args.order.now) c.requires.way.2 c.in-Some.is
     refl (set g t (goal.at.push-deeper-requires-clause-room g t c).After-set_size) in
     room
 

@@ -7,6 +7,7 @@ use Rattle.mi_tree.specs.BinaryTree.{BinaryTree, nodes}
 use Rattle.mi_tree.specs.Sorted.{AreTagged, side, Rising}
 use Rattle.mi_tree.specs.Turns.{turns}
 use Rattle.mi_tree.specs.Ways.{Frame, Sinks}
+use Rattle.mi_tree.specs.declared.walk.TheConstants.{MAX_LEVELS}
 use Rattle.mi_tree.proofs.BinaryTreeLemmas.{moved, tip_is}
 use Rattle.mi_tree.proofs.SortedLemmas.{side_read, tagged_read, none_here, tagged_right}
 use Rattle.mi_tree.proofs.RemoveLemmas.{held_in}
@@ -70,7 +71,7 @@ returns-then-is_eq-clause-way g t c fs u xs ys vs ws h r =
 
 pub push-deeper-requires-clause-room : goal.push-deeper-requires-clause-room
 push-deeper-requires-clause-room g t c =
-    let room : length (turns c.args.nodes.now c.args.depth) < 45 = room_here c.requires.way.6 c.in-Some.is refl (set g t (goal.at.push-deeper-requires-clause-room g t c).After-set_size) in
+    let room : length (turns c.args.nodes.now c.args.depth) < MAX_LEVELS = room_here c.requires.way.6 c.in-Some.is refl (set g t (goal.at.push-deeper-requires-clause-room g t c).After-set_size) in
     room
 
 pub go_to-requires : goal.go_to-requires
