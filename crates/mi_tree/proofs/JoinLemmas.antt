@@ -47,10 +47,14 @@ module _ {T : Type 0} where
       → Keeps m n s (x ∷ []) → IsOut x.name (nodes t) → IsRooted m s o t → IsRooted n s o t
   rooted_past s m n x o t g a h = rooted_kept s m n (x ∷ []) o t g (are_out_cons (nodes t) x [] a (are_out_none (nodes t))) h
 
+  -- a link that is set
+  pub keeps_set : {s : ℕ} {m n : Pooled T} {x : Ref} (y : Link) → n ≡ with_link m x.name s y → Keeps m n s (x ∷ [])
+  keeps_set {s} {m} {n} {x} y e = subst (λ o. Keeps m o s (x ∷ [])) (sym e) (keeps_link s m x y)
+
   pub joined : (s : ℕ) (m n : Pooled T) (x : Ref) (y : Link) (A B : BinaryTree)
       → n ≡ with_link m x.name s y → IsFork m s x y A B → IsRooted n s (Some x) (Fork A x B)
   joined s m n x y A B e h =
-      let keeps = subst (λ o. Keeps m o s (x ∷ [])) (sym e) (keeps_link s m x y) in
+      let keeps = keeps_set y e in
       let two = h.two in
       let link : y ≡ fork_link A B y.tag = λ i. record {
         back = two.first.root i;

@@ -91,23 +91,32 @@ module _ {T : Type 0} where
       one_read : links_of at ≡ 1
       one_read = ap links_of e
 
-      pub pass_left : {z : Link} {j k : ℕ} → z ≡ link_at m s y.back → j ≡ b + links_of y.back → k ≡ d + 1 → f r ≡ true
-          → Passing m s tag f root y.back z n a j c k
-      pass_left {z} {j} {k} i reads ticks p =
-          let g = h.reads in let q = h.steps in let w = (o).height_is in let v = one_read in let all = all_are in let within = h.within in record {
+      -- on to a lower tree, behind k nodes
+      pass_on : {next : Option Ref} {z : Link} {k j p : ℕ} (v : BinaryTree) → IsRooted m s next v → z ≡ link_at m s next → height v < height h.u
+          → AreTagged tag m s (nodes v) → IsSteady f (nodes v) → n + position_or_len f (nodes (o).A ++ r ∷ nodes (o).B) ≡ k + position_or_len f (nodes v)
+          → k + forks v ≤ n + forks h.u → j ≡ b + links_of next → p ≡ d + 1 → Passing m s tag f root next z k a j c p
+      pass_on v rooted i lower some up is within reads ticks =
+          let g = h.reads in let q = h.steps in let w = one_read in let fits = h.within in record {
             t = h.t;
-            u = (o).A;
+            u = v;
             whole = h.whole;
             few = h.few;
-            rooted = (o).left;
+            rooted = rooted;
             link_is = i;
-            tagged = tagged_left tag m s (nodes (o).A) (r ∷ nodes (o).B) tags;
-            steady = steady_left f (nodes (o).A) (r ∷ nodes (o).B) rises;
-            is = h.is ∙ ap (λ k. n + position_or_len f (nodes k)) (o).is ∙ ap (λ k. n + k) (place_left f (nodes (o).A) r (nodes (o).B) p);
+            tagged = some;
+            steady = up;
+            is = h.is ∙ ap (λ k. n + position_or_len f (nodes k)) (o).is ∙ is;
             within = omega arith;
             reads = omega arith;
             steps = omega arith;
           }
+
+      pub pass_left : {z : Link} {j k : ℕ} → z ≡ link_at m s y.back → j ≡ b + links_of y.back → k ≡ d + 1 → f r ≡ true
+          → Passing m s tag f root y.back z n a j c k
+      pass_left i reads ticks p =
+          let w = (o).height_is in let all = all_are in
+          pass_on (o).A (o).left i (omega arith) (tagged_left tag m s (nodes (o).A) (r ∷ nodes (o).B) tags) (steady_left f (nodes (o).A) (r ∷ nodes (o).B) rises)
+          (ap (λ k. n + k) (place_left f (nodes (o).A) r (nodes (o).B) p)) (omega arith) reads ticks
 
       module _ {z : Link} (i : z ≡ link_at m s y.forth) where
         right_size : z.size ≡ forks (o).B
@@ -123,24 +132,11 @@ module _ {T : Type 0} where
         pass_fits = let k = passed in let all = all_are in let within = h.within in let few = h.few in omega arith
 
         pub pass_right : {j k : ℕ} → j ≡ b + links_of y.forth → k ≡ d + 1 → f r ≡ false → Passing m s tag f root y.forth z (n + (y.size - z.size)) a j c k
-        pass_right {j} {k} reads ticks p =
-            let g = h.reads in let q = h.steps in let w = (o).height_is in let v = one_read in let all = all_are in let within = h.within in
-            let by = passed in let whole = h.is ∙ ap (λ k. n + position_or_len f (nodes k)) (o).is in
-            let place = place_right f (nodes (o).A) r (nodes (o).B) p rises in let long = size-nodes (o).A in
-            record {
-              t = h.t;
-              u = (o).B;
-              whole = h.whole;
-              few = h.few;
-              rooted = (o).right;
-              link_is = i;
-              tagged = (tagged_right tag m s (nodes (o).A) (r ∷ nodes (o).B) tags).1;
-              steady = (steady_right f (nodes (o).A) (r ∷ nodes (o).B) rises).1;
-              is = omega arith;
-              within = omega arith;
-              reads = omega arith;
-              steps = omega arith;
-            }
+        pass_right reads ticks p =
+            let w = (o).height_is in let all = all_are in let by = passed in let long = size-nodes (o).A in
+            let place = place_right f (nodes (o).A) r (nodes (o).B) p rises in
+            pass_on (o).B (o).right i (omega arith) (tagged_right tag m s (nodes (o).A) (r ∷ nodes (o).B) tags).1
+            (steady_right f (nodes (o).A) (r ∷ nodes (o).B) rises).1 (omega arith) (omega arith) reads ticks
 
     pub pass_end : {at : Option Ref} {y : Link} {n a b c d : ℕ} (h : Passing m s tag f root at y n a b c d) → at ≡ None
         → (t : BinaryTree) → IsRooted m s root t → (n ≡ position_or_len f (nodes t)) × (b ≤ a + height t) × (d ≤ c + height t)

@@ -1,5 +1,5 @@
 -- Turning a tree whose one side is two levels higher.
-use Rattle.std.proofs.Common.{◌≡◌, ℕ, ◌+◌, ◌-◌, ◌<◌, ◌≤◌, max, List, [], ◌∷◌, ◌++◌, Option, Some, refl, sym, ap, ◌∙◌, subst, arith, append_assoc}
+use Rattle.std.proofs.Common.{◌≡◌, ℕ, Bool, true, false, ◌+◌, ◌-◌, ◌<◌, ◌≤◌, max, List, [], ◌∷◌, ◌++◌, Option, Some, refl, sym, ap, ◌∙◌, subst, arith, append_assoc}
 use Rattle.mi_node.specs.Pool.{Pooled, link_of, Keeps}
 use Rattle.mi_node.specs.declared.link.Link.{Link}
 use Rattle.mi_node.specs.declared.link.Tag.{Tag}
@@ -8,7 +8,7 @@ use Rattle.mi_node.proofs.KeepingLemmas.{keeps_more}
 use Rattle.mi_node.proofs.RefLemmas.{out_left, out_right}
 use Rattle.mi_tree.specs.BinaryTree.{BinaryTree, Fork, nodes, forks, height, DifferByAtMost, IsEven, IsRooted}
 use Rattle.mi_tree.specs.Sorted.{SameTags}
-use Rattle.mi_tree.specs.Joining.{IsSized, read, Two, Three, Four, IsDown, IsUp, IsBoth, Rebalanced, AreSides, AreLinked, IsBalanced}
+use Rattle.mi_tree.specs.Joining.{IsSized, Counts, read, Two, Three, Four, IsDown, IsUp, IsBoth, Rebalanced, AreSides, AreLinked, IsBalanced}
 use Rattle.mi_tree.specs.declared.parts.Sub.{Sub}
 use Rattle.mi_tree.specs.declared.walk.TheConstants.{MAX_LEVELS}
 use Rattle.mi_tree.proofs.HeightLemmas.{low_enough}
@@ -82,9 +82,13 @@ out_three_right : (k : ℕ) (A : List Ref) (x : Ref) (B : List Ref) (y : Ref) (C
     → IsOut k (A ++ x ∷ ((B ++ y ∷ C) ++ z ∷ D)) → IsOut k (x ∷ y ∷ z ∷ [])
 out_three_right k A x B y C z D h = let o = out_right k A (x ∷ (B ++ y ∷ C) ++ z ∷ D) h in (o.0, out_two k B y C z D o.1)
 
+-- a link counts its sides
+counts : {y : Link} {tag : Tag} {A B : BinaryTree} → y.size ≡ forks A + forks B + 1 → y.height ≡ max (height A) (height B) + 1 → y.tag ≡ tag → Counts y tag A B
+counts size high tag = record { size_is = size; height_is = high; tag_is = tag }
+
 module _ {T : Type 0} where
   -- neither side is high
-  sides_low : {m : Pooled T} {s : ℕ} {left : Option Ref} {x : Ref} {right : Option Ref} {l q : BinaryTree} → AreSides m s left x right l q
+  pub sides_low : {m : Pooled T} {s : ℕ} {left : Option Ref} {x : Ref} {right : Option Ref} {l q : BinaryTree} → AreSides m s left x right l q
       → (height l ≤ MAX_LEVELS) × (height q ≤ MAX_LEVELS)
   sides_low {l = l} {q} h = let f = h.fits in (low_enough l h.left_even (omega arith), low_enough q h.right_even (omega arith))
 
@@ -127,78 +131,72 @@ module _ {T : Type 0} where
       → AreLinked m s x (record { back = left.root; forth = right.root; size = n; height = h; tag = tag }) l q
   linked_by h a b t n = record { sides = h; size_is = omega arith; tag_is = t }
 
-  -- the left side, opened, by a link that counts both
-  pub record LeftTurn (m : Pooled T) (s : ℕ) (x : Ref) (link : Link) (l q : BinaryTree) (r : Ref) (over : Link) : Type 0 where
-    pub o : Sides m s r over l
-    pub three : Three m s over.back r over.forth x link.forth o.A o.B q
-    pub size_is : link.size ≡ forks o.A + forks o.B + 1 + forks q + 1
+  -- the subtrees of a node and of the root of its left side, or of its right side, as they stand in order
+  abbrev pub Around : Bool → Pooled T → ℕ → Ref → Link → Ref → Link → BinaryTree → BinaryTree → BinaryTree → Type 0
+  Around true m s x link r over A B other = Three m s over.back r over.forth x link.forth A B other
+  Around false m s x link r over A B other = Three m s link.back x over.back r over.forth other A B
+
+  -- the left side or the right side of a node, opened, by a link that counts both
+  pub record Leaning (left : Bool) (m : Pooled T) (s : ℕ) (x : Ref) (link : Link) (side other : BinaryTree) (r : Ref) (over : Link) : Type 0 where
+    pub o : Sides m s r over side
+    pub three : Around left m s x link r over o.A o.B other
+    pub size_is : link.size ≡ forks o.A + forks o.B + forks other + 2
     pub part_is : over.size ≡ forks o.A + forks o.B + 1
     pub tag_is : link.tag ≡ (link_of m x.name s).tag
     pub over_tag : over.tag ≡ (link_of m r.name s).tag
+
+  -- of sides whose sizes the link counts
+  leaning : (left : Bool) {m : Pooled T} {s : ℕ} {x : Ref} {link : Link} {side other : BinaryTree} {r : Ref} {over : Link}
+      (o : Sides m s r over side) → Around left m s x link r over o.A o.B other → link.size ≡ forks side + forks other + 1
+      → link.tag ≡ (link_of m x.name s).tag → over ≡ link_of m r.name s → Leaning left m s x link side other r over
+  leaning left o three size tag i = let part = ap forks o.is in record {
+    o = o;
+    three = three;
+    size_is = omega arith;
+    part_is = o.size_is;
+    tag_is = tag;
+    over_tag = ap (λ (z : Link). z.tag) i;
+  }
 
   pub left_turn : {m : Pooled T} {s : ℕ} {x : Ref} {link : Link} {l q : BinaryTree} {r : Ref} {over : Link}
-      → AreLinked m s x link l q → link.back ≡ Some r → over ≡ link_of m r.name s → LeftTurn m s x link l q r over
-  left_turn h e i =
-      let k = left_opened h.sides e i in let size = ap forks k.0.is in let all = h.size_is in record {
-        o = k.0;
-        three = k.1;
-        size_is = omega arith;
-        part_is = k.0.size_is;
-        tag_is = h.tag_is;
-        over_tag = ap (λ (z : Link). z.tag) i;
-      }
-
-  -- the right side
-  pub record RightTurn (m : Pooled T) (s : ℕ) (x : Ref) (link : Link) (l q : BinaryTree) (r : Ref) (over : Link) : Type 0 where
-    pub o : Sides m s r over q
-    pub three : Three m s link.back x over.back r over.forth l o.A o.B
-    pub size_is : link.size ≡ forks l + (forks o.A + forks o.B + 1) + 1
-    pub part_is : over.size ≡ forks o.A + forks o.B + 1
-    pub tag_is : link.tag ≡ (link_of m x.name s).tag
-    pub over_tag : over.tag ≡ (link_of m r.name s).tag
+      → AreLinked m s x link l q → link.back ≡ Some r → over ≡ link_of m r.name s → Leaning true m s x link l q r over
+  left_turn h e i = let k = left_opened h.sides e i in leaning true k.0 k.1 h.size_is h.tag_is i
 
   pub right_turn : {m : Pooled T} {s : ℕ} {x : Ref} {link : Link} {l q : BinaryTree} {r : Ref} {over : Link}
-      → AreLinked m s x link l q → link.forth ≡ Some r → over ≡ link_of m r.name s → RightTurn m s x link l q r over
-  right_turn h e i =
-      let k = right_opened h.sides e i in let size = ap forks k.0.is in let all = h.size_is in record {
-        o = k.0;
-        three = k.1;
-        size_is = omega arith;
-        part_is = k.0.size_is;
-        tag_is = h.tag_is;
-        over_tag = ap (λ (z : Link). z.tag) i;
-      }
+      → AreLinked m s x link l q → link.forth ≡ Some r → over ≡ link_of m r.name s → Leaning false m s x link q l r over
+  right_turn {l = l} {q} h e i =
+      let k = right_opened h.sides e i in let size = h.size_is in let turned : forks l + forks q + 1 ≡ forks q + forks l + 1 = omega arith in
+      leaning false k.0 k.1 (size ∙ turned) h.tag_is i
 
   -- the links that the nodes get where one turn is enough
   pub down_put : {m : Pooled T} {s : ℕ} {x : Ref} {link : Link} {l q : BinaryTree} {r : Ref} {over : Link} (inner : Sub) {outer beside n low high : ℕ}
-      (k : LeftTurn m s x link l q r over) → outer ≡ height k.o.A → IsSized inner k.o.B → beside ≡ height q
+      (k : Leaning true m s x link l q r over) → outer ≡ height k.o.A → IsSized inner k.o.B → beside ≡ height q
       → n ≡ link.size - over.size + inner.size → low ≡ max inner.height beside + 1 → high ≡ max outer low + 1
       → IsDown m s r (record { back = over.back; forth = Some x; size = link.size; height = high; tag = over.tag })
       x (record { back = over.forth; forth = link.forth; size = n; height = low; tag = link.tag }) k.o.A k.o.B q
   down_put inner k a b d size low high =
-      let all = k.size_is in let part = k.part_is in record {
-        three = k.three;
-        under = refl;
-        low = record { size_is = omega arith; height_is = omega arith; tag_is = k.tag_is };
-        high = record { size_is = omega arith; height_is = omega arith; tag_is = k.over_tag };
-      }
+      let all = k.size_is in let part = k.part_is in
+      record { three = k.three; under = refl; low = counts (omega arith) (omega arith) k.tag_is; high = counts (omega arith) (omega arith) k.over_tag }
 
   pub up_put : {m : Pooled T} {s : ℕ} {x : Ref} {link : Link} {l q : BinaryTree} {r : Ref} {over : Link} (inner : Sub) {outer beside n low high : ℕ}
-      (k : RightTurn m s x link l q r over) → outer ≡ height k.o.B → IsSized inner k.o.A → beside ≡ height l
+      (k : Leaning false m s x link q l r over) → outer ≡ height k.o.B → IsSized inner k.o.A → beside ≡ height l
       → n ≡ link.size - over.size + inner.size → low ≡ max beside inner.height + 1 → high ≡ max low outer + 1
       → IsUp m s x (record { back = link.back; forth = over.back; size = n; height = low; tag = link.tag })
       r (record { back = Some x; forth = over.forth; size = link.size; height = high; tag = over.tag }) l k.o.A k.o.B
   up_put inner k a b d size low high =
-      let all = k.size_is in let part = k.part_is in record {
-        three = k.three;
-        under = refl;
-        low = record { size_is = omega arith; height_is = omega arith; tag_is = k.tag_is };
-        high = record { size_is = omega arith; height_is = omega arith; tag_is = k.over_tag };
-      }
+      let all = k.size_is in let part = k.part_is in
+      record { three = k.three; under = refl; low = counts (omega arith) (omega arith) k.tag_is; high = counts (omega arith) (omega arith) k.over_tag }
+
+  -- three nodes whose links count their sides
+  both : {m : Pooled T} {s : ℕ} {x : Ref} {u : Link} {y : Ref} {n h : ℕ} {tag : Tag} {z : Ref} {w : Link} {A B C D : BinaryTree}
+      → Four m s u.back x u.forth y w.back z w.forth A B C D → Counts u (link_of m x.name s).tag A B → Counts w (link_of m z.name s).tag C D
+      → Counts (record { back = Some x; forth = Some z; size = n; height = h; tag = tag }) (link_of m y.name s).tag (Fork A x B) (Fork C z D)
+      → IsBoth m s x u y (record { back = Some x; forth = Some z; size = n; height = h; tag = tag }) z w A B C D
+  both f first second whole = record { four = f; back = refl; forth = refl; first = first; second = second; whole = whole }
 
   -- the same where there are two turns
   pub left_both_put : {m : Pooled T} {s : ℕ} {x : Ref} {link : Link} {l q : BinaryTree} {r : Ref} {over : Link} {z : Ref} {inner : Link}
-      (near far : Sub) {outer beside n j low high top : ℕ} (k : LeftTurn m s x link l q r over) (u : Sides m s z inner k.o.B)
+      (near far : Sub) {outer beside n j low high top : ℕ} (k : Leaning true m s x link l q r over) (u : Sides m s z inner k.o.B)
       → Four m s over.back r inner.back z inner.forth x link.forth k.o.A u.A u.B q → inner.tag ≡ (link_of m z.name s).tag
       → outer ≡ height k.o.A → IsSized near u.A → IsSized far u.B → beside ≡ height q
       → n ≡ over.size - inner.size + near.size → j ≡ link.size - over.size + far.size
@@ -207,17 +205,11 @@ module _ {T : Type 0} where
       z (record { back = Some r; forth = Some x; size = link.size; height = top; tag = inner.tag })
       x (record { back = inner.forth; forth = link.forth; size = j; height = high; tag = link.tag }) k.o.A u.A u.B q
   left_both_put near far k u f t a b e d first second low high top =
-      let all = k.size_is in let part = k.part_is in let mid = u.size_is in let whole = ap forks u.is in record {
-        four = f;
-        back = refl;
-        forth = refl;
-        first = record { size_is = omega arith; height_is = omega arith; tag_is = k.over_tag };
-        second = record { size_is = omega arith; height_is = omega arith; tag_is = k.tag_is };
-        whole = record { size_is = omega arith; height_is = omega arith; tag_is = t };
-      }
+      let all = k.size_is in let part = k.part_is in let mid = u.size_is in let whole = ap forks u.is in
+      both f (counts (omega arith) (omega arith) k.over_tag) (counts (omega arith) (omega arith) k.tag_is) (counts (omega arith) (omega arith) t)
 
   pub right_both_put : {m : Pooled T} {s : ℕ} {x : Ref} {link : Link} {l q : BinaryTree} {r : Ref} {over : Link} {z : Ref} {inner : Link}
-      (near far : Sub) {outer beside n j low high top : ℕ} (k : RightTurn m s x link l q r over) (u : Sides m s z inner k.o.A)
+      (near far : Sub) {outer beside n j low high top : ℕ} (k : Leaning false m s x link q l r over) (u : Sides m s z inner k.o.A)
       → Four m s link.back x inner.back z inner.forth r over.forth l u.A u.B k.o.B → inner.tag ≡ (link_of m z.name s).tag
       → outer ≡ height k.o.B → IsSized near u.A → IsSized far u.B → beside ≡ height l
       → n ≡ link.size - over.size + near.size → j ≡ over.size - inner.size + far.size
@@ -226,14 +218,8 @@ module _ {T : Type 0} where
       z (record { back = Some x; forth = Some r; size = link.size; height = top; tag = inner.tag })
       r (record { back = inner.forth; forth = over.forth; size = j; height = high; tag = over.tag }) l u.A u.B k.o.B
   right_both_put near far k u f t a b e d first second low high top =
-      let all = k.size_is in let part = k.part_is in let mid = u.size_is in let whole = ap forks u.is in record {
-        four = f;
-        back = refl;
-        forth = refl;
-        first = record { size_is = omega arith; height_is = omega arith; tag_is = k.tag_is };
-        second = record { size_is = omega arith; height_is = omega arith; tag_is = k.over_tag };
-        whole = record { size_is = omega arith; height_is = omega arith; tag_is = t };
-      }
+      let all = k.size_is in let part = k.part_is in let mid = u.size_is in let whole = ap forks u.is in
+      both f (counts (omega arith) (omega arith) k.tag_is) (counts (omega arith) (omega arith) k.over_tag) (counts (omega arith) (omega arith) t)
 
   -- what the calls give, which set links of the nodes us alone
   balanced : {m n : Pooled T} {s : ℕ} {l : BinaryTree} {x : Ref} {q : BinaryTree} {root : Ref} {t : BinaryTree} {us : List Ref}

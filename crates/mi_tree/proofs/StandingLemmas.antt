@@ -8,7 +8,7 @@ use Rattle.mi_node.specs.Pool.{Pooled, value_of, link_of, with_link, IsHeld, Kee
 use Rattle.mi_node.specs.declared.link.Link.{Link}
 use Rattle.mi_node.specs.declared.link.Tag.{Tag}
 use Rattle.mi_node.proofs.EntryLemmas.{flip, link_here, link_there}
-use Rattle.mi_node.proofs.KeepingLemmas.{keeps_link, keeps_then, held_kept}
+use Rattle.mi_node.proofs.KeepingLemmas.{keeps_then, held_kept}
 use Rattle.mi_node.proofs.RefLemmas.{out_left, out_right}
 use Rattle.mi_node.specs.Refs.{Ref, IsOut, IsApart}
 use Rattle.mi_tree.specs.BinaryTree.{BinaryTree, Tip, Fork, nodes, forks, height, IsRooted}
@@ -21,7 +21,7 @@ use Rattle.mi_tree.specs.Walking.{Enters}
 use Rattle.mi_tree.specs.declared.walk.Direction.{Direction}
 use Rattle.mi_tree.specs.declared.tree.Tree.{Tree}
 use Rattle.mi_tree.proofs.BinaryTreeLemmas.{size-nodes, same_tree}
-use Rattle.mi_tree.proofs.JoinLemmas.{rooted_past}
+use Rattle.mi_tree.proofs.JoinLemmas.{rooted_past, keeps_set}
 use Rattle.mi_tree.proofs.LookUpLemmas.{steady}
 use Rattle.mi_tree.proofs.HeightLemmas.{short, shorter, low_enough}
 use Rattle.mi_tree.proofs.InsertLemmas.{put_apart, put_length}
@@ -62,7 +62,7 @@ leaf tag = record { back = None; forth = None; size = 1; height = 1; tag = tag }
 module _ {T : Type 0} (order : T → T → Ordering) (tag : T → ℕ) (m q : Pooled T) (s : ℕ)
     (x : Ref) (new : Tag) (held : IsHeld m x) (set : q ≡ with_link m x.name s (leaf new)) where
   pub set_keeps : Keeps m q s (x ∷ [])
-  set_keeps = subst (λ o. Keeps m o s (x ∷ [])) (sym set) (keeps_link s m x (leaf new))
+  set_keeps = keeps_set (leaf new) set
 
   set_link : link_of q x.name s ≡ leaf new
   set_link = ap (λ o. link_of o x.name s) set ∙ link_here m x s (leaf new) held

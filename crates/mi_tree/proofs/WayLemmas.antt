@@ -13,7 +13,7 @@ use Rattle.mi_node.specs.declared.link.Link.{Link}
 use Rattle.mi_node.specs.declared.link.Tag.{Tag}
 use Rattle.mi_node.specs.Refs.{Ref, IsOut, IsApart, AreOut}
 use Rattle.mi_node.proofs.EntryLemmas.{flip, link_here}
-use Rattle.mi_node.proofs.KeepingLemmas.{keeps_none, keeps_link, keeps_then, keeps_more, held_kept}
+use Rattle.mi_node.proofs.KeepingLemmas.{keeps_none, keeps_then, keeps_more, held_kept}
 use Rattle.mi_node.proofs.RefLemmas.{out_left, out_right, between, are_out_cons, are_out_none, are_out_flip}
 use Rattle.mi_tree.specs.BinaryTree.{BinaryTree, Tip, Fork, nodes, top, forks, height, DifferByAtMost, IsEven, Stands, IsRooted, height_at}
 use Rattle.mi_tree.specs.Joining.{AreSides, AreLinked, IsBalanced, IsFork, IsSettled}
@@ -23,9 +23,9 @@ use Rattle.mi_tree.specs.Ways.{risen, IsLevel, AreEven, IsRootOf, Above, Falls, 
 use Rattle.mi_tree.specs.declared.turns.Turn.{Turn}
 use Rattle.mi_tree.specs.declared.walk.TheConstants.{MAX_LEVELS}
 use Rattle.mi_tree.proofs.BinaryTreeLemmas.{moved, tip_is, size-nodes, height-root, held-root}
-use Rattle.mi_tree.proofs.JoinLemmas.{link_kept, stands_kept, rooted_past, tags_set}
+use Rattle.mi_tree.proofs.JoinLemmas.{link_kept, stands_kept, rooted_past, keeps_set, tags_set}
 use Rattle.mi_tree.proofs.HeightLemmas.{low_enough}
-use Rattle.mi_tree.proofs.RotationLemmas.{plain_parts}
+use Rattle.mi_tree.proofs.RotationLemmas.{sides_low, plain_parts}
 use Rattle.mi_tree.proofs.InsertLemmas.{put_apart, put_length, put_out}
 use Rattle.mi_tree.proofs.RemoveLemmas.{TakeOpened, take_opened}
 use Rattle.mi_tree.proofs.SortedLemmas.{IsOrder, side_order, side_kept, item_kept, put_left, put_right, tagged_left, tagged_right}
@@ -350,25 +350,20 @@ module _ {T : Type 0} where
     pub near : DifferByAtMost 1 k j → DifferByAtMost 1 (height l) (height q)
     pub low : max k j ≤ MAX_LEVELS
 
+  -- the two are the heights of both sides, whichever is whose
+  are_high : {m : Pooled T} {s : ℕ} {left right other : Option Ref} {x : Ref} {l q : BinaryTree} {k j : ℕ} → AreSides m s left x right l q → IsHeldIf m other
+      → max k j ≡ max (height l) (height q) → (DifferByAtMost 1 k j → DifferByAtMost 1 (height l) (height q)) → AreHigh m s other l q k j
+  are_high h held top near = let low = sides_low h in record { held = held; top_is = top; near = near; low = omega arith }
+
   sides_high : {m : Pooled T} {s : ℕ} {x : Ref} {l q : BinaryTree} {k j : ℕ} (b : Bool) (below : Option Ref) (y : Link)
       → AreSides m s (cond b below y.back) x (cond b y.forth below) l q
       → k ≡ height_at m s below → j ≡ height_at m s (cond (not b) y.back y.forth) → AreHigh m s (cond (not b) y.back y.forth) l q k j
-  sides_high {m} {s} {x} {l} {q} true below y h f g =
-      let fits = h.fits in let a = f ∙ height-root m s below l h.left_is in let d = g ∙ height-root m s y.forth q h.right_is in
-      let low_l = low_enough l h.left_even (omega arith) in let low_q = low_enough q h.right_even (omega arith) in record {
-        held = held-root m s y.forth q h.right_is;
-        top_is = omega arith;
-        near = λ n. (let n0 = n.0 in let n1 = n.1 in (omega arith, omega arith));
-        low = omega arith;
-      }
-  sides_high {m} {s} {x} {l} {q} false below y h f g =
-      let fits = h.fits in let a = f ∙ height-root m s below q h.right_is in let d = g ∙ height-root m s y.back l h.left_is in
-      let low_l = low_enough l h.left_even (omega arith) in let low_q = low_enough q h.right_even (omega arith) in record {
-        held = held-root m s y.back l h.left_is;
-        top_is = omega arith;
-        near = λ n. (let n0 = n.0 in let n1 = n.1 in (omega arith, omega arith));
-        low = omega arith;
-      }
+  sides_high {m} {s} {l = l} {q} true below y h f g =
+      let a = f ∙ height-root m s below l h.left_is in let d = g ∙ height-root m s y.forth q h.right_is in
+      are_high h (held-root m s y.forth q h.right_is) (omega arith) (λ n. (let n0 = n.0 in let n1 = n.1 in (omega arith, omega arith)))
+  sides_high {m} {s} {l = l} {q} false below y h f g =
+      let a = f ∙ height-root m s below q h.right_is in let d = g ∙ height-root m s y.back l h.left_is in
+      are_high h (held-root m s y.back l h.left_is) (omega arith) (λ n. (let n0 = n.0 in let n1 = n.1 in (omega arith, omega arith)))
 
   pub rejoined_high : {m : Pooled T} {s : ℕ} {turn : Turn} {below : Option Ref} {y : Link} {l q : BinaryTree} {k j : ℕ} → AreRejoined m s turn below y l q
       → k ≡ height_at m s below → j ≡ height_at m s (cond (not turn.left) y.back y.forth) → AreHigh m s (cond (not turn.left) y.back y.forth) l q k j
@@ -585,7 +580,7 @@ module _ {T : Type 0} where
       let above : Above m s (frame turn q ∷ w.rest) at (forks u) h = subst (λ k. Above m s k at (forks u) h) w.was c.above in
       let apart = subst (λ k. IsApart (nodes (plug k u))) w.was c.apart in
       let o = forked_apart b r q u (plug_apart w.rest t apart) in
-      let keeps = subst (λ k. Keeps m k s (r ∷ [])) (sym set) (keeps_link s m r (rehung b (Some next) y)) in
+      let keeps = keeps_set (rehung b (Some next) y) set in
       let here : link_of n r.name s ≡ rehung b (Some next) y = ap (λ k. link_of k r.name s) set ∙ link_here m r s (rehung b (Some next) y) above.0 in
       let is : y ≡ forked_link b at (forks u) h q y.tag = i ∙ above.1 ∙ ap (λ (z : Link). forked_link b at (forks u) h q z.tag) (sym i) in
       let link = here ∙ rehung_is b y at (Some next) (forks u) h q is ∙ ap (λ (z : Link). forked_link b (Some next) (forks u) h q z.tag) (sym here) in
@@ -691,7 +686,7 @@ module _ {T : Type 0} where
       (i : y ≡ link_of m here.name s) (size_now : ℕ) (set : n ≡ with_link m here.name s (sized_link size_now y)) where
     -- no other link changes, and no tag
     pub sized_keeps : Keeps m n s (here ∷ [])
-    sized_keeps = subst (λ k. Keeps m k s (here ∷ [])) (sym set) (keeps_link s m here (sized_link size_now y))
+    sized_keeps = keeps_set (sized_link size_now y) set
 
     pub sized_tags : SameTags m n s
     sized_tags = tags_set s m n here (sized_link size_now y) set o.held_root (ap (λ (z : Link). z.tag) i)

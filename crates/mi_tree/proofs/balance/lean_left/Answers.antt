@@ -1,10 +1,10 @@
 -- The left side is at least two levels high, and one rotation makes the heights fit, or two.
-use Rattle.std.proofs.Common.{◌≡◌, ◌+◌, ◌≤◌, Some, None, refl, sym, ap, ◌∙◌, arith}
+use Rattle.std.proofs.Common.{◌≡◌, true, ◌+◌, ◌≤◌, Some, None, refl, sym, ap, ◌∙◌, arith}
 use Rattle.mi_tree.specs.BinaryTree.{BinaryTree, Fork, height}
 use Rattle.mi_tree.specs.Joining.{AreLinked, IsSized}
 use Rattle.mi_tree.proofs.BinaryTreeLemmas.{moved, tip_is, held-root, height-root}
 use Rattle.mi_tree.proofs.JoinLemmas.{sized}
-use Rattle.mi_tree.proofs.RotationLemmas.{LeftTurn, left_turn, down_put, downs}
+use Rattle.mi_tree.proofs.RotationLemmas.{Leaning, left_turn, down_put, downs}
 use Rattle.mi_tree.proofs.balance.lean_left.Given.{Over}
 use Rattle.mi_tree.proofs.balance.lean_left.Goals.{After-of-inner}
 use Rattle.mi_tree.proofs.balance.lean_left.Goals as goal
@@ -12,7 +12,7 @@ use Rattle.mi_tree.proofs.balance.lean_left.Goals as goal
 module _ (g : Over) (c : After-of-inner g) where
   -- the side that is too high, opened
   turned : {l q : BinaryTree} → AreLinked c.args.p.now c.args.slot c.args.node c.args.link l q
-      → LeftTurn c.args.p.now c.args.slot c.args.node c.args.link l q c.in-Some.top c.link-over.result
+      → Leaning true c.args.p.now c.args.slot c.args.node c.args.link l q c.in-Some.top c.link-over.result
   turned h = left_turn h c.in-Some.is c.link-over.ensures
 
   -- its two sides

@@ -1,20 +1,15 @@
 -- A node whose link names two trees, with their size and height, is the root of one tree.
-use Rattle.std.proofs.Common.{[], ◌∷◌, sym, ap, ◌∙◌, subst}
-use Rattle.mi_node.specs.Pool.{Keeps}
-use Rattle.mi_node.proofs.EntryLemmas.{slots-with_link}
-use Rattle.mi_node.proofs.KeepingLemmas.{keeps_link}
-use Rattle.mi_tree.proofs.JoinLemmas.{joined, tags_set}
+use Rattle.mi_tree.proofs.JoinLemmas.{keeps_set, joined, tags_set}
 use Rattle.mi_tree.proofs.parts.set_fork.Goals as goal
 
 pub returns-clause-tree : goal.returns-clause-tree
 returns-clause-tree g c A B h = let v = c.args in joined v.slot v.p.now c.set_link.new.self v.x v.link A B c.set_link.ensures h
 
 pub returns-clause-keeps : goal.returns-clause-keeps
-returns-clause-keeps g c = subst (λ o. Keeps c.args.p.now o c.args.slot (c.args.x ∷ []))
-    (sym c.set_link.ensures) (keeps_link c.args.slot c.args.p.now c.args.x _)
+returns-clause-keeps g c = keeps_set _ c.set_link.ensures
 
 pub returns-clause-slots : goal.returns-clause-slots
-returns-clause-slots g c = ap (λ o. o.slots) c.set_link.ensures ∙ slots-with_link c.args.p.now _ c.args.slot _
+returns-clause-slots g c = (keeps_set {x = c.args.x} _ c.set_link.ensures).slots
 
 pub returns-clause-tags : goal.returns-clause-tags
 returns-clause-tags g c =

@@ -1,12 +1,11 @@
 -- Each step to the left is a turn of a way on which sizes have fallen by one.
-use Rattle.std.proofs.Common.{◌≡◌, ℕ, ◌-◌, ◌<◌, List, [], length, Some, refl, sym, ap, ◌∙◌, subst, arith}
+use Rattle.std.proofs.Common.{◌≡◌, ℕ, ◌-◌, ◌<◌, List, [], Some, refl, sym, ap, ◌∙◌, subst, arith}
 use Rattle.mi_node.specs.Pool.{with_link}
 use Rattle.mi_node.specs.Refs.{Ref}
 use Rattle.mi_node.specs.declared.link.Link.{Link}
 use Rattle.mi_tree.specs.BinaryTree.{BinaryTree, Tip}
 use Rattle.mi_tree.specs.Turns.{turns}
 use Rattle.mi_tree.specs.Ways.{Frame, Sinks}
-use Rattle.mi_tree.specs.declared.walk.TheConstants.{MAX_LEVELS}
 use Rattle.mi_tree.proofs.WayLemmas.{sized_link}
 use Rattle.mi_tree.proofs.RemovalWayLemmas.{NextSink, sunk_first, keeps_here, room_here, next_first}
 use Rattle.mi_tree.proofs.way.+go_first.Given.{Over}
@@ -33,8 +32,7 @@ returns-in_default-clause-way g t c fs u x ys vs ws h =
 
 pub push-deeper-requires-clause-room : goal.push-deeper-requires-clause-room
 push-deeper-requires-clause-room g t c =
-    let room : length (turns c.args.nodes.now c.args.depth) < MAX_LEVELS = room_here c.requires.way.6 refl c.link-link.ensures (set g t (goal.at.push-deeper-requires-clause-room g t c).After-set_size) in
-    room
+    room_here c.requires.way.6 refl c.link-link.ensures (set g t (goal.at.push-deeper-requires-clause-room g t c).After-set_size)
 
 pub go_first-requires : goal.go_first-requires
 go_first-requires g t c κs within =

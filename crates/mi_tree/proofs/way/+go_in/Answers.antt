@@ -1,12 +1,11 @@
 -- Each step down is a turn of a way on which sizes have grown by one, towards where the node belongs.
-use Rattle.std.proofs.Common.{◌≡◌, ℕ, ◌+◌, ◌<◌, List, length, refl, sym, ap, ◌∙◌, subst, arith}
+use Rattle.std.proofs.Common.{◌≡◌, ℕ, ◌+◌, ◌<◌, List, refl, sym, ap, ◌∙◌, subst, arith}
 use Rattle.mi_node.specs.Pool.{link_of, with_link}
 use Rattle.mi_node.specs.declared.link.Link.{Link}
 use Rattle.mi_tree.specs.BinaryTree.{BinaryTree}
 use Rattle.mi_tree.specs.Sorted.{side}
 use Rattle.mi_tree.specs.Turns.{turns}
 use Rattle.mi_tree.specs.Ways.{Frame, Falls}
-use Rattle.mi_tree.specs.declared.walk.TheConstants.{MAX_LEVELS}
 use Rattle.mi_tree.proofs.SortedLemmas.{side_read, tagged_read}
 use Rattle.mi_tree.proofs.WayLemmas.{sized_link, NextFall, fallen_none, here_tagged, room_here, keeps_here, same_tag, next_fall}
 use Rattle.mi_tree.proofs.way.+go_in.Given.{Over}
@@ -45,9 +44,8 @@ compare_nodes-side-requires-clause-right g t c =
 
 pub push-deeper-requires-clause-room : goal.push-deeper-requires-clause-room
 push-deeper-requires-clause-room g t c =
-    let room : length (turns c.args.nodes.now c.args.depth) < MAX_LEVELS = room_here (g.met.O.NodeOrder.total c.args.order.now) c.requires.way.2 c.in-Some.is
-    refl (set g t (goal.at.push-deeper-requires-clause-room g t c).After-set_size) in
-    room
+    room_here (g.met.O.NodeOrder.total c.args.order.now) c.requires.way.2 c.in-Some.is
+    refl (set g t (goal.at.push-deeper-requires-clause-room g t c).After-set_size)
 
 pub go_in-requires : goal.go_in-requires
 go_in-requires g t c κs within =

@@ -1,5 +1,5 @@
 -- Each step down is a turn of a way on which sizes have fallen by one, towards the node.
-use Rattle.std.proofs.Common.{◌≡◌, ℕ, ◌-◌, ◌<◌, List, ◌∷◌, length, None, refl, sym, ap, ◌∙◌, subst, arith}
+use Rattle.std.proofs.Common.{◌≡◌, ℕ, ◌-◌, ◌<◌, List, ◌∷◌, None, refl, sym, ap, ◌∙◌, subst, arith}
 use Rattle.mi_node.specs.Refs.{Ref}
 use Rattle.mi_node.specs.Pool.{link_of, with_link}
 use Rattle.mi_node.specs.declared.link.Link.{Link}
@@ -7,7 +7,6 @@ use Rattle.mi_tree.specs.BinaryTree.{BinaryTree, nodes}
 use Rattle.mi_tree.specs.Sorted.{AreTagged, side, Rising}
 use Rattle.mi_tree.specs.Turns.{turns}
 use Rattle.mi_tree.specs.Ways.{Frame, Sinks}
-use Rattle.mi_tree.specs.declared.walk.TheConstants.{MAX_LEVELS}
 use Rattle.mi_tree.proofs.BinaryTreeLemmas.{moved, tip_is}
 use Rattle.mi_tree.proofs.SortedLemmas.{side_read, tagged_read, none_here, tagged_right}
 use Rattle.mi_tree.proofs.RemoveLemmas.{held_in}
@@ -71,8 +70,7 @@ returns-then-is_eq-clause-way g t c fs u xs ys vs ws h r =
 
 pub push-deeper-requires-clause-room : goal.push-deeper-requires-clause-room
 push-deeper-requires-clause-room g t c =
-    let room : length (turns c.args.nodes.now c.args.depth) < MAX_LEVELS = room_here c.requires.way.6 c.in-Some.is refl (set g t (goal.at.push-deeper-requires-clause-room g t c).After-set_size) in
-    room
+    room_here c.requires.way.6 c.in-Some.is refl (set g t (goal.at.push-deeper-requires-clause-room g t c).After-set_size)
 
 pub go_to-requires : goal.go_to-requires
 go_to-requires g t c κs within =
