@@ -5,39 +5,29 @@ ghost use Rattle.mi_node.specs.Pool.{IsHeld};
 ghost use Rattle.mi_node.specs.Refs.{Ref};
 ghost use Rattle.mi_list.specs.Listed.{IsListed};
 
-use super::nodes::take_three;
+use super::nodes::{name_of, take_three};
 use mi_list::List;
 use mi_node::{NodeRef, Pool};
 use std::process::Abort;
 
-/// Asserts that the list has nodes of these names, from the first on.
-fn assert_forth(rt: &impl Abort, list: &List, p: &Pool<u8>, names: &[u32])
+/// Asserts that the list has nodes of these names: each is the next of the one before, which stands before it, from the first on to the
+/// last.
+fn assert_names(rt: &impl Abort, list: &List, p: &Pool<u8>, names: &[u32])
     requires { (rs : Seq Ref) × IsListed list.now p.now rs }
 {
     let mut at = list.first(p);
+    let mut before = None;
     for name in names {
         let Some(node) = at else {
             panic!(rt; "no node where {name} was to stand");
         };
         assert_eq!(rt; node.name(), *name);
+        assert_eq!(rt; name_of(list.prev(p, node)), before);
+        before = Some(*name);
         at = list.next(p, node);
     }
     assert!(rt; at.is_none());
-}
-
-/// Asserts that the list has nodes of these names, from the last back.
-fn assert_back(rt: &impl Abort, list: &List, p: &Pool<u8>, names: &[u32])
-    requires { (rs : Seq Ref) × IsListed list.now p.now rs }
-{
-    let mut at = list.last(p);
-    for name in names {
-        let Some(node) = at else {
-            panic!(rt; "no node where {name} was to stand");
-        };
-        assert_eq!(rt; node.name(), *name);
-        at = list.prev(p, node);
-    }
-    assert!(rt; at.is_none());
+    assert_eq!(rt; name_of(list.last(p)), before);
 }
 
 /// Puts three nodes into an empty list, the second of them last.
@@ -65,11 +55,11 @@ fn leave_and_return(
     ensures { IsListed list.new p.new (one ∷ two ∷ three ∷ []) }
 {
     list.unlink(p, two);
-    assert_forth(rt, list, p, &[one.name(), three.name()]);
+    assert_names(rt, list, p, &[one.name(), three.name()]);
     list.unlink(p, three);
-    assert_forth(rt, list, p, &[one.name()]);
+    assert_names(rt, list, p, &[one.name()]);
     list.relink(p, three);
-    assert_forth(rt, list, p, &[one.name(), three.name()]);
+    assert_names(rt, list, p, &[one.name(), three.name()]);
     list.relink(p, two);
 }
 
@@ -85,12 +75,11 @@ fn move_about(
     requires { IsListed list.old p.old (one ∷ two ∷ three ∷ []) }
 {
     list.move_before(p, one, None);
-    assert_forth(rt, list, p, &[two.name(), three.name(), one.name()]);
+    assert_names(rt, list, p, &[two.name(), three.name(), one.name()]);
     list.move_before(p, three, Some(three));
-    assert_forth(rt, list, p, &[two.name(), three.name(), one.name()]);
+    assert_names(rt, list, p, &[two.name(), three.name(), one.name()]);
     list.move_before(p, one, Some(three));
-    assert_forth(rt, list, p, &[two.name(), one.name(), three.name()]);
-    assert_back(rt, list, p, &[three.name(), one.name(), two.name()]);
+    assert_names(rt, list, p, &[two.name(), one.name(), three.name()]);
 }
 
 #[test]
@@ -101,8 +90,8 @@ fn nodes_leave_and_come_back(rt: HostRuntime) {
     let (one, two, three) = (nodes.one, nodes.two, nodes.three);
     let mut list = List::new(1);
     fill(&mut list, &mut p, one, two, three);
-    assert_forth(&rt, &list, &p, &[one.name(), two.name(), three.name()]);
+    assert_names(&rt, &list, &p, &[one.name(), two.name(), three.name()]);
     leave_and_return(&rt, &mut list, &mut p, one, two, three);
-    assert_forth(&rt, &list, &p, &[one.name(), two.name(), three.name()]);
+    assert_names(&rt, &list, &p, &[one.name(), two.name(), three.name()]);
     move_about(&rt, &mut list, &mut p, one, two, three);
 }

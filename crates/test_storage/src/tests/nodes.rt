@@ -48,3 +48,11 @@ where
     let three = take(rt, pool, third);
     Three { one, two, three }
 }
+
+/// The name of a node, if there is one.
+pub(super) fn name_of(node: Option<NodeRef>) -> Option<u32> {
+    match node {
+        None => None,
+        Some(node) => Some(node.name()),
+    }
+}

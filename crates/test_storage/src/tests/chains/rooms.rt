@@ -5,9 +5,9 @@ ghost use Rattle.mi_node.specs.Refs.{Ref};
 ghost use Rattle.mi_chain.specs.Chained.{AreChained};
 ghost use Rattle.test_storage.specs.Numbered.{number_keying, AreNumbered, IsPulled, AreSeenAlike};
 
-use super::super::nodes::take;
+use super::super::nodes::{name_of, take};
 use super::no_chains;
-use super::three::{ByNumber, name_of, next_if};
+use super::three::{ByNumber, next_if};
 use mi_chain::Chains;
 use mi_node::{Link, NodeRef, Pool};
 use mi_value::{Probe, Value};

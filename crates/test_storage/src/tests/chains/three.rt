@@ -6,7 +6,7 @@ ghost use Rattle.mi_node.specs.Refs.{Ref};
 ghost use Rattle.mi_chain.specs.Chained.{AreChained};
 ghost use Rattle.test_storage.specs.Numbered.{number_keying, IsAmong};
 
-use super::super::nodes::take_three;
+use super::super::nodes::{name_of, take_three};
 use super::no_chains;
 use mi_chain::{Chains, KeyHash};
 use mi_node::{NodeRef, Pool};
@@ -79,13 +79,6 @@ fn assert_list(
     let third = next_if(chains, p, *&second);
     for (found, node) in [(first, list[0]), (second, list[1]), (third, list[2])] {
         assert_eq!(rt; name_of(found), name_of(node));
-    }
-}
-
-pub(super) fn name_of(node: Option<NodeRef>) -> Option<u32> {
-    match node {
-        None => None,
-        Some(node) => Some(node.name()),
     }
 }
 

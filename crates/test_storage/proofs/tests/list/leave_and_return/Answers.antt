@@ -23,22 +23,22 @@ module _ (g : Over) (c : After-relink g) where
 pub unlink-requires : goal.unlink-requires
 unlink-requires g c = (c.args.one ∷ [], c.args.three ∷ [], c.requires)
 
-pub assert_forth-requires : goal.assert_forth-requires
-assert_forth-requires g c = (c.args.one ∷ c.args.three ∷ [], (c.unlink.ensures.list (c.args.one ∷ []) (c.args.three ∷ []) c.requires).listed)
+pub assert_names-requires : goal.assert_names-requires
+assert_names-requires g c = (c.args.one ∷ c.args.three ∷ [], (c.unlink.ensures.list (c.args.one ∷ []) (c.args.three ∷ []) c.requires).listed)
 
 pub unlink-requires-2 : goal.unlink-requires-2
 unlink-requires-2 g c = (c.args.one ∷ [], [], (c.unlink.ensures.list (c.args.one ∷ []) (c.args.three ∷ []) c.requires).listed)
 
-pub assert_forth-requires-2 : goal.assert_forth-requires-2
-assert_forth-requires-2 g c =
+pub assert_names-requires-2 : goal.assert_names-requires-2
+assert_names-requires-2 g c =
     let one = c.args.one in (one ∷ [], (c.unlink-2.ensures.list (one ∷ []) [] (c.unlink.ensures.list (one ∷ []) (c.args.three ∷ []) c.requires).listed).listed)
 
 pub relink-requires : goal.relink-requires
 relink-requires g c =
     let one = c.args.one in (one ∷ [], [], c.unlink-2.ensures.list (one ∷ []) [] (c.unlink.ensures.list (one ∷ []) (c.args.three ∷ []) c.requires).listed)
 
-pub assert_forth-requires-3 : goal.assert_forth-requires-3
-assert_forth-requires-3 g c =
+pub assert_names-requires-3 : goal.assert_names-requires-3
+assert_names-requires-3 g c =
     let one = c.args.one in let without_two = c.unlink.ensures.list (one ∷ []) (c.args.three ∷ []) c.requires in
     (one ∷ c.args.three ∷ [], c.relink.ensures.list (one ∷ []) [] (c.unlink-2.ensures.list (one ∷ []) [] without_two.listed))
 

@@ -18,8 +18,8 @@ module _ (g : Over) (c : After-move_before-2 g) where
 pub move_before-requires : goal.move_before-requires
 move_before-requires g c = let two_three = c.args.two ∷ c.args.three ∷ [] in ([], two_three, c.requires, inr (two_three, [], refl, refl))
 
-pub assert_forth-requires : goal.assert_forth-requires
-assert_forth-requires g c =
+pub assert_names-requires : goal.assert_names-requires
+assert_names-requires g c =
     let two_three = c.args.two ∷ c.args.three ∷ [] in
     (c.args.two ∷ c.args.three ∷ c.args.one ∷ [], c.move_before.ensures.list [] two_three two_three [] c.requires refl refl)
 
@@ -28,21 +28,16 @@ move_before-requires-2 g c =
     let two_three = c.args.two ∷ c.args.three ∷ [] in
     (c.args.two ∷ [], c.args.one ∷ [], c.move_before.ensures.list [] two_three two_three [] c.requires refl refl, inl refl)
 
-pub assert_forth-requires-2 : goal.assert_forth-requires-2
-assert_forth-requires-2 g c =
-    (c.args.two ∷ c.args.three ∷ c.args.one ∷ [], still g (goal.at.assert_forth-requires-2 g c).After-move_before-2)
+pub assert_names-requires-2 : goal.assert_names-requires-2
+assert_names-requires-2 g c =
+    (c.args.two ∷ c.args.three ∷ c.args.one ∷ [], still g (goal.at.assert_names-requires-2 g c).After-move_before-2)
 
 pub move_before-requires-3 : goal.move_before-requires-3
 move_before-requires-3 g c =
     let two = c.args.two in let three = c.args.three in
     (two ∷ three ∷ [], [], still g (goal.at.move_before-requires-3 g c).After-move_before-2, inr (two ∷ [], three ∷ [], refl, refl))
 
-pub assert_forth-requires-3 : goal.assert_forth-requires-3
-assert_forth-requires-3 g c =
-    let two = c.args.two in let three = c.args.three in let still = still g (goal.at.assert_forth-requires-3 g c).After-move_before-2 in
-    (two ∷ c.args.one ∷ three ∷ [], c.move_before-3.ensures.list (two ∷ three ∷ []) [] (two ∷ []) (three ∷ []) still refl refl)
-
-pub assert_back-requires : goal.assert_back-requires
-assert_back-requires g c =
-    let two = c.args.two in let three = c.args.three in let still = still g (goal.at.assert_back-requires g c).After-move_before-2 in
+pub assert_names-requires-3 : goal.assert_names-requires-3
+assert_names-requires-3 g c =
+    let two = c.args.two in let three = c.args.three in let still = still g (goal.at.assert_names-requires-3 g c).After-move_before-2 in
     (two ∷ c.args.one ∷ three ∷ [], c.move_before-3.ensures.list (two ∷ three ∷ []) [] (two ∷ []) (three ∷ []) still refl refl)

@@ -3,10 +3,15 @@ use Rattle.std.proofs.Common.{List as Seq, [], ◌∷◌, ◌++◌, sym, ◌∙�
 use Rattle.mi_node.specs.Refs.{Ref}
 use Rattle.mi_node.proofs.RefLemmas.{first_split}
 use Rattle.mi_list.specs.Listed.{IsListed}
-use Rattle.test_storage.proofs.tests.list.assert_forth.Goals as goal
+use Rattle.test_storage.proofs.tests.list.assert_names.Goals as goal
 
 pub loop-name-init : goal.loop-name-init
 loop-name-init g c = ([], c.requires.0, c.requires.1, c.first-at.ensures c.requires.0 c.requires.1)
+
+pub prev-requires : goal.prev-requires
+prev-requires g c =
+    let i = c.loop-name.invariant in let at = first_split i.1 c.in-Some.node (sym i.3 ∙ c.in-Some.is) in
+    (i.0, at.0, subst (λ (ts : Seq Ref). IsListed c.args.list.now c.args.p.now (i.0 ++ ts)) at.1 i.2)
 
 pub next-at-requires : goal.next-at-requires
 next-at-requires g c =
