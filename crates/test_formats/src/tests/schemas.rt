@@ -1,126 +1,79 @@
 //! Worked documents: which are schemas and catalogs, and what the others lack.
 //!
-//! A table of documents has the word of the fault, or `ok`, behind a mark, and from the next line on the document.
+//! A table of documents has the word of the fault, or `ok`, behind a mark, and from the next line on the document. Those that differ
+//! in one place only are rows of a frame.
 use mi_schema::{Catalog, Schema, SchemaFault, built_in, read_catalog, read_schema};
 use std::alloc::{AllocError, Global};
 use std::process::Abort;
 use std::test::Fail;
 
-/// A schema for each word.
+/// Schemas of which little is there, or whose first line is no column's and no table's.
 const FAULTS: &str = r#"
 === toml
 table =
 === shape
 
-=== name
-table = "t"
-column = [{name = "id", type = "float"}]
-=== twice
-table = "t"
-column = [{name = "a", type = "int"}, {name = "a", type = "text"}]
-=== type
-table = "t"
-column = [{name = "a", type = "float"}]
-=== kind
-table = "t"
-column = [{name = "a", type = "int"}]
-index = [{name = "i", kind = "btree", key = ["a"]}]
-=== key
-table = "t"
-column = [{name = "a", type = "int"}]
-index = [{name = "i", kind = "hashed", key = ["-a"]}]
-=== key
-table = "t"
-column = [{name = "a", type = "int"}]
-index = [{name = "i", kind = "sequenced", key = ["a"]}]
-=== key
-table = "t"
-column = [{name = "a", type = "int"}]
-index = [{name = "i", kind = "ordered", key = ["b"]}]
-=== key
-table = "t"
-column = [{name = "a", type = "int"}]
-index = [{name = "i", kind = "ordered"}]
-=== limit
-table = "t"
-column = []
 === number
 max_rows = 0
 table = "t"
 column = [{name = "a", type = "int"}]
-=== ok
-table = "t"
-column = [{name = "a", type = "int"}]"#;
-
-/// A schema knows no format; each kind of value, and each name beside its rule.
-const SHAPES: &str = r#"
 === shape
 format = 1
 table = "t"
-column = [{name = "a", type = "int"}]
-=== shape
-table = "t"
-max_rows = 1.0
-column = [{name = "a", type = "int"}]
-=== shape
-table = "t"
-column = [{name = "a", type = "int", key = 1}]
-=== name
-table = "T"
-column = [{name = "a", type = "int"}]
-=== ok
-table = "id"
-column = [{name = "a", type = "int"}]
-=== ok
-table = "_1234567890123456789012345678901"
-column = [{name = "a", type = "int"}]
-=== name
-table = "_12345678901234567890123456789012"
 column = [{name = "a", type = "int"}]"#;
 
-const KEYS: &str = r#"
-=== key
-table = "t"
-column = [{name = "a", type = "int"}]
-index = [{name = "i", kind = "ordered", key = []}]
-=== key
-table = "t"
-column = [{name = "a", type = "int"}]
-index = [{name = "i", kind = "ranked", key = ["a", "-a"]}]
-=== key
-table = "t"
-column = [{name = "a", type = "int"}]
-index = [{name = "i", kind = "ranked", key = ["--a"]}]
-=== key
-table = "t"
-column = [{name = "a", type = "int"}]
-index = [{name = "i", kind = "sequenced", unique = true}]
-=== key
-table = "t"
-column = [{name = "a", type = "int"}]
-index = [{name = "i", kind = "sequenced", key = []}]"#;
+/// Schemas that differ in one place. A row has the word of the fault, or `ok`, and what stands there, between the front and the back.
+struct Frame {
+    front: &'static str,
+    rows: &'static str,
+    back: &'static str,
+}
 
-const NUMBERS: &str = r#"
-=== number
-table = "t"
-first_id = -1
-column = [{name = "a", type = "int"}]
-=== number
-table = "t"
-first_arrival = -1
-column = [{name = "a", type = "int"}]
-=== number
-table = "t"
-first_revision = -1
-column = [{name = "a", type = "int"}]
-=== ok
-table = "t"
-max_rows = 16777216
-column = [{name = "a", type = "int"}]
-=== number
-table = "t"
-max_rows = 16777217
-column = [{name = "a", type = "int"}]"#;
+const COLUMNS: Frame = Frame {
+    front: "table = \"t\"\ncolumn = [",
+    rows: r#"name {name = "id", type = "float"}
+twice {name = "a", type = "int"}, {name = "a", type = "text"}
+type {name = "a", type = "float"}
+limit
+ok {name = "a", type = "int"}
+shape {name = "a", type = "int", key = 1}"#,
+    back: "]",
+};
+
+const INDEXES: Frame = Frame {
+    front: "table = \"t\"\ncolumn = [{name = \"a\", type = \"int\"}]\nindex = [{name = \"i\", kind = ",
+    rows: r#"kind "btree", key = ["a"]
+key "hashed", key = ["-a"]
+key "sequenced", key = ["a"]
+key "ordered", key = ["b"]
+key "ordered"
+key "ordered", key = []
+key "ranked", key = ["a", "-a"]
+key "ranked", key = ["--a"]
+key "sequenced", unique = true
+key "sequenced", key = []"#,
+    back: "}]",
+};
+
+const NUMBERS: Frame = Frame {
+    front: "table = \"t\"\n",
+    rows: r#"shape max_rows = 1.0
+number first_id = -1
+number first_arrival = -1
+number first_revision = -1
+ok max_rows = 16777216
+number max_rows = 16777217"#,
+    back: "\ncolumn = [{name = \"a\", type = \"int\"}]",
+};
+
+const NAMES: Frame = Frame {
+    front: "table = \"",
+    rows: r#"name T
+ok id
+ok _1234567890123456789012345678901
+name _12345678901234567890123456789012"#,
+    back: "\"\ncolumn = [{name = \"a\", type = \"int\"}]",
+};
 
 /// Of two faults the first in the order of checks.
 const TWO_FAULTS: &str = r#"
@@ -277,6 +230,16 @@ fn assert_verdicts(rt: &impl Abort, alloc: Global, documents: Documents, table: 
     }
 }
 
+/// Asserts the word of each schema of a frame.
+fn assert_framed(rt: &impl Abort, alloc: Global, frame: &Frame) -> Result<(), AllocError> {
+    for row in frame.rows.split('\n') {
+        let (want, part) = row.split_once(' ').unwrap_or((row, ""));
+        let text = format!(in alloc; "{}{part}{}", frame.front, frame.back)?;
+        assert_eq!(rt; schema_verdict(alloc, text.as_str()), want, "{text}");
+    }
+    Ok(())
+}
+
 /// Whether a text is refused since it isn't TOML.
 fn is_no_toml(alloc: Global, text: &[u8]) -> bool {
     matches!(read_schema(alloc, text), Err(SchemaFault::Toml))
@@ -370,11 +333,15 @@ fn accounts_in_format(alloc: Global, format: u64) -> Result<String, AllocError> 
 }
 
 #[test]
-fn schemas_are_read_or_refused(rt: HostRuntime) {
-    for table in [FAULTS, SHAPES, KEYS, NUMBERS, TWO_FAULTS] {
+fn schemas_are_read_or_refused(rt: HostRuntime) -> Result<(), Fail> {
+    for table in [FAULTS, TWO_FAULTS] {
         assert_verdicts(&rt, rt.alloc(), Documents::Schemas, table);
     }
+    for frame in &[COLUMNS, INDEXES, NUMBERS, NAMES] {
+        assert_framed(&rt, rt.alloc(), frame)?;
+    }
     assert!(rt; is_no_toml(rt.alloc(), b"table = \"\xff\""));
+    Ok(())
 }
 
 #[test]
