@@ -66,19 +66,6 @@ fn schema(alloc: Global) -> Result<Schema, Fail> {
     }
 }
 
-/// Mostly the id of a record, else one that a record has, had or is to have.
-fn some_id<C: Container>(rt: &impl Abort, undoable: &Undoable<C>, random: &mut Random) -> u64
-    requires { CanTakeBack undoable.now.schema (C.shape undoable.now.rows) (C.plain undoable.now.rows) undoable.now.inverses.items }
-{
-    let n = random.below(undoable.rows.size());
-    if random.is_one_in(8) {
-        let last = undoable.last(rt, BY_ID).unwrap_or(0);
-        random.below(last.saturating_add(4))
-    } else {
-        undoable.nth(rt, BY_ID, n).unwrap_or(0)
-    }
-}
-
 /// What the container answers to a change.
 fn changed<C: Container>(
     rt: &impl Abort,
@@ -105,155 +92,141 @@ fn assert_answer(rt: &impl Abort, got: &Answer, want: &Answer, change: &Change) 
     assert_eq!(rt; got, want, "to {change:?}");
 }
 
-/// A change of both.
-fn make_both<C: Container>(
-    rt: &impl Abort,
-    alloc: Global,
-    undoable: &mut Undoable<C>,
-    reference: &mut Reference,
-    change: &Change,
-) -> Result<Answer, Fail>
-    requires { CanTakeBack undoable.old.schema (C.shape undoable.old.rows) (C.plain undoable.old.rows) undoable.old.inverses.items }
-    ensures { CanTakeBack undoable.new.schema (C.shape undoable.new.rows) (C.plain undoable.new.rows) undoable.new.inverses.items }
-{
-    let got = changed(rt, alloc, undoable, change);
-    let want = reference.change(rt, alloc, change)?;
-    assert_answer(rt, &got, &want, change);
-    Ok(got)
-}
-
-/// The same random change to both.
-fn change_both<C: Container>(
-    rt: &impl Abort,
-    alloc: Global,
-    undoable: &mut Undoable<C>,
-    reference: &mut Reference,
-    random: &mut Random,
-    tally: &mut Tally,
-) -> Result<(), Fail>
-    requires { CanTakeBack undoable.old.schema (C.shape undoable.old.rows) (C.plain undoable.old.rows) undoable.old.inverses.items }
-    ensures { CanTakeBack undoable.new.schema (C.shape undoable.new.rows) (C.plain undoable.new.rows) undoable.new.inverses.items }
-{
-    let id = some_id(rt, undoable, random);
-    let other = some_id(rt, undoable, random);
-    let change = Change::random(alloc, random, id, other)?;
-    let answer = make_both(rt, alloc, undoable, reference, &change)?;
-    tally.count(&answer);
-    Ok(())
-}
-
-/// Takes so many of the newest changes back, if there are as many.
-fn unwind_both<C: Container>(
-    rt: &impl Abort,
-    undoable: &mut Undoable<C>,
-    reference: &mut Reference,
-    most: u64,
-    tally: &mut Tally,
-)
-    requires { CanTakeBack undoable.old.schema (C.shape undoable.old.rows) (C.plain undoable.old.rows) undoable.old.inverses.items }
-    ensures { CanTakeBack undoable.new.schema (C.shape undoable.new.rows) (C.plain undoable.new.rows) undoable.new.inverses.items }
-{
-    for _ in 0..most {
-        let was_there = undoable.unwind();
-        assert_eq!(rt; was_there, reference.undo());
-        if !was_there {
-            break;
-        }
-        tally.unwound = tally.unwound.saturating_add(1);
-    }
-}
-
-/// Settles the oldest change, if there is one.
-fn settle_both<C: Container>(
-    rt: &impl Abort,
-    undoable: &mut Undoable<C>,
-    reference: &mut Reference,
-    tally: &mut Tally,
-)
-    requires { CanTakeBack undoable.old.schema (C.shape undoable.old.rows) (C.plain undoable.old.rows) undoable.old.inverses.items }
-    ensures { CanTakeBack undoable.new.schema (C.shape undoable.new.rows) (C.plain undoable.new.rows) undoable.new.inverses.items }
-{
-    let was_there = undoable.settle();
-    assert_eq!(rt; was_there, reference.commit_oldest());
-    if was_there {
-        tally.settled = tally.settled.saturating_add(1);
-    }
-}
-
 /// More changes than these aren't kept to be taken back.
 const MOST_KEPT: u64 = 300;
-
-/// A change, or the newest ones taken back, or the oldest settled.
-fn step_both<C: Container>(
-    rt: &impl Abort,
-    alloc: Global,
-    undoable: &mut Undoable<C>,
-    reference: &mut Reference,
-    random: &mut Random,
-    tally: &mut Tally,
-) -> Result<(), Fail>
-    requires { CanTakeBack undoable.old.schema (C.shape undoable.old.rows) (C.plain undoable.old.rows) undoable.old.inverses.items }
-    ensures { CanTakeBack undoable.new.schema (C.shape undoable.new.rows) (C.plain undoable.new.rows) undoable.new.inverses.items }
-{
-    if undoable.depth() >= MOST_KEPT {
-        settle_both(rt, undoable, reference, tally);
-        return Ok(());
-    }
-    match random.below(100) {
-        0..6 => unwind_both(rt, undoable, reference, 1, tally),
-        6 | 7 => unwind_both(rt, undoable, reference, random.below(30), tally),
-        8..16 => settle_both(rt, undoable, reference, tally),
-        _ => change_both(rt, alloc, undoable, reference, random, tally)?,
-    }
-    Ok(())
-}
 
 /// As many steps as each of the tests below makes.
 const STEPS: u64 = 10_000;
 
-/// Every view compared, and once more when all that can be taken back is.
-fn end_both<C: Container>(
-    rt: &impl Abort,
-    alloc: Global,
-    undoable: &mut Undoable<C>,
-    reference: &mut Reference,
-    tally: &mut Tally,
-) -> Result<(), Fail>
-    requires { CanTakeBack undoable.old.schema (C.shape undoable.old.rows) (C.plain undoable.old.rows) undoable.old.inverses.items }
-{
-    compare(rt, alloc, undoable, reference)?;
-    unwind_both(rt, undoable, reference, STEPS, tally);
-    compare(rt, alloc, undoable, reference)
+/// A container and the plain database of one table, where random changes come from, and what was done to both.
+#[derive(Drop)]
+struct Both<C: Container> {
+    undoable: Undoable<C>,
+    reference: Reference,
+    random: Random,
+    tally: Tally,
 }
 
-/// So many random steps of both, compared after every hundredth and at the end.
-fn run_both<C: Container>(
-    rt: &impl Abort,
-    alloc: Global,
-    undoable: &mut Undoable<C>,
-    reference: &mut Reference,
-    seed: u64,
-) -> Result<(), Fail>
-    requires { CanTakeBack undoable.old.schema (C.shape undoable.old.rows) (C.plain undoable.old.rows) undoable.old.inverses.items }
-{
-    let mut random = Random::new(seed);
-    let mut tally = Tally::default();
-    'steps: for step in 0..STEPS {
-        if step % 100 == 0 {
-            compare(rt, alloc, undoable, reference)?;
+impl<C: Container> Both<C> {
+    /// Mostly the id of a record, else one that a record has, had or is to have.
+    fn some_id(&mut self, rt: &impl Abort) -> u64
+        requires { CanTakeBack self.old.undoable.schema (C.shape self.old.undoable.rows) (C.plain self.old.undoable.rows) self.old.undoable.inverses.items }
+        ensures { CanTakeBack self.new.undoable.schema (C.shape self.new.undoable.rows) (C.plain self.new.undoable.rows) self.new.undoable.inverses.items }
+    {
+        let n = self.random.below(self.undoable.rows.size());
+        if self.random.is_one_in(8) {
+            let last = self.undoable.last(rt, BY_ID).unwrap_or(0);
+            self.random.below(last.saturating_add(4))
+        } else {
+            self.undoable.nth(rt, BY_ID, n).unwrap_or(0)
         }
-        step_both(rt, alloc, undoable, reference, &mut random, &mut tally)?;
     }
-    end_both(rt, alloc, undoable, reference, &mut tally)?;
-    assert!(rt; tally.has_each(), "{tally:?}");
-    Ok(())
+
+    /// A change of both.
+    fn make(&mut self, rt: &impl Abort, alloc: Global, change: &Change) -> Result<(), Fail>
+        requires { CanTakeBack self.old.undoable.schema (C.shape self.old.undoable.rows) (C.plain self.old.undoable.rows) self.old.undoable.inverses.items }
+        ensures { CanTakeBack self.new.undoable.schema (C.shape self.new.undoable.rows) (C.plain self.new.undoable.rows) self.new.undoable.inverses.items }
+    {
+        let got = changed(rt, alloc, &mut self.undoable, change);
+        let want = self.reference.change(rt, alloc, change)?;
+        assert_answer(rt, &got, &want, change);
+        self.tally.count(&got);
+        Ok(())
+    }
+
+    /// The same random change to both.
+    fn change(&mut self, rt: &impl Abort, alloc: Global) -> Result<(), Fail>
+        requires { CanTakeBack self.old.undoable.schema (C.shape self.old.undoable.rows) (C.plain self.old.undoable.rows) self.old.undoable.inverses.items }
+        ensures { CanTakeBack self.new.undoable.schema (C.shape self.new.undoable.rows) (C.plain self.new.undoable.rows) self.new.undoable.inverses.items }
+    {
+        let id = self.some_id(rt);
+        let other = self.some_id(rt);
+        let change = Change::random(alloc, &mut self.random, id, other)?;
+        self.make(rt, alloc, &change)
+    }
+
+    /// Takes so many of the newest changes back, if there are as many.
+    fn unwind(&mut self, rt: &impl Abort, most: u64)
+        requires { CanTakeBack self.old.undoable.schema (C.shape self.old.undoable.rows) (C.plain self.old.undoable.rows) self.old.undoable.inverses.items }
+        ensures { CanTakeBack self.new.undoable.schema (C.shape self.new.undoable.rows) (C.plain self.new.undoable.rows) self.new.undoable.inverses.items }
+    {
+        for _ in 0..most {
+            let was_there = self.undoable.unwind();
+            assert_eq!(rt; was_there, self.reference.undo());
+            if !was_there {
+                break;
+            }
+            self.tally.unwound = self.tally.unwound.saturating_add(1);
+        }
+    }
+
+    /// Settles the oldest change, if there is one.
+    fn settle(&mut self, rt: &impl Abort)
+        requires { CanTakeBack self.old.undoable.schema (C.shape self.old.undoable.rows) (C.plain self.old.undoable.rows) self.old.undoable.inverses.items }
+        ensures { CanTakeBack self.new.undoable.schema (C.shape self.new.undoable.rows) (C.plain self.new.undoable.rows) self.new.undoable.inverses.items }
+    {
+        let was_there = self.undoable.settle();
+        assert_eq!(rt; was_there, self.reference.commit_oldest());
+        if was_there {
+            self.tally.settled = self.tally.settled.saturating_add(1);
+        }
+    }
+
+    /// A change, or the newest ones taken back, or the oldest settled.
+    fn step(&mut self, rt: &impl Abort, alloc: Global) -> Result<(), Fail>
+        requires { CanTakeBack self.old.undoable.schema (C.shape self.old.undoable.rows) (C.plain self.old.undoable.rows) self.old.undoable.inverses.items }
+        ensures { CanTakeBack self.new.undoable.schema (C.shape self.new.undoable.rows) (C.plain self.new.undoable.rows) self.new.undoable.inverses.items }
+    {
+        if self.undoable.depth() >= MOST_KEPT {
+            self.settle(rt);
+            return Ok(());
+        }
+        match self.random.below(100) {
+            0..6 => self.unwind(rt, 1),
+            6 | 7 => {
+                let most = self.random.below(30);
+                self.unwind(rt, most);
+            }
+            8..16 => self.settle(rt),
+            _ => self.change(rt, alloc)?,
+        }
+        Ok(())
+    }
+
+    /// Every view compared, and once more when all that can be taken back is.
+    fn end(&mut self, rt: &impl Abort, alloc: Global) -> Result<(), Fail>
+        requires { CanTakeBack self.old.undoable.schema (C.shape self.old.undoable.rows) (C.plain self.old.undoable.rows) self.old.undoable.inverses.items }
+    {
+        compare(rt, alloc, &self.undoable, &self.reference)?;
+        self.unwind(rt, STEPS);
+        compare(rt, alloc, &self.undoable, &self.reference)
+    }
+
+    /// So many random steps of both, compared after every hundredth and at the end.
+    fn run(&mut self, rt: &impl Abort, alloc: Global) -> Result<(), Fail>
+        requires { CanTakeBack self.old.undoable.schema (C.shape self.old.undoable.rows) (C.plain self.old.undoable.rows) self.old.undoable.inverses.items }
+    {
+        'steps: for step in 0..STEPS {
+            if step % 100 == 0 {
+                compare(rt, alloc, &self.undoable, &self.reference)?;
+            }
+            self.step(rt, alloc)?;
+        }
+        self.end(rt, alloc)?;
+        assert!(rt; self.tally.has_each(), "{:?}", self.tally);
+        Ok(())
+    }
 }
 
 /// A container and the plain database of one table.
 fn check_beside<C: Container>(rt: &impl Abort, alloc: Global, seed: u64) -> Result<(), Fail> {
-    let mut reference = Reference::open(alloc, schema(alloc)?)?;
-    let mut undoable = Undoable::<C>::open(alloc, schema(alloc)?)?;
-    run_both(rt, alloc, &mut undoable, &mut reference, seed)
+    let mut both = Both {
+        undoable: Undoable::<C>::open(alloc, schema(alloc)?)?,
+        reference: Reference::open(alloc, schema(alloc)?)?,
+        random: Random::new(seed),
+        tally: Tally::default(),
+    };
+    both.run(rt, alloc)
 }
 
 #[test]

@@ -48,6 +48,18 @@ pub(super) enum Change {
 /// What a change answers: the id of a new record, else nothing, or why it is refused.
 pub(super) type Answer = Result<Option<u64>, Refusal>;
 
+/// A walk along an index, in reverse or not, from a record on: so many rows at most.
+#[derive(Clone, Copy)]
+pub(super) struct Way {
+    pub(super) index: usize,
+    pub(super) reverse: bool,
+    pub(super) first: u64,
+    pub(super) limit: usize,
+}
+
+/// Records with their ids.
+pub(super) type Rows<'a> = Vec<(u64, &'a Record)>;
+
 fn number(random: &mut Random) -> Value {
     Value::Int(random.below(60).cast_signed())
 }

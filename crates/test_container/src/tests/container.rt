@@ -1,7 +1,7 @@
 //! Each call of a container once, and changes taken back: what indexes show is worked out by hand.
 ghost use Rattle.test_container.specs.Undone.{CanTakeBack};
 
-use super::change::Answer;
+use super::change::{Answer, Way};
 use super::undoable::Undoable;
 use mi_container::Container;
 use mi_multi::MultiIndex;
@@ -152,6 +152,15 @@ fn unwind_to_four<C: Container>(rt: &impl Abort, undoable: &mut Undoable<C>)
 {
     assert!(rt; undoable.unwind());
     check_views(rt, undoable, &OF_FOUR);
+}
+
+/// The newest change leaves these views, and taken back it leaves the first four records.
+fn check_and_unwind<C: Container>(rt: &impl Abort, undoable: &mut Undoable<C>, want: &Views)
+    requires { CanTakeBack undoable.old.schema (C.shape undoable.old.rows) (C.plain undoable.old.rows) undoable.old.inverses.items }
+    ensures { CanTakeBack undoable.new.schema (C.shape undoable.new.rows) (C.plain undoable.new.rows) undoable.new.inverses.items }
+{
+    check_views(rt, undoable, want);
+    unwind_to_four(rt, undoable);
 }
 
 /// A record, its id and where it comes in.
@@ -479,31 +488,38 @@ fn check_ends<C: Container>(rt: &impl Abort, undoable: &Undoable<C>)
     }
 }
 
-/// A walk by `f` and `s`, in reverse or not, from a record on: so many records, by their ids and `k`.
+/// A walk, and its records by their ids and `k`.
 struct Walk {
-    reverse: bool,
-    first: u64,
-    limit: usize,
+    way: Way,
     rows: &'static [(u64, i64)],
 }
 
 const WALKS: [Walk; 3] = [
     Walk {
-        reverse: false,
-        first: 3,
-        limit: 2,
+        way: Way {
+            index: BY_F_S,
+            reverse: false,
+            first: 3,
+            limit: 2,
+        },
         rows: &[(3, 13), (0, 10)],
     },
     Walk {
-        reverse: false,
-        first: 2,
-        limit: 0,
+        way: Way {
+            index: BY_F_S,
+            reverse: false,
+            first: 2,
+            limit: 0,
+        },
         rows: &[],
     },
     Walk {
-        reverse: true,
-        first: 0,
-        limit: 9,
+        way: Way {
+            index: BY_F_S,
+            reverse: true,
+            first: 0,
+            limit: 9,
+        },
         rows: &[(0, 10), (3, 13), (2, 12)],
     },
 ];
@@ -531,7 +547,7 @@ fn check_walks<C: Container>(
     requires { CanTakeBack undoable.now.schema (C.shape undoable.now.rows) (C.plain undoable.now.rows) undoable.now.inverses.items }
 {
     for want in &WALKS {
-        let rows = undoable.walk(rt, alloc, BY_F_S, want.reverse, want.first, want.limit)?;
+        let rows = undoable.walk(rt, alloc, want.way)?;
         assert_rows(rt, rows.as_slice(), want.rows);
     }
     Ok(())
@@ -551,8 +567,7 @@ fn check_replace<C: Container>(rt: &impl Abort, alloc: Global, undoable: &mut Un
 {
     let row = record(rt, alloc, 11, "b", true, 2);
     assert_answer(rt, undoable.replace(rt, 1, row), Ok(None));
-    check_views(rt, undoable, &FLAGGED);
-    unwind_to_four(rt, undoable);
+    check_and_unwind(rt, undoable, &FLAGGED);
 }
 
 const ADDED: Views = Views {
@@ -569,8 +584,7 @@ fn check_add<C: Container>(rt: &impl Abort, alloc: Global, undoable: &mut Undoab
 {
     assert_answer(rt, undoable.add(rt, alloc, 0, N, 1, true), Ok(None));
     assert!(rt; shows(undoable, 0, 10, "a", false, 2));
-    check_views(rt, undoable, &ADDED);
-    unwind_to_four(rt, undoable);
+    check_and_unwind(rt, undoable, &ADDED);
 }
 
 const LOST: Views = Views {
@@ -589,8 +603,7 @@ fn check_lost<C: Container>(rt: &impl Abort, alloc: Global, undoable: &mut Undoa
     assert_answer(rt, refused, Err(Refusal::Unique { index: BY_K, id: 2 }));
     let lost = undoable.add(rt, alloc, 0, K, 2, false);
     assert_answer(rt, lost, Err(Refusal::Lost { index: BY_K, id: 2 }));
-    check_views(rt, undoable, &LOST);
-    unwind_to_four(rt, undoable);
+    check_and_unwind(rt, undoable, &LOST);
     assert!(rt; shows(undoable, 0, 10, "a", false, 1));
 }
 
@@ -655,8 +668,7 @@ fn check_erase<C: Container>(rt: &impl Abort, undoable: &mut Undoable<C>)
     ensures { CanTakeBack undoable.new.schema (C.shape undoable.new.rows) (C.plain undoable.new.rows) undoable.new.inverses.items }
 {
     assert_answer(rt, undoable.erase(3), Ok(None));
-    check_views(rt, undoable, &ERASED);
-    unwind_to_four(rt, undoable);
+    check_and_unwind(rt, undoable, &ERASED);
 }
 
 const FIFTH: Row = Row {

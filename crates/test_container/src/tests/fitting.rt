@@ -1,13 +1,14 @@
-//! Whether edits fit the columns of a table, and an index of it has a kind.
-ghost use Rattle.std.specs.Prelude.{◌≡◌, IsTrue};
+//! Whether edits fit the columns of a table, and of which kind an index of it is.
+ghost use Rattle.std.specs.Prelude.{◌≡◌, ◌<◌, IsTrue, length};
 ghost use Rattle.std.specs.List.{list_all};
 ghost use Rattle.mi_value.specs.Edits as edits_meaning;
 ghost use Rattle.mi_catalog.specs.Fits as fits_meaning;
-ghost use Rattle.mi_container.specs.Asked.{IsKeyed, IsHashed, IsSorted, IsSequenced, ShowsOneList};
+ghost use Rattle.mi_catalog.specs.Shape.{index_at};
 
-use mi_catalog::{Column, Schema};
+use mi_catalog::{Column, IndexKind, Schema};
 use mi_value::limits::MAX_TEXT;
 use mi_value::{ColumnType, Edit, Value};
+use std::process::Abort;
 
 /// Whether a value is of this type.
 fn fits_type(kind: ColumnType, value: &Value) -> bool
@@ -70,37 +71,11 @@ pub(super) fn fits_edits(columns: &[Column], edits: &[Edit]) -> bool
     }
 }
 
-/// Whether an index is there and has keys.
-pub(super) fn is_keyed(schema: &Schema, index: usize) -> bool
-    ensures { IsTrue result → IsKeyed schema.now index }
+/// The kind of an index. Stops where it isn't there.
+pub(super) fn kind_at(rt: &impl Abort, schema: &Schema, index: usize) -> IndexKind
+    ensures there { index < length schema.now.indexes }
+    ensures kind { result ≡ (index_at schema.now index).kind }
 {
-    index < schema.index_count() && schema.kind(index).has_keys()
-}
-
-/// Whether it is hashed.
-pub(super) fn is_hashed(schema: &Schema, index: usize) -> bool
-    ensures { IsTrue result → IsHashed schema.now index }
-{
-    index < schema.index_count() && schema.kind(index).is_hashed()
-}
-
-/// Whether it is ordered or ranked.
-pub(super) fn is_sorted(schema: &Schema, index: usize) -> bool
-    ensures { IsTrue result → IsSorted schema.now index }
-{
-    index < schema.index_count() && schema.kind(index).is_sorted()
-}
-
-/// Whether it is sequenced.
-pub(super) fn is_sequenced(schema: &Schema, index: usize) -> bool
-    ensures { IsTrue result → IsSequenced schema.now index }
-{
-    index < schema.index_count() && schema.kind(index).is_sequenced()
-}
-
-/// Whether it shows one list.
-pub(super) fn is_listed(schema: &Schema, index: usize) -> bool
-    ensures { IsTrue result → ShowsOneList schema.now index }
-{
-    index < schema.index_count() && schema.kind(index).shows_one_list()
+    assert!(rt; index < schema.index_count());
+    schema.kind(index)
 }

@@ -1,6 +1,5 @@
 //! A container under a journal of real inverses: they are noted by session, taken back from the newest and settled from the oldest.
-ghost use Rattle.std.specs.Prelude.{IsTrue, IfOk};
-ghost use Rattle.mi_container.specs.Asked.{RecordFits, EditsFit};
+ghost use Rattle.std.specs.Prelude.{IfOk};
 ghost use Rattle.test_container.specs.Journaled.{CanGoBack};
 
 use super::fitting::fits_edits;
@@ -44,22 +43,6 @@ impl<C: Container> Journaled<C> {
         })
     }
 
-    /// Whether a record fits the columns.
-    fn fits(&self, row: &Record) -> bool
-        requires { CanGoBack self.now.schema (C.shape self.now.rows) (C.plain self.now.rows) self.now.journal.sessions }
-        ensures { IsTrue result → RecordFits (C.shape self.now.rows) row.now }
-    {
-        self.schema.fits_record(row)
-    }
-
-    /// Whether edits do.
-    fn fits_edits(&self, edits: &[Edit]) -> bool
-        requires { CanGoBack self.now.schema (C.shape self.now.rows) (C.plain self.now.rows) self.now.journal.sessions }
-        ensures { IsTrue result → EditsFit (C.shape self.now.rows) edits.now }
-    {
-        fits_edits(self.schema.columns(), edits)
-    }
-
     /// Opens a session.
     fn start(&mut self, rt: &impl Abort)
         requires { CanGoBack self.old.schema (C.shape self.old.rows) (C.plain self.old.rows) self.old.journal.sessions }
@@ -77,7 +60,7 @@ impl<C: Container> Journaled<C> {
         self.journal.reserve(1, 0).expect(rt, "memory is there");
         assert!(rt; self.journal.depth() > 0);
         self.rows.keeps_rules();
-        assert!(rt; self.fits(&row));
+        assert!(rt; self.schema.fits_record(&row));
         match self.rows.insert(alloc, row, None) {
             Ok((id, inverse)) => {
                 self.journal.note(0, inverse);
@@ -95,7 +78,7 @@ impl<C: Container> Journaled<C> {
         self.journal.reserve(1, 0).expect(rt, "memory is there");
         assert!(rt; self.journal.depth() > 0);
         self.rows.keeps_rules();
-        assert!(rt; self.fits_edits(edits));
+        assert!(rt; fits_edits(self.schema.columns(), edits));
         match self.rows.modify(alloc, id, edits, false) {
             Ok(inverse) => {
                 self.journal.note(0, inverse);

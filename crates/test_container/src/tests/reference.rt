@@ -7,8 +7,8 @@ ghost use Rattle.mi_catalog.specs.Fitting.{FitsWhole, FitsPrefix, FitsLookUp};
 ghost use Rattle.mi_model.specs.Database.{table_of};
 ghost use Rattle.mi_model.specs.Table.{has as has_row};
 
-use super::change::{Answer, Change};
-use super::fitting::fits_edits;
+use super::change::{Answer, Change, Rows, Way};
+use super::fitting::{fits_edits, kind_at};
 use mi_catalog::{Catalog, Schema};
 use mi_plain::Plain;
 use mi_query::{count, find};
@@ -47,8 +47,7 @@ impl Reference {
         ensures key { FitsLookUp self.now.plain.catalog 0 i key.now }
     {
         let schema = self.schema(rt);
-        assert!(rt; i < schema.index_count());
-        let kind = schema.kind(i);
+        let kind = kind_at(rt, schema, i);
         assert!(rt; kind.has_keys());
         assert!(rt; schema.fits_key(i, key, kind.is_hashed()));
     }
@@ -58,9 +57,7 @@ impl Reference {
         ensures table { HasTable self.now.plain.catalog 0 }
         ensures index { IsHashedIndex self.now.plain.catalog 0 i }
     {
-        let schema = self.schema(rt);
-        assert!(rt; i < schema.index_count());
-        assert!(rt; schema.kind(i).is_hashed());
+        assert!(rt; kind_at(rt, self.schema(rt), i).is_hashed());
     }
 
     /// Stops unless it is hashed, and values are a whole key of it.
@@ -78,9 +75,7 @@ impl Reference {
         ensures table { HasTable self.now.plain.catalog 0 }
         ensures index { IsSortedIndex self.now.plain.catalog 0 i }
     {
-        let schema = self.schema(rt);
-        assert!(rt; i < schema.index_count());
-        assert!(rt; schema.kind(i).is_sorted());
+        assert!(rt; kind_at(rt, self.schema(rt), i).is_sorted());
     }
 
     /// Stops unless it is ordered or ranked, and values are a key of it, or the first values of one.
@@ -90,8 +85,7 @@ impl Reference {
         ensures key { FitsPrefix self.now.plain.catalog 0 i key.now }
     {
         let schema = self.schema(rt);
-        assert!(rt; i < schema.index_count());
-        assert!(rt; schema.kind(i).is_sorted());
+        assert!(rt; kind_at(rt, schema, i).is_sorted());
         assert!(rt; schema.fits_key(i, key, false));
     }
 
@@ -100,9 +94,7 @@ impl Reference {
         ensures table { HasTable self.now.plain.catalog 0 }
         ensures index { IsSequencedIndex self.now.plain.catalog 0 i }
     {
-        let schema = self.schema(rt);
-        assert!(rt; i < schema.index_count());
-        assert!(rt; schema.kind(i).is_sequenced());
+        assert!(rt; kind_at(rt, self.schema(rt), i).is_sequenced());
     }
 
     /// Stops unless it shows one list.
@@ -110,9 +102,7 @@ impl Reference {
         ensures table { HasTable self.now.plain.catalog 0 }
         ensures index { IsListedIndex self.now.plain.catalog 0 i }
     {
-        let schema = self.schema(rt);
-        assert!(rt; i < schema.index_count());
-        assert!(rt; schema.kind(i).shows_one_list());
+        assert!(rt; kind_at(rt, self.schema(rt), i).shows_one_list());
     }
 
     /// Stops unless a record may be placed there.
@@ -257,15 +247,19 @@ impl Reference {
         &self,
         rt: &impl Abort,
         alloc: Global,
-        index: usize,
-        reverse: bool,
-        first: u64,
-        limit: usize,
-    ) -> Result<Vec<(u64, &Record)>, Refusal> {
-        self.want_listed(rt, index);
-        self.want_record(rt, first);
-        self.plain
-            .walk(alloc, 0, index, reverse, first, limit, &mut Steps::new())
+        way: Way,
+    ) -> Result<Rows<'_>, Refusal> {
+        self.want_listed(rt, way.index);
+        self.want_record(rt, way.first);
+        self.plain.walk(
+            alloc,
+            0,
+            way.index,
+            way.reverse,
+            way.first,
+            way.limit,
+            &mut Steps::new(),
+        )
     }
 
     pub(super) fn find(&self, rt: &impl Abort, index: usize, key: &[Value]) -> Option<u64> {

@@ -2,12 +2,12 @@
 //! call wants of its arguments.
 ghost use Rattle.std.specs.Prelude.{◌≡◌, IsTrue, IfOk, IfSome};
 ghost use Rattle.mi_model.specs.Table.{has as has_row};
-ghost use Rattle.mi_container.specs.Asked.{IsKeyed, IsHashed, IsSorted, IsSequenced, ShowsOneList, RecordFits, EditsFit, WholeKey, KeyPrefix};
+ghost use Rattle.mi_container.specs.Asked.{IsKeyed, IsHashed, IsSorted, IsSequenced, ShowsOneList, WholeKey, KeyPrefix};
 ghost use Rattle.mi_container.specs.Data.{as_table};
 ghost use Rattle.test_container.specs.Undone.{CanTakeBack};
 
-use super::change::Answer;
-use super::fitting::{fits_edits, is_hashed, is_keyed, is_listed, is_sequenced, is_sorted};
+use super::change::{Answer, Rows, Way};
+use super::fitting::{fits_edits, kind_at};
 use mi_catalog::Schema;
 use mi_container::{Container, Inverse};
 use mi_value::{Edit, Record, Refusal, Steps, Value};
@@ -36,28 +36,12 @@ impl<C: Container> Undoable<C> {
         })
     }
 
-    /// Whether a record fits the columns.
-    pub(super) fn fits(&self, row: &Record) -> bool
-        requires { CanTakeBack self.now.schema (C.shape self.now.rows) (C.plain self.now.rows) self.now.inverses.items }
-        ensures { IsTrue result → RecordFits (C.shape self.now.rows) row.now }
-    {
-        self.schema.fits_record(row)
-    }
-
-    /// Whether edits do.
-    fn fits_edits(&self, edits: &[Edit]) -> bool
-        requires { CanTakeBack self.now.schema (C.shape self.now.rows) (C.plain self.now.rows) self.now.inverses.items }
-        ensures { IsTrue result → EditsFit (C.shape self.now.rows) edits.now }
-    {
-        fits_edits(self.schema.columns(), edits)
-    }
-
     /// Stops unless an index is there and has keys.
     fn want_keyed(&self, rt: &impl Abort, index: usize)
         requires { CanTakeBack self.now.schema (C.shape self.now.rows) (C.plain self.now.rows) self.now.inverses.items }
         ensures { IsKeyed (C.shape self.now.rows) index }
     {
-        assert!(rt; is_keyed(&self.schema, index));
+        assert!(rt; kind_at(rt, &self.schema, index).has_keys());
     }
 
     /// Stops unless it is hashed.
@@ -65,7 +49,7 @@ impl<C: Container> Undoable<C> {
         requires { CanTakeBack self.now.schema (C.shape self.now.rows) (C.plain self.now.rows) self.now.inverses.items }
         ensures { IsHashed (C.shape self.now.rows) index }
     {
-        assert!(rt; is_hashed(&self.schema, index));
+        assert!(rt; kind_at(rt, &self.schema, index).is_hashed());
     }
 
     /// Stops unless it is ordered or ranked.
@@ -73,7 +57,7 @@ impl<C: Container> Undoable<C> {
         requires { CanTakeBack self.now.schema (C.shape self.now.rows) (C.plain self.now.rows) self.now.inverses.items }
         ensures { IsSorted (C.shape self.now.rows) index }
     {
-        assert!(rt; is_sorted(&self.schema, index));
+        assert!(rt; kind_at(rt, &self.schema, index).is_sorted());
     }
 
     /// Stops unless it is sequenced.
@@ -81,7 +65,7 @@ impl<C: Container> Undoable<C> {
         requires { CanTakeBack self.now.schema (C.shape self.now.rows) (C.plain self.now.rows) self.now.inverses.items }
         ensures { IsSequenced (C.shape self.now.rows) index }
     {
-        assert!(rt; is_sequenced(&self.schema, index));
+        assert!(rt; kind_at(rt, &self.schema, index).is_sequenced());
     }
 
     /// Stops unless it shows one list.
@@ -89,7 +73,7 @@ impl<C: Container> Undoable<C> {
         requires { CanTakeBack self.now.schema (C.shape self.now.rows) (C.plain self.now.rows) self.now.inverses.items }
         ensures { ShowsOneList (C.shape self.now.rows) index }
     {
-        assert!(rt; is_listed(&self.schema, index));
+        assert!(rt; kind_at(rt, &self.schema, index).shows_one_list());
     }
 
     /// Stops unless a record may be placed there.
@@ -147,7 +131,7 @@ impl<C: Container> Undoable<C> {
     {
         self.inverses.reserve(1)?;
         self.rows.keeps_rules();
-        assert!(rt; self.fits(&row));
+        assert!(rt; self.schema.fits_record(&row));
         self.want_place(rt, before);
         match self.rows.insert(alloc, row, before) {
             Ok((id, inverse)) => {
@@ -165,7 +149,7 @@ impl<C: Container> Undoable<C> {
     {
         self.inverses.reserve(1)?;
         self.rows.keeps_rules();
-        assert!(rt; self.fits(&row));
+        assert!(rt; self.schema.fits_record(&row));
         match self.rows.replace(id, row) {
             Ok(inverse) => {
                 self.inverses.push_back_reserved(inverse);
@@ -189,7 +173,7 @@ impl<C: Container> Undoable<C> {
     {
         self.inverses.reserve(1)?;
         self.rows.keeps_rules();
-        assert!(rt; self.fits_edits(edits));
+        assert!(rt; fits_edits(self.schema.columns(), edits));
         match self.rows.modify(alloc, id, edits, rollback) {
             Ok(inverse) => {
                 let lost = inverse.lost();
@@ -326,17 +310,20 @@ impl<C: Container> Undoable<C> {
         &self,
         rt: &impl Abort,
         alloc: Global,
-        index: usize,
-        reverse: bool,
-        first: u64,
-        limit: usize,
-    ) -> Result<Vec<(u64, &Record)>, AllocError>
+        way: Way,
+    ) -> Result<Rows<'_>, AllocError>
         requires { CanTakeBack self.now.schema (C.shape self.now.rows) (C.plain self.now.rows) self.now.inverses.items }
     {
-        self.want_listed(rt, index);
-        self.want_record(rt, first);
-        self.rows
-            .walk(alloc, index, reverse, first, limit, &mut Steps::new())
+        self.want_listed(rt, way.index);
+        self.want_record(rt, way.first);
+        self.rows.walk(
+            alloc,
+            way.index,
+            way.reverse,
+            way.first,
+            way.limit,
+            &mut Steps::new(),
+        )
     }
 
     pub(super) fn find(&self, rt: &impl Abort, index: usize, key: &[Value]) -> Option<u64>

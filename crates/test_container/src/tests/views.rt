@@ -1,8 +1,9 @@
 //! What a container shows beside what the plain database shows.
 ghost use Rattle.test_container.specs.Undone.{CanTakeBack};
 
+use super::change::Way;
 use super::container::BY_ID;
-use super::fitting::{is_hashed, is_keyed, is_listed, is_sorted};
+use super::fitting::kind_at;
 use super::reference::Reference;
 use super::undoable::Undoable;
 use mi_catalog::Schema;
@@ -107,25 +108,23 @@ fn compare_rows<C: Container>(
     }
 }
 
-/// The rows that an index shows from a record on.
+/// The rows of a walk.
 fn compare_walk<C: Container>(
     rt: &impl Abort,
     alloc: Global,
     undoable: &Undoable<C>,
     reference: &Reference,
-    index: usize,
-    reverse: bool,
-    first: u64,
+    way: Way,
 ) -> Result<(), Fail>
     requires { CanTakeBack undoable.now.schema (C.shape undoable.now.rows) (C.plain undoable.now.rows) undoable.now.inverses.items }
 {
-    let got = undoable.walk(rt, alloc, index, reverse, first, ALL)?;
-    let want = reference.walk(rt, alloc, index, reverse, first, ALL)?;
+    let got = undoable.walk(rt, alloc, way)?;
+    let want = reference.walk(rt, alloc, way)?;
     compare_rows(
         rt,
         undoable,
         reference,
-        index,
+        way.index,
         got.as_slice(),
         want.as_slice(),
     );
@@ -147,8 +146,15 @@ fn compare_list<C: Container>(
     assert_id(rt, first, reference.first(rt, index), index);
     assert_id(rt, last, reference.last(rt, index), index);
     if let (Some(first), Some(last)) = (first, last) {
-        compare_walk(rt, alloc, undoable, reference, index, false, first)?;
-        compare_walk(rt, alloc, undoable, reference, index, true, last)?;
+        for (reverse, first) in [(false, first), (true, last)] {
+            let way = Way {
+                index,
+                reverse,
+                first,
+                limit: ALL,
+            };
+            compare_walk(rt, alloc, undoable, reference, way)?;
+        }
     }
     Ok(())
 }
@@ -244,13 +250,14 @@ fn compare_key<C: Container>(
         reference.count(rt, index, key),
         key,
     );
-    if is_sorted(&undoable.schema, index) {
+    let kind = kind_at(rt, &undoable.schema, index);
+    if kind.is_sorted() {
         compare_prefix(rt, undoable, reference, index, key);
         if let Some((first, _)) = key.split_first() {
             compare_prefix(rt, undoable, reference, index, std::slice::from_ref(first));
         }
     }
-    if is_hashed(&undoable.schema, index) {
+    if kind.is_hashed() {
         compare_bucket(rt, undoable, reference, index, key);
     }
 }
@@ -307,13 +314,14 @@ pub(super) fn compare<C: Container>(
     assert_eq!(rt; undoable.rows.size(), reference.size(rt));
     assert_eq!(rt; undoable.depth(), reference.depth());
     for index in 0..undoable.schema.index_count() {
-        if is_listed(&undoable.schema, index) {
+        let kind = kind_at(rt, &undoable.schema, index);
+        if kind.shows_one_list() {
             compare_list(rt, alloc, undoable, reference, index)?;
         }
-        if is_sorted(&undoable.schema, index) {
+        if kind.is_sorted() {
             compare_ranks(rt, undoable, reference, index);
         }
-        if is_keyed(&undoable.schema, index) {
+        if kind.has_keys() {
             compare_keys(rt, alloc, undoable, reference, index)?;
         }
     }
