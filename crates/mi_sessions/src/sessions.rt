@@ -20,8 +20,8 @@ use std::alloc::Global;
 
 /// Tables under one stack of nested sessions.
 ///
-/// The tables are named by their number in the catalog. A refused call changes nothing. Where a growth is refused a call
-/// that can answer `Memory` does, and nothing has changed. Of the calls that read `walk` alone takes memory.
+/// The tables are named by their number in the catalog. A refused call changes nothing, but for a modify that loses its record
+/// (`Lost`). Where a growth is refused a call that can answer `Memory` does. Of the calls that read `walk` alone takes memory.
 ///
 /// Calls that compare keys count each comparison on `steps`. `bound` says how many one look-up in a table of so many rows
 /// makes at most, if the database promises it.
