@@ -8,3 +8,4 @@ mod journaled;
 mod reference;
 mod undoable;
 mod views;
+mod walks;

@@ -1,8 +1,9 @@
 //! Each call of a container once, and changes taken back: what indexes show is worked out by hand.
 ghost use Rattle.test_container.specs.Undone.{CanTakeBack};
 
-use super::change::{Answer, Way};
+use super::change::Answer;
 use super::undoable::Undoable;
+use super::walks::check_walks;
 use mi_container::Container;
 use mi_multi::MultiIndex;
 use mi_schema::{Schema, read_schema};
@@ -33,7 +34,7 @@ const BY_N: usize = 2;
 
 const BY_F: usize = 3;
 
-const BY_F_S: usize = 4;
+pub(super) const BY_F_S: usize = 4;
 
 const LINE: usize = 5;
 
@@ -86,7 +87,7 @@ fn assert_id(rt: &impl Abort, got: Option<u64>, want: Option<u64>) {
     assert_eq!(rt; got, want);
 }
 
-fn assert_number(rt: &impl Abort, got: u64, want: u64) {
+pub(super) fn assert_number(rt: &impl Abort, got: u64, want: u64) {
     assert_eq!(rt; got, want);
 }
 
@@ -486,71 +487,6 @@ fn check_ends<C: Container>(rt: &impl Abort, undoable: &Undoable<C>)
             Some(want.before_one),
         );
     }
-}
-
-/// A walk, and its records by their ids and `k`.
-struct Walk {
-    way: Way,
-    rows: &'static [(u64, i64)],
-}
-
-const WALKS: [Walk; 3] = [
-    Walk {
-        way: Way {
-            index: BY_F_S,
-            reverse: false,
-            first: 3,
-            limit: 2,
-        },
-        rows: &[(3, 13), (0, 10)],
-    },
-    Walk {
-        way: Way {
-            index: BY_F_S,
-            reverse: false,
-            first: 2,
-            limit: 0,
-        },
-        rows: &[],
-    },
-    Walk {
-        way: Way {
-            index: BY_F_S,
-            reverse: true,
-            first: 0,
-            limit: 9,
-        },
-        rows: &[(0, 10), (3, 13), (2, 12)],
-    },
-];
-
-/// Asserts the id of a row, and its `k`.
-fn assert_row(rt: &impl Abort, id: u64, row: &Record, want: u64, k: i64) {
-    assert_number(rt, id, want);
-    assert!(rt; row.get(0) == Some(ValueRef::Int(k)));
-}
-
-/// Asserts which rows are walked.
-fn assert_rows(rt: &impl Abort, rows: &[(u64, &Record)], want: &[(u64, i64)]) {
-    assert_number(rt, rows.len() as u64, want.len() as u64);
-    for ((id, row), (want, k)) in rows.iter().zip(want.iter()) {
-        assert_row(rt, *id, row, *want, *k);
-    }
-}
-
-/// Walks both ways.
-fn check_walks<C: Container>(
-    rt: &impl Abort,
-    alloc: Global,
-    undoable: &Undoable<C>,
-) -> Result<(), Fail>
-    requires { CanTakeBack undoable.now.schema (C.shape undoable.now.rows) (C.plain undoable.now.rows) undoable.now.inverses.items }
-{
-    for want in &WALKS {
-        let rows = undoable.walk(rt, alloc, want.way)?;
-        assert_rows(rt, rows.as_slice(), want.rows);
-    }
-    Ok(())
 }
 
 const FLAGGED: Views = Views {
