@@ -44,18 +44,29 @@ impl<D: Sessions + Drop> Executor<D> {
     ghost use Rattle.mi_commands.specs.Answer.{command_of, done_without, TakesNone, GivenOrMemory, MayGive};
     ghost use Rattle.mi_commands.specs.Asked.{text, asked_of};
 
-    /// A database that nobody holds sessions of. The labels of its rows are made here; where memory for them is refused it has none, and
-    /// rows are written without.
+    /// A database that nobody holds sessions of. It takes no memory; until `make_labels` has made labels, rows are written without.
     pub fn new(alloc: Global, database: D) -> Executor<D>
         ensures { result ≡ record { database = D.state database; holder = None } }
     {
-        let labels = ReplyLabels::of(alloc, database.catalog());
         Executor {
             database,
             holder: None,
             alloc,
             lines: LineReader::new(alloc),
-            labels,
+            labels: ReplyLabels::none(alloc),
+        }
+    }
+
+    /// Makes the labels of the rows that are shown, if there are none yet: they save time, and no answer depends on them. Where memory
+    /// for them is refused there are none still.
+    pub fn make_labels(&mut self)
+        ensures { self.new ≡ self.old }
+    {
+        if !self.labels.is_empty() {
+            return;
+        }
+        if let Ok(labels) = ReplyLabels::of(self.alloc, self.database.catalog()) {
+            self.labels = labels;
         }
     }
 

@@ -57,8 +57,10 @@ impl Engine {
     {
         let catalog = described(alloc, schema)?;
         let database = Linked::<MultiIndex>::new(alloc, catalog, secret)?;
+        let mut executor = Executor::new(alloc, database);
+        executor.make_labels();
         Ok(Engine {
-            executor: Executor::new(alloc, database),
+            executor,
             reply: ReplyText::Short(ArrayVec::new()),
             alloc,
         })

@@ -54,7 +54,7 @@ impl<D: Sessions + Drop> Model for Hub<D> {
 }
 
 impl<D: Sessions + Drop> Hub<D> {
-    /// A hub over this database, whose open sessions nobody holds, with no connection.
+    /// A hub over this database, whose open sessions nobody holds, with no connection. It takes no memory.
     pub fn new(alloc: Global, database: D) -> Hub<D>
         ensures { result ≡ record { held = record { database = D.state database; holder = None }; attached = [] } }
     {
@@ -81,7 +81,8 @@ impl<D: Sessions + Drop> Hub<D> {
         self.executor.holder()
     }
 
-    /// A connection comes, with no bytes. The whole room of its longest line is taken here.
+    /// A connection comes, with no bytes. The whole room of its longest line is taken here, and what rows are shown by, if it isn't there
+    /// yet; without that rows are shown all the same.
     ///
     /// Refusals, in this order, each of which changes nothing: `AlreadyAttached`, `TooMany`, `Memory`.
     pub fn attach(&mut self, conn: u64) -> Result<(), HubFault>
@@ -102,7 +103,10 @@ impl<D: Sessions + Drop> Hub<D> {
             return Err(HubFault::Memory);
         };
         match self.connections.push(Connection { id: conn, rest }) {
-            Ok(()) => Ok(()),
+            Ok(()) => {
+                self.executor.make_labels();
+                Ok(())
+            }
             Err(_) => Err(HubFault::Memory),
         }
     }

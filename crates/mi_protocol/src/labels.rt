@@ -22,7 +22,7 @@ impl Model for ReplyLabels {
     ghost view = { λ a. a.tables.items };
 }
 
-/// The labels of a catalog's tables.
+/// The labels of the tables of a catalog.
 fn labels_of(alloc: Global, catalog: &Catalog) -> Result<Vec<RowLabels>, AllocError>
     ensures { IfOk result (λ labels. labels.items ≡ map (λ s. s.columns) catalog.now.tables) }
 {
@@ -37,18 +37,32 @@ fn labels_of(alloc: Global, catalog: &Catalog) -> Result<Vec<RowLabels>, AllocEr
 }
 
 impl ReplyLabels {
-    ghost use Rattle.std.specs.Prelude.{◌≡◌, ◌⊎◌, [], map, IfSome};
+    ghost use Rattle.std.specs.Prelude.{◌≡◌, ◌↔◌, [], true, map, IfOk, IfSome};
 
-    /// The labels of a catalog's tables; of none where memory for them is refused.
-    pub fn of(alloc: Global, catalog: &Catalog) -> ReplyLabels
-        ensures { (result ≡ map (λ s. s.columns) catalog.now.tables) ⊎ (result ≡ []) }
+    /// The labels of no table. It takes no memory.
+    pub fn none(alloc: Global) -> ReplyLabels
+        ensures { result ≡ [] }
     {
-        match labels_of(alloc, catalog) {
-            Ok(tables) => ReplyLabels { tables },
-            Err(_refused) => ReplyLabels {
-                tables: Vec::new(alloc),
-            },
+        ReplyLabels {
+            tables: Vec::new(alloc),
         }
+    }
+
+    /// The labels of a catalog's tables.
+    ///
+    /// It errs where memory is refused.
+    pub fn of(alloc: Global, catalog: &Catalog) -> Result<ReplyLabels, AllocError>
+        ensures { IfOk result (λ labels. labels ≡ map (λ s. s.columns) catalog.now.tables) }
+    {
+        let tables = labels_of(alloc, catalog)?;
+        Ok(ReplyLabels { tables })
+    }
+
+    /// Whether they are of no table.
+    pub fn is_empty(&self) -> bool
+        ensures { (result ≡ true) ↔ (self.now ≡ []) }
+    {
+        self.tables.is_empty()
     }
 
     /// The labels of a table's rows, if they were made of these columns.

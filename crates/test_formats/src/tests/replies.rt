@@ -64,7 +64,7 @@ fn assert_text(rt: &impl Abort, alloc: Global, catalog: &Catalog, given: &Reply<
     assert!(rt; is_said(catalog, given), "{want}");
     let text = given.text(alloc, catalog).expect(rt, "memory is there");
     assert_eq!(rt; text.as_slice(), want.as_bytes(), "{want}");
-    let labels = ReplyLabels::of(alloc, catalog);
+    let labels = ReplyLabels::of(alloc, catalog).expect(rt, "memory is there");
     let text = given.text_with(alloc, catalog, &labels);
     let text = text.expect(rt, "memory is there");
     assert_eq!(rt; text.as_slice(), want.as_bytes(), "{want}");

@@ -5,7 +5,7 @@ use Rattle.mi_hub.proofs.HolderLemmas.{pushed_holder}
 use Rattle.mi_hub.proofs.hub.Hub.attach.Goals as goal
 
 pub invariant_of-self : goal.invariant_of-self
-invariant_of-self g c = pushed_holder _ _ _ _ _ c.push.ensures.items c.self.invariant
+invariant_of-self g c = rw c.make_labels.ensures (pushed_holder _ _ _ _ _ c.push.ensures.items c.self.invariant)
 
 pub returns-then-is_some-clause-already : goal.returns-then-is_some-clause-already
 returns-then-is_some-clause-already g c =
