@@ -1,5 +1,5 @@
 -- What changes, taking back and settling leave of a container and the journal of its changes.
-use Rattle.std.proofs.Common.{◌≡◌, ℕ, ◌<◌, Some, None, List, [], ◌∷◌, ◌++◌, map, length, refl, ap, sym, ◌∙◌, subst, arith}
+use Rattle.std.proofs.Common.{◌≡◌, ℕ, ◌<◌, Option, Some, None, List, [], ◌∷◌, ◌++◌, map, length, refl, ap, sym, ◌∙◌, subst, arith}
 use Rattle.std.proofs.lemmas.List.{append_assoc, append-nil, map-append}
 use Rattle.mi_catalog.specs.Shape.{Shape}
 use Rattle.mi_model.specs.Table.{Table}
@@ -102,3 +102,14 @@ pub oldest_settled : (schema shape shape' : Shape) (d d' : Data) (e : ℕ × Inv
 oldest_settled schema shape shape' d d' e s s' good takes same settles holds =
     let rest = oldest schema shape d e s s' good takes holds in
     stays schema shape shape' (settled e.1 d) d' s' s' same settles refl (holds.0, rest.1, rest.2)
+
+-- The oldest session ends, which has no change
+
+pub oldest_ended : (schema shape : Shape) (d : Data) (s s' : Sessions) → s ≡ s' ++ [] ∷ [] → CanGoBack schema shape d s → CanGoBack schema shape d s'
+oldest_ended schema shape d s s' is holds =
+    let same : inverses_of s ≡ inverses_of s' = ap inverses_of is ∙ inverses_push s' [] ∙ append-nil (inverses_of s') in
+    (holds.0, holds.1, subst (λ js. Fits shape js holds.1 d) same holds.2)
+
+pub none_taken : (o : Option (ℕ × Inverse)) (s s' : Sessions) → o ≡ None → TakesOldest o s s' → s' ≡ s
+none_taken None s s' is takes = takes.0
+none_taken (Some e) s s' is takes = absurd (none_some (sym is))

@@ -6,7 +6,7 @@ use super::undoable::Undoable;
 use super::walks::check_walks;
 use mi_container::Container;
 use mi_multi::MultiIndex;
-use mi_schema::{Schema, read_schema};
+use mi_schema::{Schema, built_in, read_schema};
 use mi_value::{Record, Refusal, Steps, Value, ValueRef};
 use std::alloc::Global;
 use std::process::Abort;
@@ -716,33 +716,53 @@ fn each_call_of_the_container(rt: HostRuntime) -> Result<(), Fail> {
     check_each_call(&rt, alloc, &mut undoable)
 }
 
-const FIRST: Row = Row {
-    id: 0,
-    k: 1,
-    s: "a",
-    f: false,
-    n: 1,
-    before: None,
-};
+/// The column of an account's balance.
+const BALANCE: usize = 1;
+
+/// Adds the account of a, whose id is to be 0.
+fn add_account<C: Container>(rt: &impl Abort, alloc: Global, undoable: &mut Undoable<C>)
+    requires { CanTakeBack undoable.old.schema (C.shape undoable.old.rows) (C.plain undoable.old.rows) undoable.old.inverses.items }
+    ensures { CanTakeBack undoable.new.schema (C.shape undoable.new.rows) (C.plain undoable.new.rows) undoable.new.inverses.items }
+{
+    let values = [ValueRef::Text("a"), ValueRef::Int(1), ValueRef::Flag(false)];
+    let row = Record::new(alloc, &values).expect(rt, "memory is there");
+    assert_answer(rt, undoable.insert(rt, alloc, row, None), Ok(Some(0)));
+}
+
+/// Whether a record is the account of a with this balance.
+fn is_account(row: &Record, balance: i64) -> bool {
+    row.column_count() == 3
+        && row.get(0) == Some(ValueRef::Text("a"))
+        && row.get(BALANCE) == Some(ValueRef::Int(balance))
+        && row.get(2) == Some(ValueRef::Flag(false))
+}
+
+/// Whether the record of id 0 is that account.
+fn has_account<C: Container>(undoable: &Undoable<C>, balance: i64) -> bool {
+    match undoable.rows.get(0, &mut Steps::new()) {
+        Some(row) => is_account(row, balance),
+        None => false,
+    }
+}
 
 fn check_reuse<C: Container>(rt: &impl Abort, alloc: Global, undoable: &mut Undoable<C>)
     requires { CanTakeBack undoable.old.schema (C.shape undoable.old.rows) (C.plain undoable.old.rows) undoable.old.inverses.items }
 {
-    add(rt, alloc, undoable, &FIRST);
-    assert_answer(rt, undoable.add(rt, alloc, 0, N, 4, false), Ok(None));
-    assert!(rt; shows(undoable, 0, 1, "a", false, 5));
+    add_account(rt, alloc, undoable);
+    assert_answer(rt, undoable.add(rt, alloc, 0, BALANCE, 4, false), Ok(None));
+    assert!(rt; has_account(undoable, 5));
     assert!(rt; undoable.unwind());
-    assert!(rt; shows(undoable, 0, 1, "a", false, 1));
+    assert!(rt; has_account(undoable, 1));
     assert!(rt; undoable.unwind());
     assert!(rt; !undoable.has(0));
-    add(rt, alloc, undoable, &FIRST);
+    add_account(rt, alloc, undoable);
 }
 
-/// An insert and a modify, both taken back: the id is used again.
+/// Accounts: an insert and a modify, both taken back. The id is used again.
 #[test]
 fn an_id_is_used_again(rt: HostRuntime) -> Result<(), Fail> {
     let alloc = rt.alloc();
-    let mut undoable = Undoable::<MultiIndex>::open(alloc, schema(alloc)?)?;
+    let mut undoable = Undoable::<MultiIndex>::open(alloc, built_in(alloc)?)?;
     check_reuse(&rt, alloc, &mut undoable);
     Ok(())
 }

@@ -43,6 +43,16 @@ impl<C: Container> Journaled<C> {
         })
     }
 
+    /// Makes room for two changes and two sessions.
+    fn make_room(&mut self, rt: &impl Abort)
+        requires { CanGoBack self.old.schema (C.shape self.old.rows) (C.plain self.old.rows) self.old.journal.sessions }
+        ensures { CanGoBack self.new.schema (C.shape self.new.rows) (C.plain self.new.rows) self.new.journal.sessions }
+    {
+        self.journal.reserve(2, 2).expect(rt, "memory is there");
+        let (changes, sessions) = self.journal.room();
+        assert!(rt; changes >= 2 && sessions >= 2);
+    }
+
     /// Opens a session.
     fn start(&mut self, rt: &impl Abort)
         requires { CanGoBack self.old.schema (C.shape self.old.rows) (C.plain self.old.rows) self.old.journal.sessions }
@@ -129,6 +139,25 @@ impl<C: Container> Journaled<C> {
             None => None,
         }
     }
+
+    /// Ends the oldest session, whose changes are all settled.
+    fn end_oldest(&mut self, rt: &impl Abort)
+        requires { CanGoBack self.old.schema (C.shape self.old.rows) (C.plain self.old.rows) self.old.journal.sessions }
+        ensures { CanGoBack self.new.schema (C.shape self.new.rows) (C.plain self.new.rows) self.new.journal.sessions }
+    {
+        assert!(rt; self.journal.depth() > 0);
+        assert!(rt; self.journal.take_oldest().is_none());
+        self.journal.end_oldest();
+    }
+
+    /// Ends the newest session, whose changes are all taken back.
+    fn end_newest(&mut self, rt: &impl Abort)
+        requires { CanGoBack self.old.schema (C.shape self.old.rows) (C.plain self.old.rows) self.old.journal.sessions }
+    {
+        assert!(rt; self.journal.depth() > 0);
+        assert!(rt; self.journal.pop().is_none());
+        self.journal.end_session();
+    }
 }
 
 fn schema(alloc: Global) -> Result<Schema, Fail> {
@@ -164,21 +193,39 @@ fn assert_number<C: Container>(rt: &impl Abort, kept: &Journaled<C>, id: u64, wa
     assert_eq!(rt; got, want);
 }
 
-/// Two numbers in one session, and in a second one the other number is set to the first one and lost. The sessions join.
-fn lose_one<C: Container>(rt: &impl Abort, alloc: Global, kept: &mut Journaled<C>)
+/// Asserts how many sessions are open.
+fn assert_depth<C: Container>(rt: &impl Abort, kept: &Journaled<C>, want: usize) {
+    assert_eq!(rt; kept.journal.depth(), want);
+}
+
+/// Adds a number for good.
+fn keep_one<C: Container>(rt: &impl Abort, alloc: Global, kept: &mut Journaled<C>)
     requires { CanGoBack kept.old.schema (C.shape kept.old.rows) (C.plain kept.old.rows) kept.old.journal.sessions }
     ensures { CanGoBack kept.new.schema (C.shape kept.new.rows) (C.plain kept.new.rows) kept.new.journal.sessions }
 {
     kept.start(rt);
     add(rt, alloc, kept, 7, 0);
+    assert_eq!(rt; kept.settle(), Some((0, None)));
+    kept.end_oldest(rt);
+    kept.make_room(rt);
+}
+
+/// Another number in one session, and in a second one it is set to the first and lost. The sessions join.
+fn lose_one<C: Container>(rt: &impl Abort, alloc: Global, kept: &mut Journaled<C>)
+    requires { CanGoBack kept.old.schema (C.shape kept.old.rows) (C.plain kept.old.rows) kept.old.journal.sessions }
+    ensures { CanGoBack kept.new.schema (C.shape kept.new.rows) (C.plain kept.new.rows) kept.new.journal.sessions }
+{
+    keep_one(rt, alloc, kept);
+    kept.start(rt);
     add(rt, alloc, kept, 8, 1);
     kept.start(rt);
     assert!(rt; kept.modify(rt, alloc, 1, &[Edit::Put(0, Value::Int(7))]));
     assert_number(rt, kept, 1, None);
     kept.squash(rt);
+    assert_depth(rt, kept, 1);
 }
 
-/// The change that lost its record comes back first, and then the two that added one.
+/// The change that lost its record comes back first, and then the one that added it.
 #[test]
 fn inverses_come_back_from_the_newest(rt: HostRuntime) -> Result<(), Fail> {
     let alloc = rt.alloc();
@@ -188,22 +235,24 @@ fn inverses_come_back_from_the_newest(rt: HostRuntime) -> Result<(), Fail> {
     assert_number(&rt, &kept, 1, Some(8));
     assert_eq!(&rt; kept.back(), Some((0, None)));
     assert_number(&rt, &kept, 1, None);
-    assert_eq!(&rt; kept.back(), Some((0, None)));
     assert_eq!(&rt; kept.back(), None);
-    assert_eq!(&rt; kept.rows.size(), 0);
+    kept.end_newest(&rt);
+    assert_depth(&rt, &kept, 0);
+    assert_eq!(&rt; kept.rows.size(), 1);
     Ok(())
 }
 
-/// The two that added a record are settled first, and then the one that lost its record, whose node is freed.
+/// The one that added the record is settled first, and then the one that lost it, whose node is freed.
 #[test]
 fn inverses_are_settled_from_the_oldest(rt: HostRuntime) -> Result<(), Fail> {
     let alloc = rt.alloc();
     let mut kept: Journaled<MultiIndex> = Journaled::open(alloc, schema(alloc)?)?;
     lose_one(&rt, alloc, &mut kept);
     assert_eq!(&rt; kept.settle(), Some((0, None)));
-    assert_eq!(&rt; kept.settle(), Some((0, None)));
     assert_eq!(&rt; kept.settle(), Some((0, Some((BY_N, 0)))));
     assert_eq!(&rt; kept.settle(), None);
+    kept.end_oldest(&rt);
+    assert_depth(&rt, &kept, 0);
     assert_number(&rt, &kept, 0, Some(7));
     assert_eq!(&rt; kept.rows.size(), 1);
     Ok(())

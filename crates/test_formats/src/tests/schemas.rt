@@ -3,6 +3,7 @@
 //! A table of documents has the word of the fault, or `ok`, behind a mark, and from the next line on the document. Those that differ
 //! in one place only are rows of a frame.
 use mi_schema::{Catalog, Schema, SchemaFault, built_in, read_catalog, read_schema};
+use mi_value::{Key, Record, Value, ValueRef};
 use std::alloc::{AllocError, Global};
 use std::process::Abort;
 use std::test::Fail;
@@ -115,8 +116,11 @@ format = 2
 [[table]]
 name = "a"
 column = [{name = "k", type = "int"}]
+index = [{name = "u", kind = "ordered", unique = true, key = ["k"]}]
 [[table]]
 name = "a"
+first_id = 10
+max_rows = 1
 column = [{name = "t", type = "text"}]
 === shape
 format = 2
@@ -296,20 +300,85 @@ fn assert_same_indexes(rt: &impl Abort, a: &Schema, b: &Schema) {
     }
 }
 
+/// What schemas are asked whether it fits them: records, and keys.
+#[derive(Drop)]
+struct Asked {
+    records: Vec<Record>,
+    keys: Vec<Key>,
+}
+
+/// Of each type a value.
+const VALUES: [ValueRef<'static>; 3] = [
+    ValueRef::Text("a"),
+    ValueRef::Int(1),
+    ValueRef::Flag(true),
+];
+
+/// From which value and to before which one those are that a record and a key are made of.
+const PARTS: [(usize, usize); 6] = [(0, 0), (0, 1), (1, 2), (2, 3), (1, 3), (0, 3)];
+
+/// A key of these values.
+fn key_of(alloc: Global, values: &[ValueRef<'static>]) -> Result<Key, AllocError> {
+    let mut key = Vec::new(alloc);
+    for value in values {
+        key.push(value.to_value(alloc)?)?;
+    }
+    Ok(Key::new(key))
+}
+
+/// A record and a key of each part of the values.
+fn asked_of_parts(alloc: Global) -> Result<Asked, AllocError> {
+    let mut asked = Asked {
+        records: Vec::new(alloc),
+        keys: Vec::new(alloc),
+    };
+    for (from, to) in PARTS {
+        let part = VALUES.get(from..to).unwrap_or(&VALUES);
+        asked.records.push(Record::new(alloc, part)?)?;
+        asked.keys.push(key_of(alloc, part)?)?;
+    }
+    Ok(asked)
+}
+
+/// Whether a key fits the same index of both schemas, or of neither, as a whole one and as the first values of one.
+fn same_fit(a: &Schema, b: &Schema, i: usize, key: &[Value]) -> bool {
+    i < a.index_count()
+        && i < b.index_count()
+        && a.fits_key(i, key, true) == b.fits_key(i, key, true)
+        && a.fits_key(i, key, false) == b.fits_key(i, key, false)
+}
+
+fn assert_same_keys(rt: &impl Abort, a: &Schema, b: &Schema, keys: &[Key]) {
+    for i in 0..a.index_count() {
+        for key in keys {
+            assert!(rt; same_fit(a, b, i, key.values()), "a key of index {i}");
+        }
+    }
+}
+
+fn assert_same_fits(rt: &impl Abort, alloc: Global, a: &Schema, b: &Schema) {
+    let asked = asked_of_parts(alloc).expect(rt, "memory is there");
+    for record in asked.records.as_slice() {
+        assert!(rt; a.fits_record(record) == b.fits_record(record), "a record");
+    }
+    assert_same_keys(rt, a, b, asked.keys.as_slice());
+}
+
 /// Asserts that two schemas are equal in every reader.
-fn assert_same_schema(rt: &impl Abort, a: &Schema, b: &Schema) {
+fn assert_same_schema(rt: &impl Abort, alloc: Global, a: &Schema, b: &Schema) {
     assert_eq!(rt; a.table_name(), b.table_name());
     assert_same_columns(rt, a, b);
     assert_same_indexes(rt, a, b);
     assert!(rt; same_numbers(a, b), "numbers");
+    assert_same_fits(rt, alloc, a, b);
 }
 
 /// Asserts that two catalogs are equal in every reader.
-fn assert_same_catalog(rt: &impl Abort, a: &Catalog, b: &Catalog) {
+fn assert_same_catalog(rt: &impl Abort, alloc: Global, a: &Catalog, b: &Catalog) {
     assert_eq!(rt; a.first_revision(), b.first_revision());
     assert_eq!(rt; a.table_count(), b.table_count());
     for i in 0..a.table_count() {
-        assert_same_schema(rt, a.table(i), b.table(i));
+        assert_same_schema(rt, alloc, a.table(i), b.table(i));
         assert_eq!(rt; b.find_table(a.table(i).table_name()), Some(i));
     }
 }
@@ -320,7 +389,7 @@ fn many_indexes(alloc: Global, n: usize) -> Result<String, AllocError> {
         alloc,
         "table = \"t\"\ncolumn = [{name = \"a\", type = \"int\"}]\n",
     )?;
-    for i in 0..n {
+    for i in 1..=n {
         let index = format!(in alloc; "[[index]]\nname = \"i{i}\"\nkind = \"sequenced\"\n")?;
         text.push_str(index.as_str())?;
     }
@@ -365,7 +434,8 @@ fn faults_are_shown(rt: HostRuntime) -> Result<(), Fail> {
 fn accounts_are_built_in(rt: HostRuntime) -> Result<(), Fail> {
     let alloc = rt.alloc();
     let read = schema_of(alloc, ACCOUNTS)?;
-    assert_same_schema(&rt, &read, &built_in(alloc)?);
+    assert_same_schema(&rt, alloc, &read, &built_in(alloc)?);
+    assert_same_schema(&rt, alloc, &read.copy(alloc)?, &read);
     Ok(())
 }
 
@@ -392,7 +462,7 @@ fn catalogs_are_copied(rt: HostRuntime) -> Result<(), Fail> {
     let alloc = rt.alloc();
     let two = catalog_of(alloc, TWO)?;
     assert!(rt; has_second_table(&two));
-    assert_same_catalog(&rt, &two.copy(alloc)?, &two);
+    assert_same_catalog(&rt, alloc, &two.copy(alloc)?, &two);
     Ok(())
 }
 
@@ -402,6 +472,6 @@ fn accounts_are_a_catalog(rt: HostRuntime) -> Result<(), Fail> {
     let accounts = Catalog::of(alloc, built_in(alloc)?)?;
     let first = accounts_in_format(alloc, 1)?;
     let read = catalog_of(alloc, first.as_str())?;
-    assert_same_catalog(&rt, &accounts, &read);
+    assert_same_catalog(&rt, alloc, &accounts, &read);
     Ok(())
 }

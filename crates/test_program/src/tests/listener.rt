@@ -36,6 +36,14 @@ fn first_owner<D: Sessions>(database: &D) -> Option<&str> {
     }
 }
 
+/// How many records the first table has.
+fn size<D: Sessions>(database: &D) -> u64 {
+    if database.catalog().table_count() == 0 {
+        return 0;
+    }
+    database.size(0)
+}
+
 /// A port of the loopback interface that the system chooses.
 fn listen<N: Net<Listener = TcpListener, Stream = TcpStream>>(net: &N) -> io::Result<TcpListener> {
     TcpListener::bind(net, (Ipv4Addr::LOCALHOST, 0))
@@ -77,7 +85,7 @@ fn serve_two<D: Opens>(alloc: Global, hub: &mut Hub<D>, listener: &TcpListener) 
     }
 }
 
-/// What two clients send and are answered, and the owner of id 0 afterwards.
+/// What two clients send and are answered, and the owner of id 0 afterwards, where there is one record then, and else none.
 struct Row {
     sent: [&'static [u8]; 2],
     want: [&'static [u8]; 2],
@@ -96,9 +104,10 @@ fn assert_replies(
     Ok(())
 }
 
-/// Asserts the owner of id 0, and that no session is open.
+/// Asserts the owner of id 0, that there is no other record, and that no session is open.
 fn assert_ended<D: Sessions>(rt: &impl Abort, database: &D, owner: Option<&str>) {
     assert_eq!(rt; first_owner(database), owner);
+    assert_eq!(rt; size(database), u64::from(owner.is_some()));
     assert_idle(rt, database);
 }
 

@@ -255,28 +255,36 @@ const WAYS: [Breaking; 8] = [
 ];
 
 /// Devices that give or take much a call.
-const LARGE: [Breaking; 3] = [
+const LARGE: [Breaking; 4] = [
     Breaking::Read(4096),
     Breaking::Write(4096, Full::Fails),
+    Breaking::Write(4096, Full::TakesNone),
     Breaking::Flush(4096),
 ];
+
+/// A writer that takes a byte a call.
+const BY_BYTE: [Breaking; 1] = [Breaking::Write(1, Full::Fails)];
 
 /// Devices of every size a call, on the rows that are written down and on one with many records; and large ones on long rows.
 fn check_devices(rt: &impl Abort, alloc: Global, form: Form) -> Result<(), Fail> {
     let mut rows = scripts(alloc)?;
-    rows.push(many_records(alloc, 5)?)?;
+    rows.push(many_records(alloc, 50)?)?;
     let faults = check_rows(rt, alloc, form, rows.as_slice(), &WAYS)?;
-    assert!(rt; faults > 22_000, "{faults} faults");
+    assert!(rt; faults > 26_000, "{faults} faults");
     check_long(rt, alloc, form)
 }
 
-/// Large devices on long rows.
+/// Large devices on long rows, and on the one with short replies a writer that takes a byte a call.
 fn check_long(rt: &impl Abort, alloc: Global, form: Form) -> Result<(), Fail> {
     let mut rows = Vec::new(alloc);
-    rows.push(deep_sessions(alloc)?)?;
     rows.push(odd_lines(alloc)?)?;
+    let bytes = check_rows(rt, alloc, form, rows.as_slice(), &BY_BYTE)?;
+    rows.push(deep_sessions(alloc)?)?;
     let faults = check_rows(rt, alloc, form, rows.as_slice(), &LARGE)?;
-    assert!(rt; faults > 1_000, "{faults} faults of long rows");
+    assert!(rt;
+        bytes >= 200 && faults > 2_000,
+        "{bytes} and {faults} faults of long rows"
+    );
     Ok(())
 }
 

@@ -1,7 +1,7 @@
 //! Texts with places for other texts.
 use std::alloc::{AllocError, Global};
 
-/// A form with a table for `$t` and a value for `$i` or another letter, and a newline.
+/// A form with a text for `$t`, mostly a table, a value for `$i` or another letter, and a newline.
 pub(super) fn filled(
     alloc: Global,
     form: &str,

@@ -3,7 +3,7 @@ use super::forms::filled;
 use super::script::Script;
 use std::alloc::{AllocError, Global};
 
-/// Has a script do what a form says, once with each number from one to before another.
+/// Has a script do what a form says, once with each number from one to before another, and `$t` for how many came before it.
 fn read_each(
     script: &mut Script,
     alloc: Global,
@@ -12,8 +12,9 @@ fn read_each(
     to: u64,
 ) -> Result<(), AllocError> {
     for n in from..to {
+        let before = format!(in alloc; "{}", n.saturating_sub(from))?;
         let number = format!(in alloc; "{n}")?;
-        let text = filled(alloc, form, "", number.as_str())?;
+        let text = filled(alloc, form, before.as_str(), number.as_str())?;
         script.read_all(alloc, text.as_str())?;
     }
     Ok(())
@@ -28,7 +29,7 @@ const FIRST: &str = r#"1 {"cmd":"insert","row":{"owner":"a","balance":1,"vip":tr
 = {"ok":true,"revision":1}"#;
 
 /// One more record of the key.
-const INSERT: &str = r#"1 {"cmd":"insert","row":{"owner":"k$n","balance":1,"vip":true}}
+const INSERT: &str = r#"1 {"cmd":"insert","row":{"owner":"k$t","balance":1,"vip":true}}
 = {"id":$n,"ok":true}"#;
 
 /// How many records the key has.

@@ -1,10 +1,14 @@
 //! The answers of a small tree, and how many comparisons look-ups really make.
 use std::cell::Cell;
+use std::mem::size_of;
 use std::process::Abort;
+use std::test::Fail;
 
 mod stock;
 
+use mi_node::{Counted, Pool};
 use mi_tree::Direction;
+use mi_value::Steps;
 use stock::Stock;
 
 /// Asserts the ids in order.
@@ -186,6 +190,17 @@ fn look_ups_make_few_calls(rt: HostRuntime) {
             look_up_all(&rt, &stock, &calls, most);
         }
     }
+}
+
+/// What counts steps, and reads of a pool, for contracts takes no bytes when the program runs.
+#[test]
+fn counts_take_no_bytes(rt: HostRuntime) -> Result<(), Fail> {
+    assert_eq!(&rt; size_of::<Steps>(), 0);
+    assert_eq!(&rt;
+        size_of::<Counted<'static, u64>>(),
+        size_of::<&'static Pool<u64>>()
+    );
+    Ok(())
 }
 
 /// Of 1023 nodes in order the left edge of their tree stays: ten nodes, which are low again.
