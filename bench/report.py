@@ -87,7 +87,7 @@ def markdown(about, tables):
         " systems are asked in turn. More than 1 means that Weltiyo is faster. All replies were compared and are the same bytes; those of Redis are"
         " put together from its own first.",
         "",
-        "To repeat: `make bench`, or that command (the packages: `apt-get install g++ libboost-dev libsimdjson-dev libsqlite3-dev redis-server`).",
+        "To repeat: that command (`make bench` alone takes the wall clock and a limit of 60 s; the packages: `apt-get install g++ libboost-dev libsimdjson-dev libsqlite3-dev redis-server`).",
         "",
         "![lines a second](speed.svg)",
         "",

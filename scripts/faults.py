@@ -17,7 +17,7 @@ asked the lines that weren't answered `memory`. Those must have met a refusal: i
 `fault_blocks.py` has what is promised without memory: a block behind a reserve, by lines and by calls, the undo line, and a cut.
 
 `refuse_memory.c` says which requests are the program's own; the C library's are never refused. The program is the proved one where it
-is up to date, else the one compiled without proofs. --short is what the gate runs: of each row the requests behind its start, those
+is up to date, else the one compiled without proofs. --short is what `.ci/run` runs: of each row the requests behind its start, those
 of the start once, the blocks, and no server under a limit. --row takes the rows whose names have these words, --way one of the three;
 --rounds is how often the limited server is filled and undone; --jobs is how many rows are run side by side, as many as there are
 processors if left out. The last line is 'N runs, .. D differences'."""

@@ -1,9 +1,10 @@
 #!/usr/bin/env python3
-"""Faults that are put into copies of the members' program, each of which `replica_test.py` must find: so it is seen that it would.
+"""Faults that are put into copies of the members' program, and whether `replica_test.py` finds each. Of these five two were found:
+docs/REPLICATION.md says which, and what came of the others.
 
     replica_faults.py --program FILE [NAME ..]
 
-The last line is 'N found, M not'."""
+The last line is 'N found, M not'; the status is 0 where all are found."""
 import argparse
 import shutil
 import subprocess
