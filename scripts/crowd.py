@@ -1,7 +1,7 @@
 #!/usr/bin/env python3
 """A service with all its places taken by clients that come and go, most of which say nothing or don't read.
 
-    crowd.py [--part comers|deaf|place] [--connections N] [--short] [--seed N] [--program FILE]
+    crowd.py [--part comers|deaf|slow|place] [--connections N] [--short] [--seed N] [--program FILE]
 
 Without --part all run, one behind another.
 
@@ -10,15 +10,22 @@ Without --part all run, one behind another.
              (`journal_walk.py`), and the server's memory must end where it began
     deaf     one client asks pages of a megabyte without reading: the median wait of the others is at most 1.5 of what it is without that
              client, and the server's memory rises by no more than the bound of what is unsent, one page, and some
+    slow     one client asks ahead over a slow line (root makes it: a network of its own, whose sockets keep little) and reads bit by bit, so
+             that something is always unsent: each reply comes whole, and the server's memory rises by no more than that, however much was sent
     place    64 silent clients are attached; the 65th and others wait, and are served as places become free
 
-Where nobody asks, the server takes no processor time, in the last two."""
+Where nobody asks, the server takes no processor time, in `deaf` and `place`."""
 import contextlib
+import ctypes
+import fcntl
 import random
 import socket
 import statistics
+import struct
 import sys
+import threading
 import time
+from concurrent.futures import ProcessPoolExecutor
 
 import parts
 import service
@@ -150,6 +157,12 @@ def median_waits(running, streams, rounds, count):
     return statistics.median(without), statistics.median(beside), rise
 
 
+def most_rise(page):
+    """What one client's replies may take in all, in kB: what is unsent, one reply that is being made, which may have room for twice as much, and
+    what is read at once."""
+    return (65_536 + 3 * page) // 1024 + 4_000
+
+
 def deaf(path, options, folder):
     rounds, count = (2, 200) if options.short else (10, 1000)
     with Service(path) as running, contextlib.ExitStack() as opened:
@@ -167,13 +180,68 @@ def deaf(path, options, folder):
         except socket.timeout:
             raise Differs(f"the others weren't answered within {STILL} s, beside a client that never reads") from None
     said = f"the others wait {1e6 * without:.0f} µs without and {1e6 * beside:.0f} µs beside a client that never reads (medians)"
-    # (what is unsent, one reply that is being made, which may have room for twice as much, and what is read at once)
-    most = (65_536 + 3 * page) // 1024 + 4_000
+    most = most_rise(page)
     if beside > 1.5 * without:
         raise Differs(said)
     if rise > most:
         raise Differs(f"beside a client that never reads the server's memory rises by {rise} kB, and {most} kB are the most")
     return f"{said}; memory rises by {rise} kB, with pages of {page // 1024} kB"
+
+
+# One that never has all
+
+
+FEW = b'{"cmd":"range","index":"by_balance","limit":40}\n'
+NEW_NETWORK = 0x40000000
+SET_FLAGS, IS_UP = 0x8914, 1
+
+
+def narrow():
+    """This process gets a network of its own, of which a socket keeps 16 KiB that aren't sent, as on a slow line; one that keeps megabytes takes
+    all that waits as soon as there is room."""
+    if ctypes.CDLL(None, use_errno=True).unshare(NEW_NETWORK):
+        raise OSError(ctypes.get_errno(), "a network of its own needs root")
+    with socket.socket(socket.AF_INET, socket.SOCK_DGRAM) as any_socket:
+        fcntl.ioctl(any_socket, SET_FLAGS, struct.pack("16sH14x", b"lo", IS_UP))
+    with open("/proc/sys/net/ipv4/tcp_wmem", "w", encoding="ascii") as file:
+        file.write("4096 16384 16384")
+
+
+def trickle(running, stream, reply, replies):
+    """So many replies are asked ahead on this connection and read in bits. Answers how far the server's memory rose."""
+    before, rise, got, whole, twice = running.memory(), 0, 0, len(reply) * replies, reply + reply
+    asking = threading.Thread(target=stream.sendall, args=(FEW * replies,))
+    asking.start()
+    while got < whole:
+        bit = stream.recv(2048)
+        at = got % len(reply)
+        if not bit or bit != twice[at : at + len(bit)]:
+            raise Differs(f"a client that reads slowly is sent something else behind {got} bytes")
+        got += len(bit)
+        if got % 131_072 < len(bit):
+            rise = max(rise, running.memory() - before)
+    asking.join()
+    return rise
+
+
+def slow_one(path, replies):
+    """How far the memory rises beside a client that reads slowly, and the size of one of its replies."""
+    narrow()
+    with Service(path) as running, running.connect() as other, running.connect(receive=4096) as stream:
+        stream.settimeout(STILL)
+        fill(other)
+        reply = [service.asked(other, FEW) for _ in range(3)][-1]
+        return trickle(running, stream, reply, replies), len(reply)
+
+
+def slow(path, options, folder):
+    replies = 350 if options.short else 3500
+    with ProcessPoolExecutor(1) as own:
+        rise, size = own.submit(slow_one, path, replies).result()
+    most, sent = most_rise(size), replies * size // 1_000_000
+    if rise > most:
+        raise Differs(f"beside a client that reads slowly the server's memory rises by {rise} kB while it is sent {sent} MB, and {most} kB are the most")
+    return f"{replies} replies of {size // 1024} kB are asked ahead and read in bits: each comes whole; memory rises by {rise} kB while {sent} MB are sent"
 
 
 # Places
@@ -216,7 +284,7 @@ def place(path, options, folder):
     return f"{MOST} silent clients are attached, {len(waiting)} wait, and each is served as a place becomes free"
 
 
-PARTS = {"comers": comers, "deaf": deaf, "place": place}
+PARTS = {"comers": comers, "deaf": deaf, "slow": slow, "place": place}
 
 
 def main(given=None):

@@ -7,6 +7,10 @@ use Rattle.mi_clients.specs.declared.output.Output.{Output}
 abbrev pub unsent : Output → List ℕ
 unsent o = drop o.sent o.bytes.items
 
+-- the bytes for which it has memory: those that the socket hasn't taken, and maybe some in front of them that it has
+abbrev pub kept : Output → List ℕ
+kept o = o.bytes.items
+
 -- of these bytes that waited a stream has taken a front, where it tells, and those are left
 abbrev pub Sends : {S : Type 0} → (S → Option (List ℕ)) → S → S → List ℕ → List ℕ → Type 0
 Sends contents before after old new = (sent : List ℕ) × Appends (contents before) (contents after) sent × (old ≡ sent ++ new)

@@ -4,6 +4,8 @@ ghost use Rattle.std.specs.Prelude.{◌≡◌, ◌++◌, ◌≤◌, [], length, 
 use std::alloc::{AllocError, Global};
 
 /// Bytes that wait for a socket, from the first that it hasn't taken on.
+///
+/// What the socket has taken is let go once more is added, so that a peer that is never sent all doesn't make it grow.
 #[derive(Drop)]
 pub struct Output {
     bytes: Vec<u8>,
@@ -12,7 +14,7 @@ pub struct Output {
 }
 
 impl Output {
-    ghost use Rattle.mi_clients.specs.Output.{unsent};
+    ghost use Rattle.mi_clients.specs.Output.{unsent, kept};
 
     /// Nothing waits.
     pub fn new(alloc: Global) -> Output
@@ -32,9 +34,21 @@ impl Output {
         waiting
     }
 
-    /// Bytes wait behind those that do already. An error leaves them as they are.
+    /// What was sent is let go.
+    fn settle(&mut self)
+        ensures waiting { unsent self.new ≡ unsent self.old }
+        ensures none { kept self.new ≡ unsent self.new }
+    {
+        let left = self.bytes.len() - self.sent;
+        self.bytes.rotate_left(self.sent);
+        self.bytes.truncate(left);
+        self.sent = 0;
+    }
+
+    /// Bytes wait behind those that do already, and none that was sent is kept. An error leaves what waits as it is.
     pub fn add(&mut self, bytes: Vec<u8>) -> Result<(), AllocError>
         ensures ok { OnOk result (unsent self.new ≡ unsent self.old ++ bytes.items) }
+        ensures sent { OnOk result (kept self.new ≡ unsent self.new) }
         ensures err { OnErr result (unsent self.new ≡ unsent self.old) }
     {
         if self.sent == self.bytes.len() {
@@ -42,6 +56,7 @@ impl Output {
             self.sent = 0;
             return Ok(());
         }
+        self.settle();
         self.bytes.extend_from_slice(bytes.as_slice())
     }
 
