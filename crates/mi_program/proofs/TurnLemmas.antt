@@ -15,8 +15,10 @@ use Rattle.std.proofs.lemmas.Bool.{eqb-true}
 use Rattle.std.proofs.lemmas.List.{map-append, length-map}
 use Rattle.mi_hub.specs.Lines.{Rest}
 use Rattle.mi_hub.specs.Connections.{rest_at, with_rest, others}
-use Rattle.mi_hub.specs.Run.{HubState, with_connection}
+use Rattle.mi_hub.specs.Run.{HubState, with_connection, cut, gone, Done}
 use Rattle.mi_hub.specs.declared.connection.Connection.{Connection}
+use Rattle.mi_hub.specs.declared.fault.HubFault.{HubFault}
+use Rattle.mi_hub.specs.declared.fault.HubFault.TheVariants.{NotAttached}
 use Rattle.mi_hub.specs.declared.fault.ServeFault.{ServeFault}
 use Rattle.mi_hub.specs.declared.fault.ServeFault.TheVariants.{Read, Turns, Accept, Memory, Write as ServeWrite}
 use Rattle.mi_hub.proofs.ConnectionLemmas.{some_with_rest}
@@ -169,6 +171,21 @@ pub some_come : {S : Type 0} (row : List (Client S)) (n : ℕ) → client_ids ro
 some_come [] zero is some = absurd (omega arith)
 some_come [] (suc n) is some = absurd (cc)
 some_come (c ∷ row) n is some = omega arith
+
+-- ---- who goes away
+
+-- where nobody holds sessions none are undone
+gone_alone : (conn : ℕ) (s : HubState) → s.held.holder ≡ None → (gone conn s).held ≡ s.held
+gone_alone conn s nobody =
+    ap (λ o. (gone conn (record s { held = record s.held { holder = o } })).held) nobody ∙ sym (ap (λ o. record s.held { holder = o }) nobody)
+
+pub cut_alone : (r : Result ⊤ HubFault) (conn : ℕ) (old new : HubState) → OnOk r (Done old (cut conn) [] new)
+    → OnErr r ((r ≡ Err NotAttached) × (new ≡ old)) → old.held.holder ≡ None → new.held ≡ old.held
+cut_alone (Ok v) conn old new done refused nobody = ap (λ (s : HubState). s.held) done.2 ∙ gone_alone conn old nobody
+cut_alone (Err e) conn old new done refused nobody = ap (λ (s : HubState). s.held) refused.1
+
+pub same_hub : (old new : HubState) → new.held ≡ old.held → new.attached ≡ old.attached → new ≡ old
+same_hub old new held attached = ap (λ h. record new { held = h }) held ∙ ap (λ cs. record old { attached = cs }) attached
 
 -- ---- turns
 

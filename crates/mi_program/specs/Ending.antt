@@ -99,7 +99,8 @@ module _ {F I O S : Type 0} (file : F → Option (List ℕ)) (remaining : I → 
       (options : Options) × IsCalled words options
       × Performs file remaining contents given taken old_reader new_reader old_writer new_writer options (Err failure)
 
-  -- Options are performed over this input and this output through a buffer, in which nothing waits at first; or memory for that is wanting.
+  -- Options are performed over this input and this output through a buffer, in which nothing waits at first; or memory for that is wanting. That
+  -- is what was done to them, and not that nothing else was: nobody has them any more.
   abbrev pub PerformsBuffered : I → O → Options → Result ⊤ Failure → Type 0
   PerformsBuffered input output options answer =
       ((old_reader : Watched I) × (new_reader : Watched I) × (old_writer : Watched (Buffered O)) × (new_writer : Watched (Buffered O))
@@ -107,7 +108,7 @@ module _ {F I O S : Type 0} (file : F → Option (List ℕ)) (remaining : I → 
       × Performs file remaining (contents_of contents) given taken old_reader new_reader old_writer new_writer options answer)
       ⊎ (answer ≡ Err Memory)
 
-  -- the same as `Ends`, through the buffer
+  -- The same as `Ends`, through the buffer. Where the words are refused it says nothing of the input and the output.
   abbrev pub EndsBuffered : List (List ℕ) → I → O → Ending → Type 0
   EndsBuffered words input output (refused fault) = AreRefused words fault
   EndsBuffered words input output done = (options : Options) × IsCalled words options × PerformsBuffered input output options (Ok tt)

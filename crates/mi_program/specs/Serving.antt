@@ -86,8 +86,8 @@ served_answer (Ok done) = Ok tt
 served_answer (Err fault) = Err (served_failure fault)
 
 -- Connections are served over a database. Done: all turns were made without a fault. A read or a write failed: that was the first fault, and
--- all the other turns were made. Too many turns were made. Or it didn't come to turns: the port can't be listened on, a connection can't be
--- accepted, or there is no memory for one.
+-- all the other turns were made. Too many turns were made. Of a port that can't be listened on, a connection that can't be accepted and a want
+-- of memory nothing is said here, where nobody has the hub any more: that it has taken no turn then is a clause of `serve_listener`.
 abbrev pub ServesClients : {S : Type 0} → (S → Option (List ℕ)) → (S → Option (List ℕ)) → Database → ℕ → Result ⊤ Failure → Type 0
 ServesClients remaining contents database clients (Ok done) = AllTakeTurns remaining contents database clients (Ok done)
 ServesClients remaining contents database clients (Err Read) = AllTakeTurns remaining contents database clients (Err serving.Read)

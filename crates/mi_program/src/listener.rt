@@ -108,17 +108,18 @@ fn next_turn<D: Sessions + Drop, S: Read + Write + Drop>(
     Ok(())
 }
 
-/// Cuts all connections of a row.
+/// Cuts all connections of a row. Where nobody holds sessions that leaves the database as it was.
 fn cut_all<D: Sessions + Drop, S: Drop>(hub: &mut Hub<D>, row: &mut VecDeque<Client<S>>)
     requires { Serves (client_ids row.old.items) hub.old.attached }
-    ensures { hub.new.attached ≡ [] }
+    ensures none { hub.new.attached ≡ [] }
+    ensures held { hub.old.held.holder ≡ None → hub.new.held ≡ hub.old.held }
 {
     'row: while let Some(client) = row.pop_front() {
         let _ = hub.cut(client.conn);
     }
 }
 
-/// Accepts so many connections, numbers them from 1 and attaches them. After a fault all of them have been cut.
+/// Accepts so many connections, numbers them from 1 and attaches them. After a fault all of them have been cut, and the hub is as it was.
 fn accept_all<D: Sessions + Drop, L: OpenListener>(
     alloc: Global,
     hub: &mut Hub<D>,
@@ -130,6 +131,7 @@ where
     requires { hub.old.attached ≡ [] }
     ensures ok { IfOk result (λ row. HaveCome count row.items × (hub.new ≡ with_clients count hub.old)) }
     ensures none { OnErr result (hub.new.attached ≡ []) }
+    ensures unserved { hub.old.held.holder ≡ None → OnErr result (hub.new ≡ hub.old) }
     ensures no_other { OnErr result ((result ≡ Err ServeFault.Accept) ⊎ (result ≡ Err ServeFault.Memory)) }
 {
     let Ok(mut row) = VecDeque::with_capacity(alloc, count) else {
@@ -197,6 +199,7 @@ where
         × ByTurns L.Stream.remaining L.Stream.contents row (with_clients clients hub.old) turns left mid
         × (length turns ≡ MAX_READS) × (errors.new ≡ all_noted turns errors.old) }
     ensures unserved { (result ≡ Err ServeFault.Accept) ⊎ (result ≡ Err ServeFault.Memory) → errors.new ≡ errors.old }
+    ensures unturned { (result ≡ Err ServeFault.Accept) ⊎ (result ≡ Err ServeFault.Memory) → hub.old.held.holder ≡ None → hub.new ≡ hub.old }
 {
     match accept_all(alloc, hub, listener, clients) {
         Ok(row) => serve_all(hub, row, errors),
@@ -219,7 +222,7 @@ fn nobody_holds<D: Sessions + Drop>(hub: &Hub<D>)
 ///
 /// A connection whose read or write fails is cut and the others go on; the first such fault is answered at the end, as `Read` or
 /// `Write`. After `Accept`, `Memory` (the row had no room, or an attach was refused) and `Turns` (2^40 reads were made) all
-/// have been cut. Whatever the answer, no connection is attached then, and nobody holds sessions.
+/// have been cut; after the first two the hub has taken no turn, and is as it was. Whatever the answer, no connection is attached then, and nobody holds sessions.
 ///
 /// The errors that streams answered are noted in `errors`, since the streams are let go: `Read` is answered only where a read of this
 /// call has failed, and `Write` only where a write or a flush has.
@@ -254,7 +257,10 @@ where
     ensures read { result ≡ Err ServeFault.Read → reads_fail errors.new ≡ true }
     ensures write { result ≡ Err ServeFault.Write → writes_fail errors.new ≡ true }
     ensures sound { OnOk result (errors.new ≡ errors.old) }
+
+    // Where it doesn't come to turns no stream has failed, and the hub is as it was. (Nobody holds sessions where no connection is attached.)
     ensures unserved { (result ≡ Err ServeFault.Accept) ⊎ (result ≡ Err ServeFault.Memory) → errors.new ≡ errors.old }
+    ensures unturned { (result ≡ Err ServeFault.Accept) ⊎ (result ≡ Err ServeFault.Memory) → hub.old.held.holder ≡ None → hub.new ≡ hub.old }
 {
     let served = serve_clients(alloc, hub, listener, clients, errors);
     nobody_holds(hub);

@@ -213,6 +213,8 @@ pub fn run_over<R: Files + Net + AllocGlobal + RandomSource, S: AsStr, I: Read, 
 }
 
 /// Does what `run_over` does over these streams, the output buffered. The words are judged before memory is taken for the buffer.
+///
+/// The streams are its own and are let go, so no clause says what they are left with: of that see `run_over`.
 pub fn run<
     R: Files + Net + AllocGlobal + RandomSource,
     S: AsStr,

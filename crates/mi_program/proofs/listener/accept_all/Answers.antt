@@ -1,8 +1,9 @@
 -- The connections so far have come under the numbers from 1 on, and are the row's.
-use Rattle.std.proofs.Common.{◌≡◌, ◌+◌, [], ◌∷◌, ◌++◌, refl, sym, ◌∙◌, subst, arith, rules}
+use Rattle.std.proofs.Common.{◌≡◌, ◌+◌, [], ◌∷◌, ◌++◌, refl, sym, ap, ◌∙◌, subst, arith, rules}
 use Rattle.std.specs.VecDeque.{deque_len}
+use Rattle.mi_hub.specs.Run.{HubState}
 use Rattle.mi_program.specs.Turns.{client_ids, HaveCome}
-use Rattle.mi_program.proofs.TurnLemmas.{not_come, come_one, ids_one, serves_come, sound_last}
+use Rattle.mi_program.proofs.TurnLemmas.{not_come, come_one, ids_one, serves_come, sound_last, same_hub}
 use Rattle.mi_program.proofs.listener.accept_all.Goals as goal
 
 pub accept-requires : goal.accept-requires
@@ -26,3 +27,10 @@ row-preserved g c =
       len = omega (arith, len, c.row.invariant.len);
       room = omega (arith, c.row.invariant.room, c.push_back.ensures.capacity);
     }
+
+pub returns-in-Err-clause-unserved : goal.returns-in-Err-clause-unserved
+returns-in-Err-clause-unserved g c = λ nobody.
+    let before = c.in-Err.ensures.fault ∙ c.row.invariant.hub in
+    same_hub c.args.hub.now c.cut_all.new.hub
+    (c.cut_all.ensures.held (ap (λ (s : HubState). s.held.holder) before ∙ nobody) ∙ ap (λ (s : HubState). s.held) before)
+    (c.cut_all.ensures.none ∙ sym c.requires)

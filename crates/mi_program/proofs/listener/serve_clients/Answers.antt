@@ -66,3 +66,16 @@ returns-in-Ok-clause-none g c = c.serve_all.ensures.none
 
 pub returns-in-Err-clause-unserved : goal.returns-in-Err-clause-unserved
 returns-in-Err-clause-unserved g c = λ _. refl
+
+pub returns-in-Ok-clause-unturned : goal.returns-in-Ok-clause-unturned
+returns-in-Ok-clause-unturned g c = λ early _. elim early [
+  | inl is ↦
+      let done = c.serve_all.ensures.served (λ k. accept_turns (sym is ∙ k)) in
+      absurd (not_accept done.0 (sym done.2 ∙ is))
+  | inr is ↦
+      let done = c.serve_all.ensures.served (λ k. memory_turns (sym is ∙ k)) in
+      absurd (not_memory done.0 (sym done.2 ∙ is))
+]
+
+pub returns-in-Err-clause-unturned : goal.returns-in-Err-clause-unturned
+returns-in-Err-clause-unturned g c = λ _ nobody. c.in-Err.ensures.unserved nobody

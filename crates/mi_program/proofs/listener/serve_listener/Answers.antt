@@ -29,6 +29,9 @@ returns-clause-turns g c = c.serve_clients-served.ensures.turns
 pub returns-clause-unserved : goal.returns-clause-unserved
 returns-clause-unserved g c = c.serve_clients-served.ensures.unserved
 
+pub returns-clause-unturned : goal.returns-clause-unturned
+returns-clause-unturned g c = c.serve_clients-served.ensures.unturned
+
 pub returns-clause-none : goal.returns-clause-none
 returns-clause-none g c = c.serve_clients-served.ensures.none
 
