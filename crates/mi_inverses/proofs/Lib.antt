@@ -4,3 +4,4 @@ pub mod PlaceLemmas
 pub mod FlagLemmas
 pub mod RingLemmas
 pub mod SettleLemmas
+pub mod MemoryLemmas

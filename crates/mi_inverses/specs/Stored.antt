@@ -1,18 +1,30 @@
 -- What contracts see of the inverses of open sessions.
-use Rattle.std.specs.Prelude.{◌≡◌, ℕ, zero, suc, ◌<◌, ◌≤◌, ◌/◌, List, [], ◌∷◌, min}
+use Rattle.std.specs.Prelude.{◌≡◌, ℕ, zero, suc, ◌+◌, ◌<◌, ◌≤◌, ◌/◌, List, [], ◌∷◌, length, min}
 use Rattle.std.specs.declared.option.Option.{Option}
 use Rattle.std.specs.declared.option.Option.TheVariants.{None, Some}
 use Rattle.mi_journal.specs.Noted.{TakesOldest}
 use Rattle.mi_container.specs.Inverse.{OldPlace, Inverse}
 use Rattle.mi_container.specs.Inverse.Inverse.{Inserted, Put, Erased, Relocated, Nothing}
 
+-- how many entries, old records and old places three rings have memory for, those that are there too
+pub record Rings : Type 0 where
+  pub entries : ℕ
+  pub records : ℕ
+  pub places : ℕ
+
 -- the inverses of each open session, the newest session and the newest inverse first; for how many changes and sessions more there is room;
--- and how many places a put has at most
+-- how many places a put has at most; and what the rings have memory for
 pub record Stored : Type 0 where
   pub sessions : List (List (ℕ × Inverse))
   pub changes : ℕ
   pub starts : ℕ
   pub most : ℕ
+  pub rings : Rings
+
+-- how many entries there are in sessions
+abbrev pub entries_of_all : {A : Type 0} → List (List A) → ℕ
+entries_of_all [] = 0
+entries_of_all (es ∷ older) = length es + entries_of_all older
 
 -- for how many changes there is room in three rings
 abbrev pub room_in : ℕ → ℕ → ℕ → ℕ → ℕ

@@ -13,7 +13,7 @@ use std::marker::Model;
 /// Inverses of changes by open session, each with the number of its table.
 ///
 /// Room is what `reserve` took. It falls by at most one with each inverse that is noted, and by one with each session that is
-/// opened. No other call takes memory.
+/// opened. No other call takes memory or gives any away.
 #[derive(Drop)]
 pub struct Inverses {
     entries: Journal<Entry>,
@@ -23,10 +23,10 @@ pub struct Inverses {
 }
 
 impl Model for Inverses {
-    ghost use Rattle.std.specs.Prelude.{◌≡◌, ◌-◌, ◌<◌, length, reverse};
+    ghost use Rattle.std.specs.Prelude.{◌≡◌, ◌+◌, ◌-◌, ◌<◌, length, reverse};
     ghost use Rattle.std.specs.VecDeque.{deque_len, deque_capacity};
     ghost use Rattle.mi_inverses.specs.Filled.{decoded_all, records_of_all, places_of_all};
-    ghost use Rattle.mi_inverses.specs.Stored.{Stored, room_in};
+    ghost use Rattle.mi_inverses.specs.Stored.{Stored, entries_of_all, room_in};
 
     ghost Value = { Stored };
 
@@ -35,6 +35,11 @@ impl Model for Inverses {
       changes = room_in a.most a.entries.changes (deque_capacity a.records - deque_len a.records) (deque_capacity a.places - deque_len a.places);
       starts = a.entries.starts;
       most = a.most;
+      rings = record {
+        entries = a.entries.changes + entries_of_all a.entries.sessions;
+        records = deque_capacity a.records;
+        places = deque_capacity a.places;
+      };
     } };
 
     ghost invariant = { λ a. (length a.records.items ≡ records_of_all a.entries.sessions) × (length a.places.items ≡ places_of_all a.entries.sessions) };
@@ -84,6 +89,7 @@ impl Inverses {
         ensures changes { self.new.changes ≡ self.old.changes }
         ensures starts { self.new.starts + 1 ≡ self.old.starts }
         ensures most { self.new.most ≡ self.old.most }
+        ensures rings { self.new.rings ≡ self.old.rings }
     {
         self.entries.open_session();
     }
@@ -97,6 +103,7 @@ impl Inverses {
         ensures changes { self.old.changes ≤ self.new.changes + 1 }
         ensures starts { self.new.starts ≡ self.old.starts }
         ensures most { self.new.most ≡ self.old.most }
+        ensures rings { self.new.rings ≡ self.old.rings }
     {
         let entry = store(
             inverse.undo(),
@@ -114,6 +121,7 @@ impl Inverses {
         ensures changes { self.old.changes ≤ self.new.changes }
         ensures starts { self.new.starts ≡ self.old.starts }
         ensures most { self.new.most ≡ self.old.most }
+        ensures rings { self.new.rings ≡ self.old.rings }
     {
         match self.entries.pop() {
             Some((table, entry)) => {
@@ -131,6 +139,7 @@ impl Inverses {
         ensures changes { self.new.changes ≡ self.old.changes }
         ensures starts { self.new.starts ≡ self.old.starts + 1 }
         ensures most { self.new.most ≡ self.old.most }
+        ensures rings { self.new.rings ≡ self.old.rings }
     {
         self.entries.end_session();
     }
@@ -142,6 +151,7 @@ impl Inverses {
         ensures changes { self.new.changes ≡ self.old.changes }
         ensures starts { self.new.starts ≡ self.old.starts + 1 }
         ensures most { self.new.most ≡ self.old.most }
+        ensures rings { self.new.rings ≡ self.old.rings }
     {
         self.entries.join_top();
     }
@@ -153,6 +163,7 @@ impl Inverses {
         ensures changes { self.old.changes ≤ self.new.changes }
         ensures starts { self.new.starts ≡ self.old.starts }
         ensures most { self.new.most ≡ self.old.most }
+        ensures rings { self.new.rings ≡ self.old.rings }
     {
         match self.entries.take_oldest() {
             Some((table, entry)) => {
@@ -170,6 +181,7 @@ impl Inverses {
         ensures changes { self.new.changes ≡ self.old.changes }
         ensures starts { self.new.starts ≡ self.old.starts + 1 }
         ensures most { self.new.most ≡ self.old.most }
+        ensures rings { self.new.rings ≡ self.old.rings }
     {
         self.entries.end_oldest();
     }

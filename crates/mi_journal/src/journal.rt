@@ -6,8 +6,8 @@ use std::marker::Model;
 
 /// Inverses of changes by open session, each with the number of its table.
 ///
-/// Room is what `reserve` took. It falls by one with each entry that is noted and each session that is opened. No other
-/// call takes memory.
+/// Room is what `reserve` took. It falls by one with each entry that is noted and each session that is opened, and rises by
+/// one with each that leaves or ends. No other call takes memory or gives any away.
 #[derive(Drop)]
 pub struct Journal<T> {
     entries: VecDeque<(usize, T)>,
@@ -32,6 +32,7 @@ impl<T> Model for Journal<T> {
 
 impl<T> Journal<T> {
     ghost use Rattle.std.specs.Prelude.{◌≡◌, ◌+◌, ◌<◌, ◌≤◌, [], ◌∷◌, ◌++◌, length, OnOk};
+    ghost use Rattle.std.specs.Option.{option_to_list};
     ghost use Rattle.mi_journal.specs.Noted.{noted, top_joined, newest_entry, without_entry, without_newest};
     ghost use Rattle.mi_journal.specs.Noted.{NewestIsEmpty, TwoAreOpen, OldestIsEmpty, TakesOldest};
 
@@ -83,7 +84,7 @@ impl<T> Journal<T> {
     pub fn pop(&mut self) -> Option<(usize, T)>
         ensures entry { result ≡ newest_entry self.old.sessions }
         ensures sessions { self.new.sessions ≡ without_entry self.old.sessions }
-        ensures changes { self.old.changes ≤ self.new.changes }
+        ensures changes { self.new.changes ≡ self.old.changes + length (option_to_list result) }
         ensures starts { self.new.starts ≡ self.old.starts }
     {
         let open = self.counts.len();
@@ -120,7 +121,7 @@ impl<T> Journal<T> {
     /// The oldest entry of the oldest session, which leaves it; or none where it has none.
     pub fn take_oldest(&mut self) -> Option<(usize, T)>
         ensures sessions { TakesOldest result self.old.sessions self.new.sessions }
-        ensures changes { self.old.changes ≤ self.new.changes }
+        ensures changes { self.new.changes ≡ self.old.changes + length (option_to_list result) }
         ensures starts { self.new.starts ≡ self.old.starts }
     {
         let open = self.counts.len();

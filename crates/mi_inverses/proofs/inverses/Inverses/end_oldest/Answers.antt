@@ -3,8 +3,10 @@ use Rattle.std.proofs.Common.{◌∙◌, ℕ, [], ap, sym, subst, reverse, arith
 use Rattle.mi_container.specs.Inverse.{Inverse}
 use Rattle.mi_journal.specs.Noted.{OldestIsEmpty}
 use Rattle.mi_inverses.specs.Filled.{records_of_all, places_of_all, decoded_all}
+use Rattle.std.specs.VecDeque.{deque_capacity}
 use Rattle.mi_inverses.specs.Stored.{Stored}
 use Rattle.mi_inverses.proofs.DecodedLemmas.{oldest_empty, decoded_push, records_push, places_push}
+use Rattle.mi_inverses.proofs.MemoryLemmas.{sized, end_oldest_keeps}
 use Rattle.mi_inverses.proofs.inverses.Inverses.end_oldest.Goals as goal
 
 pub end_oldest-requires : goal.end_oldest-requires
@@ -27,3 +29,11 @@ returns-clause-sessions c =
     let was = ap (λ (v : Stored). v.sessions) c.self.view_is in
     sym was ∙ ap (λ q. decoded_all q (reverse a.records.items) (reverse a.places.items)) c.end_oldest.ensures.sessions
     ∙ decoded_push c.end_oldest.new.self.sessions [] (reverse a.records.items) (reverse a.places.items)
+
+pub returns-clause-rings : goal.returns-clause-rings
+returns-clause-rings c =
+    let a = c.self.inside in
+    let j = c.end_oldest in
+    ap (λ n. sized n (deque_capacity a.records) (deque_capacity a.places))
+    (end_oldest_keeps a.entries.sessions j.new.self.sessions a.entries.changes j.new.self.changes j.ensures.sessions j.ensures.changes)
+    ∙ ap (λ (v : Stored). v.rings) c.self.view_is

@@ -3,8 +3,10 @@ use Rattle.std.proofs.Common.{◌∙◌, ℕ, ap, sym, subst, reverse}
 use Rattle.mi_container.specs.Inverse.{Inverse}
 use Rattle.mi_journal.specs.Noted.{NewestIsEmpty, without_newest}
 use Rattle.mi_inverses.specs.Filled.{records_of_all, places_of_all, decoded_all}
+use Rattle.std.specs.VecDeque.{deque_capacity}
 use Rattle.mi_inverses.specs.Stored.{Stored}
 use Rattle.mi_inverses.proofs.DecodedLemmas.{newest_empty, ended}
+use Rattle.mi_inverses.proofs.MemoryLemmas.{sized, end_keeps}
 use Rattle.mi_inverses.proofs.inverses.Inverses.end_session.Goals as goal
 
 pub end_session-requires : goal.end_session-requires
@@ -32,3 +34,14 @@ returns-clause-sessions c =
     (subst (NewestIsEmpty {A = ℕ × Inverse}) (sym was) c.requires)) in
     ap (λ q. decoded_all q (reverse a.records.items) (reverse a.places.items)) c.end_session.ensures.sessions
     ∙ e.without (reverse a.records.items) (reverse a.places.items) ∙ ap without_newest was
+
+pub returns-clause-rings : goal.returns-clause-rings
+returns-clause-rings c =
+    let a = c.self.inside in
+    let j = c.end_session in
+    let was = ap (λ (v : Stored). v.sessions) c.self.view_is in
+    ap (λ n. sized n (deque_capacity a.records) (deque_capacity a.places))
+    (end_keeps a.entries.sessions j.new.self.sessions a.entries.changes j.new.self.changes
+    (newest_empty a.entries.sessions (reverse a.records.items) (reverse a.places.items) (subst (NewestIsEmpty {A = ℕ × Inverse}) (sym was) c.requires))
+    j.ensures.sessions j.ensures.changes)
+    ∙ ap (λ (v : Stored). v.rings) c.self.view_is

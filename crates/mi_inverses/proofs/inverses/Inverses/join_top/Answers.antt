@@ -2,8 +2,10 @@
 use Rattle.std.proofs.Common.{◌∙◌, ap, sym, reverse}
 use Rattle.mi_journal.specs.Noted.{top_joined}
 use Rattle.mi_inverses.specs.Filled.{records_of_all, places_of_all, decoded_all}
+use Rattle.std.specs.VecDeque.{deque_capacity}
 use Rattle.mi_inverses.specs.Stored.{Stored}
 use Rattle.mi_inverses.proofs.DecodedLemmas.{joined, joined_records, joined_places}
+use Rattle.mi_inverses.proofs.MemoryLemmas.{sized, join_keeps}
 use Rattle.mi_inverses.proofs.inverses.Inverses.join_top.Goals as goal
 
 pub invariant_of-self : goal.invariant_of-self
@@ -20,3 +22,11 @@ returns-clause-sessions c =
     let was = ap (λ (v : Stored). top_joined v.sessions) c.self.view_is in
     ap (λ q. decoded_all q (reverse a.records.items) (reverse a.places.items)) c.join_top.ensures.sessions
     ∙ joined a.entries.sessions (reverse a.records.items) (reverse a.places.items) ∙ was
+
+pub returns-clause-rings : goal.returns-clause-rings
+returns-clause-rings c =
+    let a = c.self.inside in
+    let j = c.join_top in
+    ap (λ n. sized n (deque_capacity a.records) (deque_capacity a.places))
+    (join_keeps a.entries.sessions j.new.self.sessions a.entries.changes j.new.self.changes j.ensures.sessions j.ensures.changes)
+    ∙ ap (λ (v : Stored). v.rings) c.self.view_is

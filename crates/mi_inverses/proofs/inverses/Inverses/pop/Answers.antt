@@ -1,5 +1,5 @@
 -- the record and the places of the newest entry are the last of their rings
-use Rattle.std.proofs.Common.{◌-◌, ◌∙◌, ap, ap₂, sym, reverse, arith}
+use Rattle.std.proofs.Common.{◌-◌, ◌∙◌, None, Some, ap, ap₂, sym, reverse, arith}
 use Rattle.mi_journal.specs.Noted.{without_entry}
 use Rattle.mi_inverses.specs.Filled.{records_in, places_in, records_of_all, places_of_all, decoded_all}
 use Rattle.std.specs.VecDeque.{deque_len, deque_capacity}
@@ -7,6 +7,7 @@ use Rattle.mi_inverses.specs.Stored.{Stored}
 use Rattle.mi_inverses.proofs.DecodedLemmas.{popped}
 use Rattle.mi_inverses.proofs.RingLemmas.{shorter}
 use Rattle.mi_inverses.proofs.RoomLemmas.{from_was, room_mono}
+use Rattle.mi_inverses.proofs.MemoryLemmas.{sized, same_rings, pop_keeps}
 use Rattle.mi_inverses.proofs.inverses.Inverses.pop.Goals as goal
 
 pub invariant_of-self : goal.invariant_of-self
@@ -42,6 +43,25 @@ returns-in-Some-clause-changes c =
     let places = shorter a.places.items f.new.places.items (places_in c.in-Some.entry) _ f.ensures.places_rest (held.1 ∙ p.places) in
     from_was was
     (room_mono a.most a.entries.changes c.pop.new.self.changes (deque_capacity a.records - deque_len a.records) (deque_capacity f.new.records - deque_len f.new.records)
-    (deque_capacity a.places - deque_len a.places) (deque_capacity f.new.places - deque_len f.new.places) c.in-Some.ensures.changes
+    (deque_capacity a.places - deque_len a.places) (deque_capacity f.new.places - deque_len f.new.places) (omega (arith, c.in-Some.ensures.changes))
     (omega (arith, records, held.0, p.records, a.records.ok.0, f.new.records.ok.0, f.ensures.records_capacity))
     (omega (arith, places, held.1, p.places, a.places.ok.0, f.new.places.ok.0, f.ensures.places_capacity)))
+
+pub returns-in-Some-clause-rings : goal.returns-in-Some-clause-rings
+returns-in-Some-clause-rings c =
+    let a = c.self.inside in
+    let j = c.pop in
+    let e = c.in-Some.ensures in
+    let f = c.fetch-undo.ensures in
+    same_rings (pop_keeps a.entries.sessions j.new.self.sessions a.entries.changes j.new.self.changes (Some (c.in-Some.table, c.in-Some.entry))
+    e.entry e.sessions e.changes) f.records_capacity f.places_capacity
+    ∙ ap (λ (v : Stored). v.rings) c.self.view_is
+
+pub returns-in-None-clause-rings : goal.returns-in-None-clause-rings
+returns-in-None-clause-rings c =
+    let a = c.self.inside in
+    let j = c.pop in
+    let e = c.in-None.ensures in
+    ap (λ n. sized n (deque_capacity a.records) (deque_capacity a.places))
+    (pop_keeps a.entries.sessions j.new.self.sessions a.entries.changes j.new.self.changes None e.entry e.sessions e.changes)
+    ∙ ap (λ (v : Stored). v.rings) c.self.view_is

@@ -9,6 +9,7 @@ use Rattle.mi_inverses.specs.Stored.{Stored, TakesToSettle}
 use Rattle.mi_inverses.proofs.DecodedLemmas.{taken, taken_records, taken_places, none_oldest}
 use Rattle.mi_inverses.proofs.RingLemmas.{shorter_front, front_off}
 use Rattle.mi_inverses.proofs.RoomLemmas.{from_was, room_mono}
+use Rattle.mi_inverses.proofs.MemoryLemmas.{sized, same_rings, take_keeps}
 use Rattle.mi_inverses.proofs.inverses.Inverses.take_oldest.Goals as goal
 
 pub invariant_of-self : goal.invariant_of-self
@@ -53,7 +54,7 @@ returns-in-Some-clause-changes c =
     let places = ap length f.ensures.places_rest ∙ length-drop (places_in c.in-Some.entry) a.places.items in
     from_was was
     (room_mono a.most a.entries.changes c.take_oldest.new.self.changes (deque_capacity a.records - deque_len a.records) (deque_capacity f.new.records - deque_len f.new.records)
-    (deque_capacity a.places - deque_len a.places) (deque_capacity f.new.places - deque_len f.new.places) c.in-Some.ensures.changes
+    (deque_capacity a.places - deque_len a.places) (deque_capacity f.new.places - deque_len f.new.places) (omega (arith, c.in-Some.ensures.changes))
     (omega (arith, records, a.records.ok.0, f.new.records.ok.0, f.ensures.records_capacity))
     (omega (arith, places, a.places.ok.0, f.new.places.ok.0, f.ensures.places_capacity)))
 
@@ -65,3 +66,22 @@ returns-in-None-clause-sessions c =
     let ps = reverse a.places.items in
     subst (λ (q : List (List (ℕ × Inverse))). TakesOldest {A = ℕ × Inverse} None q (decoded_all c.take_oldest.new.self.sessions rs ps)) was
     (none_oldest a.entries.sessions c.take_oldest.new.self.sessions rs ps c.in-None.ensures.sessions)
+
+pub returns-in-Some-clause-rings : goal.returns-in-Some-clause-rings
+returns-in-Some-clause-rings c =
+    let a = c.self.inside in
+    let j = c.take_oldest in
+    let e = c.in-Some.ensures in
+    let f = c.fetch_to_settle-undo.ensures in
+    same_rings (take_keeps a.entries.sessions j.new.self.sessions a.entries.changes j.new.self.changes (Some (c.in-Some.table, c.in-Some.entry))
+    e.sessions e.changes) f.records_capacity f.places_capacity
+    ∙ ap (λ (v : Stored). v.rings) c.self.view_is
+
+pub returns-in-None-clause-rings : goal.returns-in-None-clause-rings
+returns-in-None-clause-rings c =
+    let a = c.self.inside in
+    let j = c.take_oldest in
+    let e = c.in-None.ensures in
+    ap (λ n. sized n (deque_capacity a.records) (deque_capacity a.places))
+    (take_keeps a.entries.sessions j.new.self.sessions a.entries.changes j.new.self.changes None e.sessions e.changes)
+    ∙ ap (λ (v : Stored). v.rings) c.self.view_is
