@@ -2,7 +2,8 @@
 --     filled      the inverse of an entry
 --     decoded, decoded_all      those of a session, and of all
 --     records_in, places_in, records_of, places_of, records_of_all, places_of_all      how many records and places are theirs
-use Rattle.std.specs.Prelude.{ℕ, suc, ◌+◌, Bool, true, false, List, [], ◌∷◌, drop}
+--     IsThere      a place of the ring is one, and not none
+use Rattle.std.specs.Prelude.{ℕ, suc, ◌+◌, Bool, true, false, List, [], ◌∷◌, drop, IsSome}
 use Rattle.std.specs.Option.{option_map}
 use Rattle.std.specs.declared.option.Option.{Option}
 use Rattle.std.specs.declared.option.Option.TheVariants.{None, Some}
@@ -14,6 +15,10 @@ use Rattle.mi_container.specs.Inverse.{RowRef, OldPlace, Inverse}
 use Rattle.mi_container.specs.Inverse.Inverse.{Inserted, Put, Erased, Relocated, Nothing}
 use Rattle.mi_inverses.specs.declared.entry.Entry.{Entry}
 use Rattle.mi_inverses.specs.declared.entry.Entry.TheVariants as entry
+
+-- a place of the ring is one, and not none
+abbrev pub IsThere : Option Place → Type 0
+IsThere p = IsSome p
 
 -- how many indexes are marked
 abbrev pub marked : List Bool → ℕ

@@ -1,5 +1,5 @@
 -- What contracts see of the inverses of open sessions.
-use Rattle.std.specs.Prelude.{◌≡◌, ℕ, zero, suc, ◌+◌, ◌<◌, ◌≤◌, ◌/◌, List, [], ◌∷◌, length, min}
+use Rattle.std.specs.Prelude.{◌≡◌, ℕ, zero, suc, ◌+◌, ◌-◌, ◌<◌, ◌≤◌, ◌/◌, List, [], ◌∷◌, length, min}
 use Rattle.std.specs.declared.option.Option.{Option}
 use Rattle.std.specs.declared.option.Option.TheVariants.{None, Some}
 use Rattle.mi_journal.specs.Noted.{TakesOldest}
@@ -44,6 +44,36 @@ IsWithin most (Put r old) = place_count old.places ≤ most
 IsWithin most (Erased r why) = Unit {0}
 IsWithin most (Relocated x r b) = x < 256
 IsWithin most Nothing = Unit {0}
+
+-- how many records and old places an inverse takes of the rings
+abbrev pub records_taken : Inverse → ℕ
+records_taken (Inserted r) = 0
+records_taken (Put r old) = 1
+records_taken (Erased r why) = 0
+records_taken (Relocated x r b) = 0
+records_taken Nothing = 0
+
+abbrev pub places_taken : Inverse → ℕ
+places_taken (Inserted r) = 0
+places_taken (Put r old) = place_count old.places
+places_taken (Erased r why) = 0
+places_taken (Relocated x r b) = 0
+places_taken Nothing = 0
+
+-- how many those of a session take, and of all
+abbrev pub taken_of : (Inverse → ℕ) → List (ℕ × Inverse) → ℕ
+taken_of f [] = 0
+taken_of f (x ∷ xs) = f x.1 + taken_of f xs
+
+abbrev pub taken_of_all : (Inverse → ℕ) → List (List (ℕ × Inverse)) → ℕ
+taken_of_all f [] = 0
+taken_of_all f (xs ∷ older) = taken_of f xs + taken_of_all f older
+
+-- for how many changes these rings have room, beside what these sessions take of them
+abbrev pub room_beside : ℕ → Rings → List (List (ℕ × Inverse)) → ℕ
+room_beside most rings sessions =
+    room_in most (rings.entries - entries_of_all sessions) (rings.records - taken_of_all records_taken sessions)
+    (rings.places - taken_of_all places_taken sessions)
 
 -- what an inverse is settled by: of a put neither the record nor the places are asked for
 abbrev pub to_settle : Inverse → Inverse

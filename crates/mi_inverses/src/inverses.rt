@@ -24,8 +24,9 @@ pub struct Inverses {
 
 impl Model for Inverses {
     ghost use Rattle.std.specs.Prelude.{◌≡◌, ◌+◌, ◌-◌, ◌<◌, length, reverse};
+    ghost use Rattle.std.specs.List.{All};
     ghost use Rattle.std.specs.VecDeque.{deque_len, deque_capacity};
-    ghost use Rattle.mi_inverses.specs.Filled.{decoded_all, records_of_all, places_of_all};
+    ghost use Rattle.mi_inverses.specs.Filled.{decoded_all, records_of_all, places_of_all, IsThere};
     ghost use Rattle.mi_inverses.specs.Stored.{Stored, entries_of_all, room_in};
 
     ghost Value = { Stored };
@@ -42,14 +43,15 @@ impl Model for Inverses {
       };
     } };
 
-    ghost invariant = { λ a. (length a.records.items ≡ records_of_all a.entries.sessions) × (length a.places.items ≡ places_of_all a.entries.sessions) };
+    ghost invariant = { λ a. (length a.records.items ≡ records_of_all a.entries.sessions) × (length a.places.items ≡ places_of_all a.entries.sessions)
+        × All IsThere a.places.items };
 }
 
 impl Inverses {
     ghost use Rattle.std.specs.Prelude.{◌≡◌, ◌+◌, ◌<◌, ◌≤◌, [], ◌∷◌, ◌++◌, length, OnOk};
     ghost use Rattle.mi_journal.specs.Noted.{noted, top_joined, newest_entry, without_entry, without_newest};
     ghost use Rattle.mi_journal.specs.Noted.{NewestIsEmpty, TwoAreOpen, OldestIsEmpty};
-    ghost use Rattle.mi_inverses.specs.Stored.{IsWithin, TakesToSettle};
+    ghost use Rattle.mi_inverses.specs.Stored.{IsWithin, TakesToSettle, room_beside};
 
     /// No open session, and no room. `most` is how many old places a put has at most.
     pub fn new(alloc: Global, most: usize) -> Inverses
@@ -193,10 +195,12 @@ impl Inverses {
         self.entries.depth()
     }
 
-    /// For how many changes and how many sessions more there is room.
+    /// For how many changes and how many sessions more there is room: for what the rings have memory for, but for what the sessions
+    /// take of it.
     pub fn room(&self) -> (usize, usize)
         ensures changes { result.0 ≡ self.now.changes }
         ensures starts { result.1 ≡ self.now.starts }
+        ensures beside { self.now.changes ≡ room_beside self.now.most self.now.rings self.now.sessions }
     {
         let (entries, starts) = self.entries.room();
         let records = self.records.capacity() - self.records.len();

@@ -4,9 +4,10 @@ ghost use Rattle.std.specs.Prelude.{◌≡◌, ◌<◌, ◌≤◌, ◌+◌, List
 ghost use Rattle.mi_value.specs.declared.value.Value.{Value};
 ghost use Rattle.mi_node.specs.declared.old_place.OldPlace.{OldPlace as Place};
 ghost use Rattle.std.specs.Option.{option_map};
+ghost use Rattle.std.specs.List.{All};
 ghost use Rattle.std.specs.VecDeque.{deque_len, deque_capacity};
 ghost use Rattle.mi_container.specs.Backs.{inverse_seen, place_seen};
-ghost use Rattle.mi_inverses.specs.Filled.{filled, placed, marked, records_in, places_in};
+ghost use Rattle.mi_inverses.specs.Filled.{filled, placed, marked, records_in, places_in, IsThere};
 ghost use Rattle.mi_inverses.specs.Stored.{IsWithin, place_count, to_settle};
 
 use crate::entry::Entry;
@@ -24,6 +25,7 @@ fn store_places(old: OldPlaces, ring: &mut VecDeque<MaybePlace>) -> Marks
     ensures rest { drop (marked result) (reverse ring.new.items) ≡ reverse ring.old.items }
     ensures count { marked result ≡ place_count (map (option_map place_seen) old.items) }
     ensures len { deque_len ring.new ≡ deque_len ring.old + marked result }
+    ensures there { All IsThere ring.old.items → All IsThere ring.new.items }
     ensures capacity { deque_capacity ring.new ≡ deque_capacity ring.old }
 {
     let mut places = old;
@@ -86,6 +88,7 @@ pub fn store(
     ensures places_rest { drop (places_in result) (reverse places.new.items) ≡ reverse places.old.items }
     ensures records_len { deque_len records.new ≡ deque_len records.old + records_in result }
     ensures places_len { deque_len places.new ≡ deque_len places.old + places_in result }
+    ensures places_there { All IsThere places.old.items → All IsThere places.new.items }
     ensures few_records { records_in result ≤ 1 }
     ensures few_places { places_in result ≤ most }
     ensures records_capacity { deque_capacity records.new ≡ deque_capacity records.old }

@@ -1,7 +1,8 @@
 -- the last of the places that are left is stored, or only marked
-use Rattle.std.proofs.Common.{◌∙◌, ◌+◌, ◌∷◌, true, sym, ap, subst, arith}
+use Rattle.std.proofs.Common.{◌∙◌, ◌+◌, [], ◌∷◌, ◌++◌, true, sym, ap, subst, arith}
 use Rattle.std.specs.VecDeque.{deque_len}
-use Rattle.mi_inverses.specs.Filled.{marked}
+use Rattle.std.proofs.lemmas.List.Elements.{All-same, All-push}
+use Rattle.mi_inverses.specs.Filled.{marked, IsThere}
 use Rattle.mi_inverses.proofs.PlaceLemmas.{Storing, storing_place, storing_none}
 use Rattle.mi_inverses.proofs.store.store_places.Goals as goal
 
@@ -29,6 +30,8 @@ loop-place-preserved-then-there c =
           (subst (Storing c.args.old.items c.pop.new.self.items (true ∷ l.marks) c.args.ring.now.items) (sym c.push_back_reserved.ensures.items) more),
       omega (arith, len, now, one),
       c.push_back_reserved.ensures.capacity ∙ l.invariant.2,
+      λ all. All-same IsThere c.push_back_reserved.new.self.items (l.ring.items ++ c.in-Some.place ∷ []) c.push_back_reserved.ensures.items
+          (All-push IsThere l.ring.items c.in-Some.place (l.invariant.3 all) (sym c.is_some-there.ensures ∙ c.if-there.true)),
     )
 
 pub loop-place-preserved : goal.loop-place-preserved
@@ -40,4 +43,5 @@ loop-place-preserved c =
           c.in-Some.ensures.items (sym c.is_some-there.ensures ∙ c.if-there.false) l.invariant.0),
       l.invariant.1 ∙ sym (ap (λ q. deque_len c.args.ring.now + marked q) marks),
       l.invariant.2,
+      l.invariant.3,
     )

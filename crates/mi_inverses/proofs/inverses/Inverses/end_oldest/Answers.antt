@@ -21,7 +21,7 @@ invariant_of-self c =
     let new = c.end_oldest.new.self.sessions in
     let records = held.0 ∙ ap records_of_all c.end_oldest.ensures.sessions ∙ records_push new [] in
     let places = held.1 ∙ ap places_of_all c.end_oldest.ensures.sessions ∙ places_push new [] in
-    (omega (arith, records), omega (arith, places))
+    (omega (arith, records), omega (arith, places), held.2)
 
 pub returns-clause-sessions : goal.returns-clause-sessions
 returns-clause-sessions c =

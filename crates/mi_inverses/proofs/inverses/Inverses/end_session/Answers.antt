@@ -24,6 +24,7 @@ invariant_of-self c =
     (subst (NewestIsEmpty {A = ℕ × Inverse}) (sym was) c.requires)) in (
       held.0 ∙ sym e.records ∙ sym (ap records_of_all c.end_session.ensures.sessions),
       held.1 ∙ sym e.places ∙ sym (ap places_of_all c.end_session.ensures.sessions),
+      held.2,
     )
 
 pub returns-clause-sessions : goal.returns-clause-sessions

@@ -14,6 +14,7 @@ invariant_of-self c =
     let ss = c.self.inside.entries.sessions in (
       held.0 ∙ sym (joined_records ss) ∙ sym (ap records_of_all c.join_top.ensures.sessions),
       held.1 ∙ sym (joined_places ss) ∙ sym (ap places_of_all c.join_top.ensures.sessions),
+      held.2,
     )
 
 pub returns-clause-sessions : goal.returns-clause-sessions

@@ -7,7 +7,7 @@ use Rattle.mi_inverses.specs.Stored.{Stored}
 use Rattle.mi_inverses.proofs.DecodedLemmas.{popped}
 use Rattle.mi_inverses.proofs.RingLemmas.{shorter}
 use Rattle.mi_inverses.proofs.RoomLemmas.{from_was, room_mono}
-use Rattle.mi_inverses.proofs.MemoryLemmas.{sized, same_rings, pop_keeps}
+use Rattle.mi_inverses.proofs.MemoryLemmas.{sized, same_rings, pop_keeps, all_back}
 use Rattle.mi_inverses.proofs.inverses.Inverses.pop.Goals as goal
 
 pub invariant_of-self : goal.invariant_of-self
@@ -20,6 +20,7 @@ invariant_of-self c =
           ∙ sym (ap records_of_all c.in-Some.ensures.sessions),
       shorter a.places.items f.new.places.items (places_in c.in-Some.entry) _ f.ensures.places_rest (held.1 ∙ p.places)
           ∙ sym (ap places_of_all c.in-Some.ensures.sessions),
+      all_back a.places.items f.new.places.items (places_in c.in-Some.entry) f.ensures.places_rest held.2,
     )
 
 pub returns-in-Some-clause-sessions : goal.returns-in-Some-clause-sessions

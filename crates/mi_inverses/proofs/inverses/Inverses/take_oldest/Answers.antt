@@ -9,7 +9,7 @@ use Rattle.mi_inverses.specs.Stored.{Stored, TakesToSettle}
 use Rattle.mi_inverses.proofs.DecodedLemmas.{taken, taken_records, taken_places, none_oldest}
 use Rattle.mi_inverses.proofs.RingLemmas.{shorter_front, front_off}
 use Rattle.mi_inverses.proofs.RoomLemmas.{from_was, room_mono}
-use Rattle.mi_inverses.proofs.MemoryLemmas.{sized, same_rings, take_keeps}
+use Rattle.mi_inverses.proofs.MemoryLemmas.{sized, same_rings, take_keeps, all_front}
 use Rattle.mi_inverses.proofs.inverses.Inverses.take_oldest.Goals as goal
 
 pub invariant_of-self : goal.invariant_of-self
@@ -22,6 +22,7 @@ invariant_of-self c =
           (held.0 ∙ taken_records a.entries.sessions ss c.in-Some.table c.in-Some.entry c.in-Some.ensures.sessions),
       shorter_front a.places.items f.new.places.items (places_in c.in-Some.entry) (places_of_all ss) f.ensures.places_rest
           (held.1 ∙ taken_places a.entries.sessions ss c.in-Some.table c.in-Some.entry c.in-Some.ensures.sessions),
+      all_front a.places.items f.new.places.items (places_in c.in-Some.entry) f.ensures.places_rest held.2,
     )
 
 pub returns-in-Some-clause-sessions : goal.returns-in-Some-clause-sessions
