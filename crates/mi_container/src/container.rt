@@ -34,6 +34,7 @@ use std::alloc::{AllocError, Global};
 ///
 /// `held` has the ids that stand in the nodes of the container's pool, one for each node: what memory has, and not what
 /// the data say. `secrets` has the secret of each index that hashes keys: what it chooses, the buckets, is seen in no answer.
+/// No call changes them.
 ///
 /// Calls that compare keys count each comparison on `steps`. In a table whose size has b binary digits a look-up makes at
 /// most 2 b + 1.
@@ -79,7 +80,8 @@ pub trait Container: Drop {
         ensures made { IfOk result (λ p. MakesInsert (shape self.old) before row (plain self.old) p.1 (plain self.new)) }
         ensures refused { IfErr result (λ e. plain self.new ≡ plain self.old) }
         ensures handed_back { IfErr result (λ e. e.1 ≡ row) }
-        ensures shape { shape self.new ≡ shape self.old };
+        ensures shape { shape self.new ≡ shape self.old }
+        ensures secrets { secrets self.new ≡ secrets self.old };
 
     /// `insert`, without its inverse, which is `Undo::Inserted` of the row that it answers: who notes none lays none down.
     fn insert_row(
@@ -94,7 +96,8 @@ pub trait Container: Drop {
         ensures made { IfOk result (λ r. MakesInsert (shape self.old) before row (plain self.old) (Inserted (row_seen r)) (plain self.new)) }
         ensures refused { IfErr result (λ e. plain self.new ≡ plain self.old) }
         ensures handed_back { IfErr result (λ e. e.1 ≡ row) }
-        ensures shape { shape self.new ≡ shape self.old };
+        ensures shape { shape self.new ≡ shape self.old }
+        ensures secrets { secrets self.new ≡ secrets self.old };
 
     /// Sets another record for an id. Takes no memory. Refusals, in this order: `NoId`, `Spent`, `Unique`. The refused record
     /// is handed back.
@@ -105,7 +108,8 @@ pub trait Container: Drop {
         ensures made { IfOk result (λ i. Makes (shape self.old) (Replace id row) (plain self.old) i (plain self.new)) }
         ensures refused { IfErr result (λ e. plain self.new ≡ plain self.old) }
         ensures handed_back { IfErr result (λ e. e.1 ≡ row) }
-        ensures shape { shape self.new ≡ shape self.old };
+        ensures shape { shape self.new ≡ shape self.old }
+        ensures secrets { secrets self.new ≡ secrets self.old };
 
     /// Changes columns of a record. Where a unique index refuses the result without `rollback` the record is erased: then the
     /// answer is an inverse that is `lost`.
@@ -123,7 +127,8 @@ pub trait Container: Drop {
         ensures made { IfOk result (λ i. MakesModify (lost_to i) (shape self.old) id (plain self.old) i (plain self.new)) }
         ensures loss { IfErr result (λ e. IsNoLoss e) }
         ensures refused { IfErr result (λ e. plain self.new ≡ plain self.old) }
-        ensures shape { shape self.new ≡ shape self.old };
+        ensures shape { shape self.new ≡ shape self.old }
+        ensures secrets { secrets self.new ≡ secrets self.old };
 
     /// Erases a record, whose node is kept for the inverse. Takes no memory. Refusal: `NoId`.
     fn erase(&mut self, id: u64) -> Result<Inverse, Refusal>
@@ -131,7 +136,8 @@ pub trait Container: Drop {
         ensures memory { IfErr result (λ e. e ≢ Memory) }
         ensures made { IfOk result (λ i. Makes (shape self.old) (Erase id None) (plain self.old) i (plain self.new)) }
         ensures refused { IfErr result (λ e. plain self.new ≡ plain self.old) }
-        ensures shape { shape self.new ≡ shape self.old };
+        ensures shape { shape self.new ≡ shape self.old }
+        ensures secrets { secrets self.new ≡ secrets self.old };
 
     /// Moves a record in a sequenced index directly before another, or to its end. Takes no memory. Refusal: `NoId`.
     fn relocate(&mut self, index: usize, id: u64, before: Option<u64>) -> Result<Inverse, Refusal>
@@ -140,20 +146,23 @@ pub trait Container: Drop {
         ensures memory { IfErr result (λ e. e ≢ Memory) }
         ensures made { IfOk result (λ i. Makes (shape self.old) (Relocate index id before) (plain self.old) i (plain self.new)) }
         ensures refused { IfErr result (λ e. plain self.new ≡ plain self.old) }
-        ensures shape { shape self.new ≡ shape self.old };
+        ensures shape { shape self.new ≡ shape self.old }
+        ensures secrets { secrets self.new ≡ secrets self.old };
 
     /// Takes a change back, by its inverse: of the changes not yet taken back it is the newest. Takes no memory.
     fn unwind(&mut self, inverse: Inverse)
         requires ready { Ready inverse (plain self.old) }
         requires before { IsData (shape self.old) (taken_back inverse (plain self.old)) }
         ensures plain { plain self.new ≡ taken_back inverse (plain self.old) }
-        ensures shape { shape self.new ≡ shape self.old };
+        ensures shape { shape self.new ≡ shape self.old }
+        ensures secrets { secrets self.new ≡ secrets self.old };
 
     /// Frees the node that an inverse keeps, if any. Takes no memory.
     fn settle(&mut self, inverse: Inverse)
         requires { KeptBy inverse (plain self.old) }
         ensures plain { plain self.new ≡ settled inverse (plain self.old) }
-        ensures shape { shape self.new ≡ shape self.old };
+        ensures shape { shape self.new ≡ shape self.old }
+        ensures secrets { secrets self.new ≡ secrets self.old };
 
     /// How many records there are.
     fn size(&self) -> u64

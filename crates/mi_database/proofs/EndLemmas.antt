@@ -24,6 +24,7 @@ use Rattle.mi_database.proofs.LoopLemmas.{linked_data}
 -- the n oldest sessions ended
 pub record Ending (n : ℕ) (first now : LinkedData) : Type 0 where
   pub catalog : now.catalog ≡ first.catalog
+  pub secrets : now.secrets ≡ first.secrets
   pub revision : now.revision ≡ first.revision
   pub journal : now.journal ≡ take (length first.journal - n) first.journal
   pub tables : tables_of now.datas ≡ tables_of first.datas
@@ -37,6 +38,7 @@ ending_from h =
     let long : length (old_of h.datas h.journal) ≡ length h.journal = length-old h.journal h.datas in
     record {
       catalog = refl;
+      secrets = refl;
       revision = refl;
       journal = sym (take_all (length h.journal - 0) h.journal (omega arith));
       tables = refl;
@@ -62,6 +64,7 @@ ending_more n first now next e ends =
     let opens = ends.starts in
     record {
       catalog = ends.catalog ∙ e.catalog;
+      secrets = ends.secrets ∙ e.secrets;
       revision = ends.revision ∙ e.revision;
       journal = ends.journal ∙ newer_take (d - n) first.journal now.journal e.journal (omega arith) ∙ ap (λ k. take k first.journal) less;
       tables = ends.tables ∙ e.tables;
@@ -214,5 +217,6 @@ squash_joins old j' left some more =
 pub record Undoing (left all : ℕ) (first now : LinkedData) : Type 0 where
   pub state : undone_times left (meaning now) ≡ undone_times all (meaning first)
   pub open_ : length now.journal ≡ left
+  pub secrets : now.secrets ≡ first.secrets
   pub changes : first.changes ≤ now.changes
   pub starts : first.starts ≤ now.starts

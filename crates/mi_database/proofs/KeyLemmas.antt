@@ -90,6 +90,7 @@ some_found P (a ∷ ids) some r is never = absurd (never a is)
 -- while the rows of a key are erased
 pub record Erasing (n x : ℕ) (key : List Value) (rows i : ℕ) (first now : LinkedData) : Type 0 where
   pub catalog : now.catalog ≡ first.catalog
+  pub secrets : now.secrets ≡ first.secrets
   pub open_ : length now.journal ≡ length first.journal
   pub left : length (keyed n x key (meaning now)) + i ≡ rows
   pub all : (erase_key_step n x key (meaning now)).1 ≡ (erase_key_step n x key (meaning first)).1

@@ -1,5 +1,5 @@
 -- What a change of one container, with its inverse noted or settled, leaves.
-use Rattle.std.proofs.Common.{◌≡◌, Option, None, Some, ℕ, ◌<◌, List, [], ◌∷◌, map, length, set, get_or, refl, ap, ap₂, sym, ◌∙◌, subst, arith}
+use Rattle.std.proofs.Common.{◌≡◌, Option, None, Some, ℕ, zero, suc, ◌<◌, List, [], ◌∷◌, map, length, set, get_or, refl, ap, ap₂, sym, ◌∙◌, subst, arith}
 use Rattle.std.proofs.lemmas.List.{map-set, length-set, get_or-map, set-set, get_or-set_same, set-get_or, length-map}
 use Rattle.mi_catalog.specs.Shape.{Shape, CatalogShape, schema_at}
 use Rattle.mi_model.specs.Database.{with_table}
@@ -62,6 +62,12 @@ pub same_shapes : {X : Type 0} (shape : X → Shape) (cs : List X) (n : ℕ) (k 
     → map shape (set cs n k') ≡ map shape cs
 same_shapes shape cs n k k' l is same =
     map-set shape cs n k' ∙ ap (set (map shape cs) n) (same ∙ ap shape is ∙ sym (get_or-map shape cs n k (shape k) l)) ∙ set-get_or (map shape cs) n (shape k)
+
+-- a container that keeps something of itself leaves the list of it
+pub stays_at : {X Y : Type 0} (f : X → Y) (cs : List X) (n : ℕ) (k k' : X) → k ≡ get_or cs n k → f k' ≡ f k → map f (set cs n k') ≡ map f cs
+stays_at f [] n k k' is same = refl
+stays_at f (c ∷ cs) zero k k' is same = ap (λ y. y ∷ map f cs) (same ∙ ap f is)
+stays_at f (c ∷ cs) (suc n) k k' is same = ap (λ ys. f c ∷ ys) (stays_at f cs n k k' is same)
 
 -- a change that a container made, with its inverse kept
 pub record Made {X : Type 0} (shape : X → Shape) (plain : X → Data) (cs after : List X) (n : ℕ) (k k' : X) (i : Inverse) (j noted_ : Journal) : Type 0 where

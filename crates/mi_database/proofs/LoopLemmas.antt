@@ -159,6 +159,7 @@ module _ {X : Type 0} (shape : X → Shape) (plain : X → Data) (c : CatalogSha
 -- while the newest session is unwound
 pub record Unwinding (first now : LinkedData) : Type 0 where
   pub catalog : now.catalog ≡ first.catalog
+  pub secrets : now.secrets ≡ first.secrets
   pub revision : now.revision ≡ first.revision
   pub datas : unwound (newest_of now.journal) now.datas ≡ unwound (newest_of first.journal) first.datas
   pub older : older_of now.journal ≡ older_of first.journal
@@ -169,6 +170,7 @@ pub record Unwinding (first now : LinkedData) : Type 0 where
 -- while the oldest session is settled
 pub record Settling (first now : LinkedData) : Type 0 where
   pub catalog : now.catalog ≡ first.catalog
+  pub secrets : now.secrets ≡ first.secrets
   pub revision : now.revision ≡ first.revision
   pub newer : newer_than_oldest now.journal ≡ newer_than_oldest first.journal
   pub open_ : length now.journal ≡ length first.journal
@@ -178,7 +180,7 @@ pub record Settling (first now : LinkedData) : Type 0 where
   pub starts : now.starts ≡ first.starts
 
 pub unwinding_from : (h : LinkedData) → Unwinding h h
-unwinding_from h = record { catalog = refl; revision = refl; datas = refl; older = refl; open_ = refl; changes = omega arith; starts = refl }
+unwinding_from h = record { catalog = refl; secrets = refl; revision = refl; datas = refl; older = refl; open_ = refl; changes = omega arith; starts = refl }
 
 back_more : (j : Journal) (ds : List Data) → unwound (newest_of (without_entry j)) (back_by (newest_of j) ds) ≡ unwound (newest_of j) ds
 back_more [] ds = refl
@@ -207,11 +209,13 @@ newest_empty ((e ∷ es) ∷ older) none some = absurd (false≢true none)
 
 pub unwinding_more : (first now next : LinkedData) → Unwinding first now → next.datas ≡ back_by (newest_of now.journal) now.datas
     → next.journal ≡ without_entry now.journal
-    → next.catalog ≡ now.catalog → next.revision ≡ now.revision → now.changes ≤ next.changes → next.starts ≡ now.starts → Unwinding first next
-unwinding_more first now next u datas journal catalog revision changes starts =
+    → next.catalog ≡ now.catalog → next.secrets ≡ now.secrets → next.revision ≡ now.revision → now.changes ≤ next.changes → next.starts ≡ now.starts
+    → Unwinding first next
+unwinding_more first now next u datas journal catalog secrets revision changes starts =
     let rose = u.changes in
     record {
       catalog = catalog ∙ u.catalog;
+      secrets = secrets ∙ u.secrets;
       revision = revision ∙ u.revision;
       datas = ap₂ (λ p q. unwound (newest_of p) q) journal datas ∙ back_more now.journal now.datas ∙ u.datas;
       older = ap older_of journal ∙ older_more now.journal ∙ u.older;
@@ -227,6 +231,7 @@ unwinding_done first now u some none =
     let empty : now.journal ≡ [] ∷ older_of now.journal = newest_empty now.journal none (omega (arith, long)) in
     record {
       catalog = u.catalog;
+      secrets = u.secrets;
       revision = u.revision;
       datas = sym (ap (λ q. unwound (newest_of q) now.datas) empty) ∙ u.datas;
       journal = empty ∙ ap (λ q. [] ∷ q) u.older;
@@ -235,14 +240,15 @@ unwinding_done first now u some none =
     }
 
 pub settling_from : (h : LinkedData) → Settling h h
-settling_from h = record { catalog = refl; revision = refl; newer = refl; open_ = refl; tables = refl; old_ = refl; changes = omega arith; starts = refl }
+settling_from h = record { catalog = refl; secrets = refl; revision = refl; newer = refl; open_ = refl; tables = refl; old_ = refl; changes = omega arith; starts = refl }
 
-pub settling_more : (first now next : LinkedData) → Settling first now → SettlesSome now next → next.catalog ≡ now.catalog → next.revision ≡ now.revision
-    → now.changes ≤ next.changes → next.starts ≡ now.starts → Settling first next
-settling_more first now next u s catalog revision changes starts =
+pub settling_more : (first now next : LinkedData) → Settling first now → SettlesSome now next → next.catalog ≡ now.catalog → next.secrets ≡ now.secrets
+    → next.revision ≡ now.revision → now.changes ≤ next.changes → next.starts ≡ now.starts → Settling first next
+settling_more first now next u s catalog secrets revision changes starts =
     let rose = u.changes in
     record {
       catalog = catalog ∙ u.catalog;
+      secrets = secrets ∙ u.secrets;
       revision = revision ∙ u.revision;
       newer = s.newer ∙ u.newer;
       open_ = s.open_ ∙ u.open_;
@@ -277,16 +283,17 @@ ends_law c ss ds j j' r split is =
     }
 
 pub ended_law : (first now next : LinkedData) (j' : Journal) (changes' starts' : ℕ) (held' : List (List ℕ)) (secrets' : List (List (Option ℕ))) → Settling first now → SettlesNone now next
-    → next.catalog ≡ now.catalog
+    → next.catalog ≡ now.catalog → secrets' ≡ now.secrets
     → next.revision ≡ now.revision → now.changes ≤ next.changes → next.starts ≡ now.starts
     → next.journal ≡ j' ++ [] ∷ [] → changes' ≡ next.changes → starts' ≡ next.starts + 1
     → EndsOldest first (linked_data next.catalog next.datas j' next.revision changes' starts' held' secrets')
-ended_law first now next j' changes' starts' held' secrets' u s catalog revision changes starts split stay more =
+ended_law first now next j' changes' starts' held' secrets' u s catalog secrets revision changes starts split stay more =
     let rose = u.changes in
     let same = u.starts in
     let left : j' ≡ newer_than_oldest next.journal = sym (newer_than_push j' []) ∙ sym (ap newer_than_oldest split) in
     record {
       catalog = catalog ∙ u.catalog;
+      secrets = secrets ∙ u.secrets;
       revision = revision ∙ u.revision;
       journal = left ∙ ap newer_than_oldest s.journal ∙ u.newer;
       tables = ap tables_of s.datas ∙ u.tables;

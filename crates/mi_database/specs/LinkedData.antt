@@ -99,6 +99,7 @@ SettlesOne false old new = SettlesNone old new
 -- all changes of the newest session taken back, which stays open
 pub record UnwindsNewest (old new : LinkedData) : Type 0 where
   pub catalog : new.catalog ≡ old.catalog
+  pub secrets : new.secrets ≡ old.secrets
   pub revision : new.revision ≡ old.revision
   pub datas : new.datas ≡ unwound (newest_of old.journal) old.datas
   pub journal : new.journal ≡ [] ∷ older_of old.journal
@@ -108,6 +109,7 @@ pub record UnwindsNewest (old new : LinkedData) : Type 0 where
 -- the oldest session ended, and its changes settled
 pub record EndsOldest (old new : LinkedData) : Type 0 where
   pub catalog : new.catalog ≡ old.catalog
+  pub secrets : new.secrets ≡ old.secrets
   pub revision : new.revision ≡ old.revision
   pub journal : new.journal ≡ newer_than_oldest old.journal
   pub tables : tables_of new.datas ≡ tables_of old.datas

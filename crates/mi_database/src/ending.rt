@@ -15,6 +15,7 @@ impl<C: Container> Linked<C> {
         ensures journal { self.new.journal ≡ without_entry self.old.journal }
         ensures more { result ≡ is_some (newest_entry self.old.journal) }
         ensures catalog { self.new.catalog ≡ self.old.catalog }
+        ensures secrets { self.new.secrets ≡ self.old.secrets }
         ensures revision { self.new.revision ≡ self.old.revision }
         ensures changes { self.old.changes ≤ self.new.changes }
         ensures starts { self.new.starts ≡ self.old.starts }
@@ -30,6 +31,7 @@ impl<C: Container> Linked<C> {
     fn settle_one(&mut self) -> bool
         ensures settles { SettlesOne result self.old self.new }
         ensures catalog { self.new.catalog ≡ self.old.catalog }
+        ensures secrets { self.new.secrets ≡ self.old.secrets }
         ensures revision { self.new.revision ≡ self.old.revision }
         ensures changes { self.old.changes ≤ self.new.changes }
         ensures starts { self.new.starts ≡ self.old.starts }

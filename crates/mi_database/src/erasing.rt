@@ -21,6 +21,7 @@ impl<C: Container> Linked<C> {
         ensures memory { result ≢ Err Memory }
         ensures footprint { KeptAfter (EraseCommand table id) result self.old self.new }
         ensures catalog { self.new.catalog ≡ self.old.catalog }
+        ensures secrets { self.new.secrets ≡ self.old.secrets }
         ensures depth { length self.new.journal ≡ length self.old.journal }
         ensures changes { self.old.changes ≤ self.new.changes + 1 }
         ensures unspent { IfErr result (λ e. self.old.changes ≤ self.new.changes) }
@@ -45,6 +46,7 @@ impl<C: Container> Linked<C> {
         ensures footprint { kept_with table index key.now self.new ≡ kept_with table index key.now self.old }
         ensures one { ErasesOne table index key.now (meaning self.old) (meaning self.new) }
         ensures catalog { self.new.catalog ≡ self.old.catalog }
+        ensures secrets { self.new.secrets ≡ self.old.secrets }
         ensures depth { length self.new.journal ≡ length self.old.journal }
         ensures changes { self.old.changes ≤ self.new.changes + 1 }
         ensures starts { self.new.starts ≡ self.old.starts }

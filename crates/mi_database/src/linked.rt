@@ -97,6 +97,7 @@ pub(crate) fn keep<C: Container>(
     requires within { IsWithin journal.old.most inverse }
     ensures datas { map C.plain containers.new.items ≡ kept_datas table inverse journal.old.sessions (map C.plain containers.old.items) }
     ensures shapes { map C.shape containers.new.items ≡ map C.shape containers.old.items }
+    ensures secrets { map C.secrets containers.new.items ≡ map C.secrets containers.old.items }
     ensures journal { journal.new.sessions ≡ noted (table, inverse) journal.old.sessions }
     ensures changes { journal.old.changes ≤ journal.new.changes + 1 }
     ensures starts { journal.new.starts ≡ journal.old.starts }

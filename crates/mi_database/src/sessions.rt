@@ -65,6 +65,7 @@ impl<C: Container> Sessions for Linked<C> {
         ensures changes { self.old.changes ≤ self.new.changes + 1 }
         ensures unspent { IfErr result (λ e. self.old.changes ≤ self.new.changes) }
         ensures starts { self.old.starts ≤ self.new.starts }
+        ensures secrets { self.new.secrets ≡ self.old.secrets }
     {
         if self.make_room(1).is_err() {
             return Err((Refusal::Memory, row));
@@ -95,6 +96,7 @@ impl<C: Container> Sessions for Linked<C> {
         ensures changes { self.old.changes ≤ self.new.changes + 1 }
         ensures unspent { IfErr result (λ e. self.old.changes ≤ self.new.changes) }
         ensures starts { self.old.starts ≤ self.new.starts }
+        ensures secrets { self.new.secrets ≡ self.old.secrets }
     {
         let _ = alloc;
         if self.make_room(1).is_err() {
@@ -124,6 +126,7 @@ impl<C: Container> Sessions for Linked<C> {
         ensures changes { self.old.changes ≤ self.new.changes + 1 }
         ensures unspent { IfErr result (λ e. IsNoLoss e → self.old.changes ≤ self.new.changes) }
         ensures starts { self.old.starts ≤ self.new.starts }
+        ensures secrets { self.new.secrets ≡ self.old.secrets }
     {
         if self.make_room(1).is_err() {
             return Err(Refusal::Memory);
@@ -146,6 +149,7 @@ impl<C: Container> Sessions for Linked<C> {
         ensures changes { self.old.changes ≤ self.new.changes + 1 }
         ensures unspent { IfErr result (λ e. self.old.changes ≤ self.new.changes) }
         ensures starts { self.old.starts ≤ self.new.starts }
+        ensures secrets { self.new.secrets ≡ self.old.secrets }
     {
         let _ = alloc;
         if self.make_room(1).is_err() {
@@ -170,6 +174,7 @@ impl<C: Container> Sessions for Linked<C> {
         ensures changes { self.old.changes ≤ self.new.changes + length (keyed table index key.now (meaning self.old)) }
         ensures unspent { IfErr result (λ e. self.old.changes ≤ self.new.changes) }
         ensures starts { self.old.starts ≤ self.new.starts }
+        ensures secrets { self.new.secrets ≡ self.old.secrets }
     {
         let _ = alloc;
         let rows = self.at(table).count(index, key);
@@ -198,6 +203,7 @@ impl<C: Container> Sessions for Linked<C> {
         ensures changes { self.old.changes ≤ self.new.changes + 1 }
         ensures unspent { IfErr result (λ e. self.old.changes ≤ self.new.changes) }
         ensures starts { self.old.starts ≤ self.new.starts }
+        ensures secrets { self.new.secrets ≡ self.old.secrets }
     {
         let _ = alloc;
         if self.make_room(1).is_err() {
@@ -291,6 +297,7 @@ impl<C: Container> Sessions for Linked<C> {
         ensures changes { self.old.changes ≤ self.new.changes }
         ensures starts { self.old.starts ≤ self.new.starts + 1 }
         ensures unspent { IfErr result (λ e. self.old.starts ≤ self.new.starts) }
+        ensures secrets { self.new.secrets ≡ self.old.secrets }
     {
         let _ = alloc;
         if self.revision == LAST_COUNT {
@@ -314,6 +321,7 @@ impl<C: Container> Sessions for Linked<C> {
         ensures footprint { kept_rows self.new ≡ kept_after UndoCommand (meaning self.old) (kept_rows self.old) }
         ensures changes { self.old.changes ≤ self.new.changes }
         ensures starts { self.old.starts ≤ self.new.starts }
+        ensures secrets { self.new.secrets ≡ self.old.secrets }
     {
         if self.journal.depth() == 0 {
             return Err(NoSession);
@@ -330,6 +338,7 @@ impl<C: Container> Sessions for Linked<C> {
         ensures footprint { kept_rows self.new ≡ kept_after SquashCommand (meaning self.old) (kept_rows self.old) }
         ensures changes { self.old.changes ≤ self.new.changes }
         ensures starts { self.old.starts ≤ self.new.starts }
+        ensures secrets { self.new.secrets ≡ self.old.secrets }
     {
         let open = self.journal.depth();
         if open == 0 {
@@ -351,6 +360,7 @@ impl<C: Container> Sessions for Linked<C> {
         ensures footprint { kept_rows self.new ≡ kept_after (CommitCommand number) (meaning self.old) (kept_rows self.old) }
         ensures changes { self.old.changes ≤ self.new.changes }
         ensures starts { self.old.starts ≤ self.new.starts }
+        ensures secrets { self.new.secrets ≡ self.old.secrets }
     {
         let open = self.journal.depth() as u64;
         let ending = number.saturating_sub(self.revision - open).min(open);
@@ -366,6 +376,7 @@ impl<C: Container> Sessions for Linked<C> {
         ensures footprint { kept_rows self.new ≡ kept_after UndoAllCommand (meaning self.old) (kept_rows self.old) }
         ensures changes { self.old.changes ≤ self.new.changes }
         ensures starts { self.old.starts ≤ self.new.starts }
+        ensures secrets { self.new.secrets ≡ self.old.secrets }
     {
         let open = self.depth();
         for _ in 0..open {

@@ -25,6 +25,7 @@ pub mod AcceptLemmas
 pub mod HeldLemmas
 pub mod RelocateLemmas
 pub mod IndexNumberLemmas
+pub mod SecretLemmas
 pub mod ViewLemmas
 pub mod FoundIdLemmas
 pub mod LookUpLemmas

@@ -73,6 +73,7 @@ impl MultiIndex {
         ensures refused { IfErr result (λ _. self.new.plain ≡ self.old.plain) }
         ensures handed_back { IfErr result (λ e. e ≡ row) }
         ensures shape { self.new.shape ≡ self.old.shape }
+        ensures secrets { self.new.secrets ≡ self.old.secrets }
     {
         if self.ids.len() >= MOST_NODES {
             return Err(row);
@@ -151,6 +152,7 @@ impl MultiIndex {
         ensures refused { IfErr result (λ e. self.new.plain ≡ self.old.plain) }
         ensures handed_back { IfErr result (λ e. e.1 ≡ row) }
         ensures shape { self.new.shape ≡ self.old.shape }
+        ensures secrets { self.new.secrets ≡ self.old.secrets }
     {
         match self.insert_row(alloc, row, before) {
             Ok(inserted) => {
@@ -175,6 +177,7 @@ impl MultiIndex {
         ensures refused { IfErr result (λ e. self.new.plain ≡ self.old.plain) }
         ensures handed_back { IfErr result (λ e. e.1 ≡ row) }
         ensures shape { self.new.shape ≡ self.old.shape }
+        ensures secrets { self.new.secrets ≡ self.old.secrets }
     {
         self.keeps_rules();
         if let Some(refusal) = self.insert_refusal(&row, before) {
@@ -193,6 +196,7 @@ impl MultiIndex {
         requires before { IsData self.old.shape (taken_back (Inserted (row_seen row)) self.old.plain) }
         ensures plain { self.new.plain ≡ taken_back (Inserted (row_seen row)) self.old.plain }
         ensures shape { self.new.shape ≡ self.old.shape }
+        ensures secrets { self.new.secrets ≡ self.old.secrets }
     {
         self.nodes.take_out(row.node);
         let freed = self.nodes.free(row.node);
@@ -209,6 +213,7 @@ impl MultiIndex {
         requires before { IsData self.old.shape (taken_back (Relocated index (row_seen row) (option_map row_seen behind)) self.old.plain) }
         ensures plain { self.new.plain ≡ taken_back (Relocated index (row_seen row) (option_map row_seen behind)) self.old.plain }
         ensures shape { self.new.shape ≡ self.old.shape }
+        ensures secrets { self.new.secrets ≡ self.old.secrets }
     {
         self.nodes.relocate(index, row.node, node_of(behind));
     }
@@ -218,6 +223,7 @@ impl MultiIndex {
         requires { KeptBy inverse self.old.plain }
         ensures plain { self.new.plain ≡ settled inverse self.old.plain }
         ensures shape { self.new.shape ≡ self.old.shape }
+        ensures secrets { self.new.secrets ≡ self.old.secrets }
     {
         let Some(row) = kept_row(inverse) else {
             return;

@@ -104,6 +104,7 @@ impl MultiIndex {
         ensures made { IfOk result (λ i. Makes self.old.shape (Erase id why) self.old.plain i self.new.plain) }
         ensures refused { IfErr result (λ e. self.new.plain ≡ self.old.plain) }
         ensures shape { self.new.shape ≡ self.old.shape }
+        ensures secrets { self.new.secrets ≡ self.old.secrets }
     {
         let Some(node) = self.ids.live(id) else {
             return Err(Refusal::NoId);
@@ -120,6 +121,7 @@ impl MultiIndex {
         ensures made { IfOk result (λ i. Makes self.old.shape (Erase id None) self.old.plain i self.new.plain) }
         ensures refused { IfErr result (λ e. self.new.plain ≡ self.old.plain) }
         ensures shape { self.new.shape ≡ self.old.shape }
+        ensures secrets { self.new.secrets ≡ self.old.secrets }
     {
         self.erase_for(id, None)
     }
@@ -130,6 +132,7 @@ impl MultiIndex {
         requires before { IsData self.old.shape (taken_back (Erased (row_seen row) None) self.old.plain) }
         ensures plain { self.new.plain ≡ taken_back (Erased (row_seen row) None) self.old.plain }
         ensures shape { self.new.shape ≡ self.old.shape }
+        ensures secrets { self.new.secrets ≡ self.old.secrets }
     {
         self.nodes.put_back(row.node);
         self.ids.revive(row.id);
@@ -140,6 +143,7 @@ impl MultiIndex {
         requires { KeptBy (Erased (row_seen row) None) self.old.plain }
         ensures plain { self.new.plain ≡ settled (Erased (row_seen row) None) self.old.plain }
         ensures shape { self.new.shape ≡ self.old.shape }
+        ensures secrets { self.new.secrets ≡ self.old.secrets }
     {
         let freed = self.nodes.free(row.node);
         drop(freed);

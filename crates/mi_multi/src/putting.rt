@@ -79,6 +79,7 @@ impl MultiIndex {
         ensures made { Makes self.old.shape (Replace id row) self.old.plain
             (Put (record { id = id; at = node }) (old_seen result places.new.items)) self.new.plain }
         ensures shape { self.new.shape ≡ self.old.shape }
+        ensures secrets { self.new.secrets ≡ self.old.secrets }
     {
         self.old_places(id, node, &row, marks, places);
         let stored = Stored { id, row };

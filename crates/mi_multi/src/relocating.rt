@@ -63,6 +63,7 @@ impl MultiIndex {
         requires before { IsOther self.old.plain.rows row.id (option_map row_seen before) }
         ensures made { Makes self.old.shape (Relocate index row.id (option_map (λ b. b.id) before)) self.old.plain result self.new.plain }
         ensures shape { self.new.shape ≡ self.old.shape }
+        ensures secrets { self.new.secrets ≡ self.old.secrets }
     {
         self.keeps_rules();
         let RowRef { id, node } = row;
@@ -85,6 +86,7 @@ impl MultiIndex {
         ensures made { IfOk result (λ i. Makes self.old.shape (Relocate index id before) self.old.plain i self.new.plain) }
         ensures refused { IfErr result (λ e. self.new.plain ≡ self.old.plain) }
         ensures shape { self.new.shape ≡ self.old.shape }
+        ensures secrets { self.new.secrets ≡ self.old.secrets }
     {
         self.keeps_rules();
         let Some(row) = self.live_row(id) else {

@@ -48,6 +48,7 @@ impl MultiIndex {
         ensures refused { IfErr result (λ e. self.new.plain ≡ self.old.plain) }
         ensures handed_back { IfErr result (λ e. e.1 ≡ row) }
         ensures shape { self.new.shape ≡ self.old.shape }
+        ensures secrets { self.new.secrets ≡ self.old.secrets }
     {
         self.keeps_rules();
         let Some(node) = self.ids.live(id) else {
@@ -91,6 +92,7 @@ impl MultiIndex {
         ensures loss { IfErr result (λ e. IsNoLoss e) }
         ensures refused { IfErr result (λ e. self.new.plain ≡ self.old.plain) }
         ensures shape { self.new.shape ≡ self.old.shape }
+        ensures secrets { self.new.secrets ≡ self.old.secrets }
     {
         self.keeps_rules();
         if self.arrivals == LAST_COUNT {
@@ -125,6 +127,7 @@ impl MultiIndex {
         ensures loss { IfErr result (λ e. IsNoLoss e) }
         ensures refused { IfErr result (λ e. self.new.plain ≡ self.old.plain) }
         ensures shape { self.new.shape ≡ self.old.shape }
+        ensures secrets { self.new.secrets ≡ self.old.secrets }
     {
         let Some(node) = self.ids.live(id) else {
             return Err(Refusal::NoId);

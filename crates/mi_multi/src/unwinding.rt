@@ -20,6 +20,7 @@ impl MultiIndex {
         requires before { IsData self.old.shape (taken_back (Put (row_seen row) (old_seen old places.now.items)) self.old.plain) }
         ensures plain { self.new.plain ≡ taken_back (Put (row_seen row) (old_seen old places.now.items)) self.old.plain }
         ensures shape { self.new.shape ≡ self.old.shape }
+        ensures secrets { self.new.secrets ≡ self.old.secrets }
     {
         let stored = Stored {
             id: row.id,
@@ -38,6 +39,7 @@ impl MultiIndex {
         requires before { IsData self.old.shape (taken_back inverse self.old.plain) }
         ensures plain { self.new.plain ≡ taken_back inverse self.old.plain }
         ensures shape { self.new.shape ≡ self.old.shape }
+        ensures secrets { self.new.secrets ≡ self.old.secrets }
     {
         match inverse.undo() {
             Undo::Inserted(row) => self.take_back_inserted(row),

@@ -15,7 +15,7 @@ loop-smaller g c = let fewer = c.loop-test.ensures.settles.fewer in omega (arith
 pub loop-preserved : goal.loop-preserved
 loop-preserved g c =
     let e = c.loop-test.ensures in
-    settling_more c.args.self.now c.loop.self c.settle_one.new.self c.loop.invariant e.settles e.catalog e.revision e.changes e.starts
+    settling_more c.args.self.now c.loop.self c.settle_one.new.self c.loop.invariant e.settles e.catalog e.secrets e.revision e.changes e.starts
 
 pub end_oldest-requires : goal.end_oldest-requires
 end_oldest-requires g c =
@@ -36,6 +36,6 @@ returns g c =
     let next = c.settle_one.new.self in
     let was = c.self.view_is in
     subst (λ (h : LinkedData). EndsOldest c.args.self.now (linked_data h.catalog h.datas j.sessions h.revision j.changes j.starts h.held h.secrets)) (sym was)
-    (ended_law c.args.self.now c.loop.self next j.sessions j.changes j.starts next.held next.secrets c.loop.invariant e.settles e.catalog e.revision e.changes e.starts
+    (ended_law c.args.self.now c.loop.self next j.sessions j.changes j.starts next.held next.secrets c.loop.invariant e.settles e.catalog e.secrets e.revision e.changes e.starts
     (sym (ap (λ (h : LinkedData). h.journal) was) ∙ c.end_oldest.ensures.sessions) (c.end_oldest.ensures.changes ∙ ap (λ (h : LinkedData). h.changes) was)
     (c.end_oldest.ensures.starts ∙ ap (λ (h : LinkedData). h.starts + 1) was))

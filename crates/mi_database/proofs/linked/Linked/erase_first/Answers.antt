@@ -26,6 +26,7 @@ returns-in-Some g c =
           row.ensures.memory row.ensures.footprint;
       one = subst (ErasesOne n x key d) (sym erased) (erases_one n x c.in-Some.id key d c.at.ensures.within first);
       catalog = row.ensures.catalog;
+      secrets = row.ensures.secrets;
       depth = row.ensures.depth;
       changes = row.ensures.changes;
       starts = row.ensures.starts;

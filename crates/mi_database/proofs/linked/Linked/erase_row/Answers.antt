@@ -12,6 +12,7 @@ use Rattle.mi_journal.specs.Noted.{noted}
 use Rattle.mi_database.specs.LinkedData.{LinkedData, data_seen, meaning}
 use Rattle.mi_database.proofs.KeptLemmas.{erase_keeps, erase_refused, refused_keeps, met_refusal}
 use Rattle.mi_database.specs.Most.{AllHaveAtMost}
+use Rattle.mi_database.proofs.LinkedDataLemmas.{stays_at}
 use Rattle.mi_database.proofs.ChangeLemmas.{SpotIn, spot, spot_keeps, spot_within, spot_held, spot_outcome, spot_stays, spot_refused}
 use Rattle.mi_database.proofs.linked.Linked.erase_row.Given.{Over}
 use Rattle.mi_database.proofs.linked.Linked.erase_row.Goals.{After-erase}
@@ -69,3 +70,15 @@ returns-in-Err-clause-footprint g c =
     (erase_refused c.args.table c.args.id c.args.self.now new c.in-Err.refused (ap (λ (h : LinkedData). h.journal) c.self.view_is)
     (met_refusal (erase_step c.args.table c.args.id (meaning c.args.self.now)) c.in-Err.refused (meaning c.args.self.now) (meaning new) never
     (returns-in-Err-clause-outcome g c)))
+
+pub returns-in-Ok-clause-secrets : goal.returns-in-Ok-clause-secrets
+returns-in-Ok-clause-secrets g c =
+    c.keep.ensures.secrets ∙ stays_at g.C.Container.secrets c.self.inside.containers.items c.args.table c.index_mut.result.now c.erase.new.self
+    c.index_mut.ensures.value c.erase.ensures.secrets
+    ∙ ap (λ (h : LinkedData). h.secrets) c.self.view_is
+
+pub returns-in-Err-clause-secrets : goal.returns-in-Err-clause-secrets
+returns-in-Err-clause-secrets g c =
+    stays_at g.C.Container.secrets c.self.inside.containers.items c.args.table c.index_mut.result.now c.erase.new.self
+    c.index_mut.ensures.value c.erase.ensures.secrets
+    ∙ ap (λ (h : LinkedData). h.secrets) c.self.view_is

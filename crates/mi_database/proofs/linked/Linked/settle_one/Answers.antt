@@ -6,7 +6,7 @@ use Rattle.mi_container.specs.Fits.{KeptBy}
 use Rattle.mi_inverses.proofs.SettleLemmas.{settles_alike, kept_alike}
 use Rattle.mi_database.specs.LinkedData.{LinkedData, SettlesSome}
 use Rattle.mi_database.specs.Most.{AllHaveAtMost}
-use Rattle.mi_database.proofs.LinkedDataLemmas.{set_data}
+use Rattle.mi_database.proofs.LinkedDataLemmas.{set_data, stays_at}
 use Rattle.mi_database.proofs.LoopLemmas.{linked_data, oldest_within, settle_law}
 use Rattle.mi_database.proofs.linked.Linked.settle_one.Goals as goal
 
@@ -61,3 +61,9 @@ returns-clause-settles g c =
     (map g.C.Container.secrets (set a.containers.items c.in-Some.table c.settle.new.self)) t.2
     c.index_mut.ensures.value (c.settle.ensures.plain ∙ ap (λ (i : Inverse). settled i d) t.1 ∙ settles_alike t.0 d) c.settle.ensures.shape
     c.self.invariant.0).1
+
+pub returns-clause-secrets : goal.returns-clause-secrets
+returns-clause-secrets g c =
+    stays_at g.C.Container.secrets c.self.inside.containers.items c.in-Some.table c.index_mut.result.now c.settle.new.self
+    c.index_mut.ensures.value c.settle.ensures.secrets
+    ∙ ap (λ (h : LinkedData). h.secrets) c.self.view_is

@@ -15,12 +15,12 @@ loop-smaller g c = one_less c.loop.self.journal c.unwind_one.new.self.journal c.
 pub loop-preserved : goal.loop-preserved
 loop-preserved g c =
     let e = c.unwind_one.ensures in
-    unwinding_more c.args.self.now c.loop.self c.unwind_one.new.self c.loop.invariant e.datas e.journal e.catalog e.revision e.changes e.starts
+    unwinding_more c.args.self.now c.loop.self c.unwind_one.new.self c.loop.invariant e.datas e.journal e.catalog e.secrets e.revision e.changes e.starts
 
 pub returns : goal.returns
 returns g c =
     let e = c.unwind_one.ensures in
     let all : Unwinding c.args.self.now c.unwind_one.new.self =
-    unwinding_more c.args.self.now c.loop.self c.unwind_one.new.self c.loop.invariant e.datas e.journal e.catalog e.revision e.changes e.starts in
+    unwinding_more c.args.self.now c.loop.self c.unwind_one.new.self c.loop.invariant e.datas e.journal e.catalog e.secrets e.revision e.changes e.starts in
     unwinding_done c.args.self.now c.unwind_one.new.self all c.requires
     (none_stays c.loop.self.journal (sym c.loop-test.false ∙ e.more) ∙ sym (ap (λ (j : Journal). is_some (newest_entry j)) e.journal))

@@ -2,6 +2,7 @@
 use Rattle.std.proofs.Common.{◌∙◌, ap, sym, subst}
 use Rattle.mi_database.specs.LinkedData.{LinkedData, newest_of, back_by}
 use Rattle.mi_database.specs.Most.{AllHaveAtMost}
+use Rattle.mi_database.proofs.LinkedDataLemmas.{stays_at}
 use Rattle.mi_database.proofs.LoopLemmas.{unwind_law}
 use Rattle.mi_database.proofs.linked.Linked.unwind_one.Goals as goal
 
@@ -21,3 +22,9 @@ returns-clause-datas g c =
     a.revision a.journal.sessions c.pop.new.self.sessions (sym c.in-Some.is ∙ c.pop.ensures.entry) c.pop.ensures.sessions c.index_mut.ensures.value
     c.unwind.ensures.plain c.unwind.ensures.shape c.self.invariant.0).1
     ∙ ap (λ (h : LinkedData). back_by (newest_of h.journal) h.datas) c.self.view_is
+
+pub returns-clause-secrets : goal.returns-clause-secrets
+returns-clause-secrets g c =
+    stays_at g.C.Container.secrets c.self.inside.containers.items c.in-Some.table c.index_mut.result.now c.unwind.new.self
+    c.index_mut.ensures.value c.unwind.ensures.secrets
+    ∙ ap (λ (h : LinkedData). h.secrets) c.self.view_is

@@ -28,5 +28,6 @@ returns g c =
       state = all.1;
       footprint = end_keeps c.min-ending.result c.args.number first c.loop.self.journal ended.journal all.0;
       changes = ended.changes;
+      secrets = ended.secrets;
       starts = ended.starts;
     }

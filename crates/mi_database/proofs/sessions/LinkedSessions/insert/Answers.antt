@@ -1,5 +1,5 @@
 -- What the container answers and leaves, the database does.
-use Rattle.std.proofs.Common.{◌∙◌, map, set, refl, sym, subst}
+use Rattle.std.proofs.Common.{◌∙◌, ap, map, set, refl, sym, subst}
 use Rattle.std.specs.Prelude.{Ok, Err}
 use Rattle.mi_model.specs.Verdict.{insert_outcome}
 use Rattle.mi_model.specs.Run.Command.{Insert as TheCommand}
@@ -8,7 +8,8 @@ use Rattle.mi_container.specs.Inverse.Inverse.{Inserted}
 use Rattle.mi_container.specs.Run.Change.{Insert}
 use Rattle.mi_database.specs.Kept.{kept_rows}
 use Rattle.mi_database.proofs.KeptLemmas.{none_more}
-use Rattle.mi_database.proofs.LinkedDataLemmas.{inserted_stays}
+use Rattle.mi_database.specs.LinkedData.{LinkedData}
+use Rattle.mi_database.proofs.LinkedDataLemmas.{stays_at, inserted_stays}
 use Rattle.mi_database.specs.Most.{AllHaveAtMost}
 use Rattle.mi_database.proofs.ChangeLemmas.{SpotIn, spot, spot_within, spot_held, spot_outcome, spot_plain, spot_stays, spot_refused, spot_unkept}
 use Rattle.mi_database.proofs.sessions.LinkedSessions.insert.Given.{Over}
@@ -54,3 +55,15 @@ returns-in-Err-clause-footprint g c = spot_unkept (at g (goal.at.returns-in-Err-
     (TheCommand c.args.table c.args.before c.args.row) c.in-Err.refused.0
     (map g.C.Container.held (set c.self.inside.containers.items c.args.table c.insert_row.new.self))
     (map g.C.Container.secrets (set c.self.inside.containers.items c.args.table c.insert_row.new.self)) (none_more (kept_rows c.args.self.now))
+
+pub returns-in-Ok-clause-secrets : goal.returns-in-Ok-clause-secrets
+returns-in-Ok-clause-secrets g c =
+    stays_at g.C.Container.secrets c.self.inside.containers.items c.args.table c.index_mut.result.now c.insert_row.new.self
+    c.index_mut.ensures.value c.insert_row.ensures.secrets
+    ∙ ap (λ (h : LinkedData). h.secrets) (c.self.view_is ∙ c.make_room.ensures.same)
+
+pub returns-in-Err-clause-secrets : goal.returns-in-Err-clause-secrets
+returns-in-Err-clause-secrets g c =
+    stays_at g.C.Container.secrets c.self.inside.containers.items c.args.table c.index_mut.result.now c.insert_row.new.self
+    c.index_mut.ensures.value c.insert_row.ensures.secrets
+    ∙ ap (λ (h : LinkedData). h.secrets) (c.self.view_is ∙ c.make_room.ensures.same)

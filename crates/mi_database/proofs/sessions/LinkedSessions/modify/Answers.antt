@@ -9,7 +9,7 @@ use Rattle.mi_container.specs.Inverse.{lost_to}
 use Rattle.mi_container.specs.Makes.{MeetsOn}
 use Rattle.mi_journal.specs.Noted.{noted}
 use Rattle.mi_database.specs.LinkedData.{LinkedData, data_seen, meaning}
-use Rattle.mi_database.proofs.LinkedDataLemmas.{some_modify}
+use Rattle.mi_database.proofs.LinkedDataLemmas.{stays_at, some_modify}
 use Rattle.mi_database.proofs.KeptLemmas.{modify_keeps, modify_kept, modify_refused}
 use Rattle.mi_database.specs.Most.{AllHaveAtMost}
 use Rattle.mi_database.proofs.ChangeLemmas.{SpotIn, spot, spot_keeps, spot_within, spot_held, spot_outcome, spot_stays, spot_refused}
@@ -76,3 +76,15 @@ returns-in-Err-clause-footprint g c =
     (map g.C.Container.secrets (set a.containers.items c.args.table c.modify.new.self)) in
     modify_refused c.args.table c.args.id c.args.edits.now c.args.rollback c.args.self.now new c.in-Err.refused
     (ap (λ (h : LinkedData). h.journal) (c.self.view_is ∙ c.make_room.ensures.same)) c.in-Err.ensures.loss (returns-in-Err-clause-outcome g c)
+
+pub returns-in-Ok-clause-secrets : goal.returns-in-Ok-clause-secrets
+returns-in-Ok-clause-secrets g c =
+    c.keep.ensures.secrets ∙ stays_at g.C.Container.secrets c.self.inside.containers.items c.args.table c.index_mut.result.now c.modify.new.self
+    c.index_mut.ensures.value c.modify.ensures.secrets
+    ∙ ap (λ (h : LinkedData). h.secrets) (c.self.view_is ∙ c.make_room.ensures.same)
+
+pub returns-in-Err-clause-secrets : goal.returns-in-Err-clause-secrets
+returns-in-Err-clause-secrets g c =
+    stays_at g.C.Container.secrets c.self.inside.containers.items c.args.table c.index_mut.result.now c.modify.new.self
+    c.index_mut.ensures.value c.modify.ensures.secrets
+    ∙ ap (λ (h : LinkedData). h.secrets) (c.self.view_is ∙ c.make_room.ensures.same)

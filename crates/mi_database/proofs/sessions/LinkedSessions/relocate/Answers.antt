@@ -8,6 +8,8 @@ use Rattle.mi_container.specs.Run.Change.{Relocate}
 use Rattle.mi_database.specs.Kept.{kept_rows}
 use Rattle.mi_database.proofs.KeptLemmas.{none_more, relocate_keeps}
 use Rattle.mi_database.specs.Most.{AllHaveAtMost}
+use Rattle.mi_database.specs.LinkedData.{LinkedData}
+use Rattle.mi_database.proofs.LinkedDataLemmas.{stays_at}
 use Rattle.mi_database.proofs.ChangeLemmas.{SpotIn, spot, spot_within, spot_held, spot_outcome, spot_plain, spot_stays, spot_refused, spot_unkept}
 use Rattle.mi_database.proofs.sessions.LinkedSessions.relocate.Given.{Over}
 use Rattle.mi_database.proofs.sessions.LinkedSessions.relocate.Goals.{After-relocate}
@@ -53,3 +55,15 @@ returns-in-Err-clause-footprint g c = spot_unkept (at g (goal.at.returns-in-Err-
     (TheCommand c.args.table c.args.index c.args.id c.args.before) c.in-Err.refused
     (map g.C.Container.held (set c.self.inside.containers.items c.args.table c.relocate.new.self))
     (map g.C.Container.secrets (set c.self.inside.containers.items c.args.table c.relocate.new.self)) (none_more (kept_rows c.args.self.now))
+
+pub returns-in-Ok-clause-secrets : goal.returns-in-Ok-clause-secrets
+returns-in-Ok-clause-secrets g c =
+    c.keep.ensures.secrets ∙ stays_at g.C.Container.secrets c.self.inside.containers.items c.args.table c.index_mut.result.now c.relocate.new.self
+    c.index_mut.ensures.value c.relocate.ensures.secrets
+    ∙ ap (λ (h : LinkedData). h.secrets) (c.self.view_is ∙ c.make_room.ensures.same)
+
+pub returns-in-Err-clause-secrets : goal.returns-in-Err-clause-secrets
+returns-in-Err-clause-secrets g c =
+    stays_at g.C.Container.secrets c.self.inside.containers.items c.args.table c.index_mut.result.now c.relocate.new.self
+    c.index_mut.ensures.value c.relocate.ensures.secrets
+    ∙ ap (λ (h : LinkedData). h.secrets) (c.self.view_is ∙ c.make_room.ensures.same)

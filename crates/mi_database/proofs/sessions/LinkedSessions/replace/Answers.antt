@@ -8,6 +8,8 @@ use Rattle.mi_container.specs.Run.Change.{Replace}
 use Rattle.mi_database.specs.Kept.{kept_rows}
 use Rattle.mi_database.proofs.KeptLemmas.{none_more}
 use Rattle.mi_database.specs.Most.{AllHaveAtMost}
+use Rattle.mi_database.specs.LinkedData.{LinkedData}
+use Rattle.mi_database.proofs.LinkedDataLemmas.{stays_at}
 use Rattle.mi_database.proofs.ChangeLemmas.{SpotIn, spot, spot_within, spot_held, spot_outcome, spot_plain, spot_stays, spot_refused, spot_unkept}
 use Rattle.mi_database.proofs.sessions.LinkedSessions.replace.Given.{Over}
 use Rattle.mi_database.proofs.sessions.LinkedSessions.replace.Goals.{After-replace}
@@ -51,3 +53,15 @@ returns-in-Err-clause-footprint g c = spot_unkept (at g (goal.at.returns-in-Err-
     (TheCommand c.args.table c.args.id c.args.row) c.in-Err.refused.0
     (map g.C.Container.held (set c.self.inside.containers.items c.args.table c.replace.new.self))
     (map g.C.Container.secrets (set c.self.inside.containers.items c.args.table c.replace.new.self)) (none_more (kept_rows c.args.self.now))
+
+pub returns-in-Ok-clause-secrets : goal.returns-in-Ok-clause-secrets
+returns-in-Ok-clause-secrets g c =
+    c.keep.ensures.secrets ∙ stays_at g.C.Container.secrets c.self.inside.containers.items c.args.table c.index_mut.result.now c.replace.new.self
+    c.index_mut.ensures.value c.replace.ensures.secrets
+    ∙ ap (λ (h : LinkedData). h.secrets) (c.self.view_is ∙ c.make_room.ensures.same)
+
+pub returns-in-Err-clause-secrets : goal.returns-in-Err-clause-secrets
+returns-in-Err-clause-secrets g c =
+    stays_at g.C.Container.secrets c.self.inside.containers.items c.args.table c.index_mut.result.now c.replace.new.self
+    c.index_mut.ensures.value c.replace.ensures.secrets
+    ∙ ap (λ (h : LinkedData). h.secrets) (c.self.view_is ∙ c.make_room.ensures.same)

@@ -1,5 +1,5 @@
 -- one more undo
-use Rattle.std.proofs.Common.{◌≡◌, ℕ, suc, ◌-◌, ◌+◌, ◌<◌, length, ap, sym, ◌∙◌, arith}
+use Rattle.std.proofs.Common.{◌≡◌, ℕ, suc, ◌-◌, ◌+◌, ◌<◌, length, refl, ap, sym, ◌∙◌, arith}
 use Rattle.mi_database.proofs.JournalLemmas.{length-old}
 use Rattle.mi_model.specs.Database.{undone_times}
 use Rattle.mi_database.specs.LinkedData.{meaning}
@@ -20,6 +20,7 @@ loop-preserved g c =
       state = ap (undone_times (c.depth-open.result - (c.loop.counter + 1))) (c.undo.ensures.state ∙ undo_leaves (meaning c.loop.self))
           ∙ ap (λ (n : ℕ). undone_times n (meaning c.loop.self)) (sym left) ∙ c.loop.invariant.state;
       open_ = omega (arith, depth, fewer, left);
+      secrets = c.undo.ensures.secrets ∙ c.loop.invariant.secrets;
       changes = omega (arith, rose, rises);
       starts = omega (arith, opened, opens);
     }
@@ -30,4 +31,4 @@ loop-init g c =
     let long : length (meaning h).old ≡ length h.journal = length-old h.journal h.datas in
     let opens = c.depth-open.ensures in
     let same : c.depth-open.result - 0 ≡ c.depth-open.result = omega arith in
-    record { state = ap (λ n. undone_times n (meaning h)) same; open_ = omega (arith, long, opens); changes = omega arith; starts = omega arith }
+    record { state = ap (λ n. undone_times n (meaning h)) same; open_ = omega (arith, long, opens); secrets = refl; changes = omega arith; starts = omega arith }

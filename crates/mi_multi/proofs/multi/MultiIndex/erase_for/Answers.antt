@@ -14,6 +14,7 @@ use Rattle.mi_multi.specs.Multi.{IsMulti, plain_of}
 use Rattle.mi_multi.specs.Seen.{Seen, seen_of}
 use Rattle.mi_multi.proofs.AnswerLemmas.{live_is, erase_refused, erase_made, erase_meets}
 use Rattle.mi_multi.proofs.EraseLemmas.{can_leave, erased_seen, erased_multi}
+use Rattle.mi_multi.proofs.SecretLemmas.{secrets_kept}
 use Rattle.mi_multi.proofs.multi.MultiIndex.erase_for.Goals as goal
 
 pub returns-in_default-clause-outcome : goal.returns-in_default-clause-outcome
@@ -72,3 +73,6 @@ returns-clause-made c =
     (subst (λ (w : Inverse). Makes i.schema (Erase c.args.id c.args.why) (seen_of i).plain w new) (sym c.new.ensures)
     (erase_made i.schema i.ids.entries i.nodes.pool i.nodes.structures.items i.next i.arrivals
     c.args.id c.args.why c.in-Some.node new (sym c.live.ensures ∙ c.in-Some.is) (now_is c)))
+
+pub returns-clause-secrets : goal.returns-clause-secrets
+returns-clause-secrets c = secrets_kept c.self.inside c.self.view_is _ c.take_out.ensures.like

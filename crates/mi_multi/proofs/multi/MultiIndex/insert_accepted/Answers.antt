@@ -18,6 +18,7 @@ use Rattle.mi_multi.proofs.AcceptLemmas.{Accepted, accepted, rises, place_fits, 
 use Rattle.mi_multi.proofs.InsertLemmas.{IsBefore, can_come}
 use Rattle.mi_multi.proofs.InsertedLemmas.{come_seen, come_multi, unnamed}
 use Rattle.mi_multi.proofs.RoomLemmas.{grown_seen, grown_multi}
+use Rattle.mi_multi.proofs.SecretLemmas.{secrets_kept}
 use Rattle.mi_multi.proofs.multi.MultiIndex.insert_accepted.Goals.{After-node_at-place}
 use Rattle.mi_multi.proofs.multi.MultiIndex.insert_accepted.Goals as goal
 
@@ -110,3 +111,9 @@ returns-in-Err-clause-refused c =
     (ap (λ w. plain_of i.schema w c.link_in.new.self.pool c.link_in.new.self.structures.items i.next i.arrivals) c.make_room.ensures.entries
     ∙ grown_seen i.schema i.ids.entries i.nodes.pool c.link_in.new.self.pool i.nodes.structures.items
     c.link_in.new.self.structures.items i.next i.arrivals is c.link_in.ensures.like c.in-Err.ensures.err)
+
+pub returns-in-Ok-link_in-clause-secrets : goal.returns-in-Ok-link_in-clause-secrets
+returns-in-Ok-link_in-clause-secrets c = secrets_kept c.self.inside c.self.view_is _ c.link_in.ensures.like
+
+pub returns-in-Err-clause-secrets : goal.returns-in-Err-clause-secrets
+returns-in-Err-clause-secrets c = secrets_kept c.self.inside c.self.view_is _ c.link_in.ensures.like

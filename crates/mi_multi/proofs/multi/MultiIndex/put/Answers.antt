@@ -2,6 +2,7 @@
 use Rattle.std.proofs.Common.{refl}
 use Rattle.mi_multi.proofs.PutCallLemmas.{row_held, put_ready, now_multi, now_made}
 use Rattle.mi_container.specs.declared.inverse.RowRef.{RowRef as Row}
+use Rattle.mi_multi.proofs.SecretLemmas.{secrets_kept}
 use Rattle.mi_multi.proofs.multi.MultiIndex.put.Goals as goal
 
 pub rekey-old-requires-clause-held : goal.rekey-old-requires-clause-held
@@ -26,3 +27,6 @@ returns-clause-made c =
     c.args.marks.now c.requires.marks c.rekey-old.new.self.pool c.rekey-old.new.self.structures.items
     c.rekey-old.ensures.like c.rekey-old.ensures.rekeyed
     c.old_places.new.places.items c.old_places.ensures c.rekey-old.result c.rekey-old.ensures.value _ refl
+
+pub returns-clause-secrets : goal.returns-clause-secrets
+returns-clause-secrets c = secrets_kept c.self.inside c.self.view_is _ c.rekey-old.ensures.like

@@ -1,12 +1,12 @@
 -- The kept node is freed, and no row, place or stamp changes.
-use Rattle.std.proofs.Common.{◌≡◌, false, ap, sym, ◌∙◌, subst}
+use Rattle.std.proofs.Common.{◌≡◌, false, map, ap, sym, ◌∙◌, subst}
 use Rattle.std.specs.declared.option.Option.TheVariants.{None}
 use Rattle.mi_container.specs.Data.{Data}
 use Rattle.mi_container.specs.Inverse.{settled}
 use Rattle.mi_container.specs.Inverse.Inverse.{Erased}
 use Rattle.mi_container.specs.Backs.{row_seen}
 use Rattle.mi_multi.specs.Multi.{IsMulti, plain_of}
-use Rattle.mi_multi.specs.Seen.{Seen}
+use Rattle.mi_multi.specs.Seen.{Seen, secret_in}
 use Rattle.mi_multi.proofs.AnswerLemmas.{kept_there}
 use Rattle.mi_multi.proofs.SettleLemmas.{given_seen, given_multi}
 use Rattle.mi_multi.proofs.multi.MultiIndex.settle_erased.Goals as goal
@@ -33,3 +33,6 @@ returns-clause-plain c =
     (ap (λ w. plain_of i.schema w pool items i.next i.arrivals) c.remove.ensures.entries
     ∙ given_seen i.schema i.ids.entries i.nodes.pool i.nodes.structures.items i.next i.arrivals c.self.invariant
     c.args.row.id c.args.row.node there pool items f.pool (ap (λ v. v.items) f.structures) f.stand)
+
+pub returns-clause-secrets : goal.returns-clause-secrets
+returns-clause-secrets c = ap (λ v. map secret_in v.items) c.free-freed.ensures.structures ∙ ap (λ (w : Seen). w.secrets) c.self.view_is

@@ -13,6 +13,7 @@ use Rattle.mi_multi.specs.Multi.{plain_of}
 use Rattle.mi_multi.specs.Seen.{Seen, seen_of}
 use Rattle.mi_multi.proofs.TakeBackInsertLemmas.{live_there}
 use Rattle.mi_multi.proofs.RelocateLemmas.{IsOtherNode, other_node, can_move, moved_seen, moved_multi}
+use Rattle.mi_multi.proofs.SecretLemmas.{secrets_kept}
 use Rattle.mi_multi.proofs.multi.MultiIndex.stand_before.Goals.{After-node_of}
 use Rattle.mi_multi.proofs.multi.MultiIndex.stand_before.Goals as goal
 
@@ -60,3 +61,6 @@ returns-clause-plain c =
     (moved_seen i.schema i.ids.entries i.nodes.pool i.nodes.structures.items i.next i.arrivals c.self.invariant
     c.args.row.id c.args.row.node (there o) c.args.index (listed o) (behind o) c.node_of.result (other o)
     c.relocate.new.self.pool c.relocate.new.self.structures.items c.relocate.ensures.like c.relocate.ensures.pass)
+
+pub returns-clause-secrets : goal.returns-clause-secrets
+returns-clause-secrets c = secrets_kept c.self.inside c.self.view_is _ c.relocate.ensures.like

@@ -5,6 +5,7 @@ use Rattle.mi_container.specs.Backs.{row_seen}
 use Rattle.mi_multi.specs.Multi.{IsMulti, plain_of}
 use Rattle.mi_multi.proofs.AnswerLemmas.{kept_there, back_meets, back_is, back_data}
 use Rattle.mi_multi.proofs.TakeBackEraseLemmas.{can_back, back_seen, back_multi}
+use Rattle.mi_multi.proofs.SecretLemmas.{secrets_kept}
 use Rattle.mi_multi.proofs.multi.MultiIndex.take_back_erased.Goals as goal
 
 pub put_back-requires-clause-held : goal.put_back-requires-clause-held
@@ -41,3 +42,6 @@ returns-clause-plain c =
     (back_meets i w c.self.view_is r None c.requires.ready) (back_data i w c.self.view_is r None c.requires.ready.0 c.requires.before)
     c.put_back.ensures.like c.put_back.ensures.pass
     ∙ back_is i w c.self.view_is r None c.requires.ready.0
+
+pub returns-clause-secrets : goal.returns-clause-secrets
+returns-clause-secrets c = secrets_kept c.self.inside c.self.view_is _ c.put_back.ensures.like

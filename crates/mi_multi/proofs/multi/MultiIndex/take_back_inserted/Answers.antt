@@ -1,13 +1,14 @@
 -- The node leaves every index and is freed, and the data are those before.
-use Rattle.std.proofs.Common.{◌≡◌, ◌-◌, ap, sym, ◌∙◌, subst}
+use Rattle.std.proofs.Common.{◌≡◌, ◌-◌, map, ap, sym, ◌∙◌, subst}
 use Rattle.mi_container.specs.Data.{Data, IsData}
 use Rattle.mi_container.specs.Inverse.{taken_back}
 use Rattle.mi_container.specs.Inverse.Inverse.{Inserted}
 use Rattle.mi_container.specs.Backs.{row_seen}
 use Rattle.mi_multi.specs.Multi.{IsMulti, plain_of}
-use Rattle.mi_multi.specs.Seen.{Seen}
+use Rattle.mi_multi.specs.Seen.{Seen, secret_in}
 use Rattle.mi_multi.proofs.EraseLemmas.{can_leave}
 use Rattle.mi_multi.proofs.TakeBackInsertLemmas.{live_there, still_held, back_seen, back_multi}
+use Rattle.mi_multi.proofs.SecretLemmas.{secrets_kept}
 use Rattle.mi_multi.proofs.multi.MultiIndex.take_back_inserted.Goals as goal
 
 pub take_out-requires : goal.take_out-requires
@@ -48,3 +49,6 @@ returns-clause-plain c =
     ∙ back_seen i.schema i.ids.entries i.nodes.pool c.take_out.new.self.pool i.nodes.structures.items c.take_out.new.self.structures.items
     i.next i.arrivals c.self.invariant c.args.row.id c.args.row.node there c.take_out.ensures.like c.take_out.ensures.pass
     pool items f.pool (ap (λ v. v.items) f.structures) f.stand)
+
+pub returns-clause-secrets : goal.returns-clause-secrets
+returns-clause-secrets c = ap (λ v. map secret_in v.items) c.free-freed.ensures.structures ∙ secrets_kept c.self.inside c.self.view_is _ c.take_out.ensures.like

@@ -16,6 +16,7 @@ use Rattle.std.specs.Option.{option_map}
 use Rattle.mi_multi.proofs.TakeBackInsertLemmas.{live_there}
 use Rattle.mi_multi.proofs.OldRecordPlaceLemmas.{taken_as_kept, can_move_back}
 use Rattle.mi_multi.proofs.TakeBackPutLemmas.{unput_seen, unput_multi}
+use Rattle.mi_multi.proofs.SecretLemmas.{secrets_kept}
 use Rattle.mi_multi.proofs.multi.MultiIndex.take_back_put.Goals.{After-as_slice, After-rekey_back-put}
 use Rattle.mi_multi.proofs.multi.MultiIndex.take_back_put.Goals as goal
 
@@ -88,3 +89,6 @@ returns-clause-plain c =
     (unput_seen i.schema i.ids.entries i.nodes.pool c.rekey_back-put.new.self.pool i.nodes.structures.items
     c.rekey_back-put.new.self.structures.items i.next i.arrivals c.self.invariant c.args.row.id c.args.row.node (there f)
     (old_seen c.args.old c.args.places.now.items) (ready f).2 (before f) c.rekey_back-put.ensures.like (done o.After-rekey_back-put (can f)))
+
+pub returns-clause-secrets : goal.returns-clause-secrets
+returns-clause-secrets c = secrets_kept c.self.inside c.self.view_is _ c.rekey_back-put.ensures.like
