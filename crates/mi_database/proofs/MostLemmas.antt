@@ -23,7 +23,7 @@ use Rattle.mi_container.specs.Run.{Change}
 use Rattle.mi_container.specs.Run.Change.{Insert, Replace, Erase, Relocate}
 use Rattle.mi_container.specs.Makes.{Makes}
 use Rattle.mi_inverses.specs.Stored.{place_count, IsWithin}
-use Rattle.mi_database.specs.Most.{key_of, keyed_count, HasAtMost}
+use Rattle.mi_database.specs.Most.{key_of, keyed_count, HasAtMost, OneHas}
 
 one_more : (p : Option OldPlace) (ps : List (Option OldPlace)) (n : ℕ) → place_count ps ≤ n → place_count (p ∷ ps) ≤ suc n
 one_more None ps n few = omega (arith, few)
@@ -131,6 +131,23 @@ counted_up c k most more before kept is n under = at_or_before (eq-or-lt_of_le (
     at_or_before : (n ≡ k) ⊎ (n < k) → HasAtMost more (schema_at c n).indexes
     at_or_before (inl same) = subst (λ m. HasAtMost more (schema_at c m).indexes) (sym same) (both.right, bytes)
     at_or_before (inr below) = more_allowed most more (schema_at c n).indexes both.left (before n below)
+
+-- the greater of two is one of them
+one_of : (a b r : ℕ) → r ≡ ord_max nat_cmp a b → a < r → r ≡ b
+one_of a b r is over = grind (arith, is, over)
+
+-- one of one table more
+pub one_more_has : (c : CatalogShape) (k most more : ℕ) → OneHas k most c → more ≡ ord_max nat_cmp most (keyed_count (schema_at c k).indexes)
+    → OneHas (k + 1) more c
+one_more_has c k most more before is = by (eq-or-lt_of_le (greater most (keyed_count (schema_at c k).indexes) more is).left)
+  where
+    still : most ≡ more → OneHas k most c → OneHas (k + 1) more c
+    still same (inl none) = inl (sym same ∙ none)
+    still same (inr there) = let under = there.1 in inr (there.0, omega (arith, under), sym same ∙ there.2)
+
+    by : (most ≡ more) ⊎ (most < more) → OneHas (k + 1) more c
+    by (inl same) = still same before
+    by (inr over) = inr (k, omega arith, one_of most (keyed_count (schema_at c k).indexes) more is over)
 
 -- one index more
 keyed_suc : (is : List Index) (i : ℕ) (d : Index) → i < length is → keyed_count (take (suc i) is) ≡ keyed_count (take i is) + key_of (get_or is i d).parts

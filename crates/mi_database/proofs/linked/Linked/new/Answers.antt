@@ -9,7 +9,7 @@ invariant_of-result g c = (
   opened_at c.args.catalog _ _ c.new.result.sessions c.first_revision-revision.result
       c.keeps_rules.ensures c.in_ok-containers.ensures.shapes c.in_ok-containers.ensures.datas c.new.ensures.sessions c.first_revision-revision.ensures.value
       c.first_revision-revision.ensures.within,
-  subst (λ m. AllHaveAtMost m c.args.catalog) (sym c.new.ensures.most) c.most_keyed_indexes-most.ensures,
+  subst (λ m. AllHaveAtMost m c.args.catalog) (sym c.new.ensures.most) c.most_keyed_indexes-most.ensures.all,
 )
 
 pub returns-clause-state : goal.returns-clause-state
