@@ -1,5 +1,5 @@
 -- What the text of a reply tells of its line: where it isn't that of a change, nothing has changed.
-use Rattle.std.proofs.Common.{◌≡◌, ℕ, ◌+◌, ◌-◌, List, ◌++◌, length, Bool, true, false, cond, nat_eq, ◌&&◌, ◌⊎◌, codes}
+use Rattle.std.proofs.Common.{◌≡◌, ℕ, ◌+◌, ◌-◌, List, ◌++◌, length, Bool, true, false, not, cond, nat_eq, ◌&&◌, ◌⊎◌, codes}
 use Rattle.std.proofs.Common.{Option, Some, None, Result, Ok, Err, refl, sym, ap, ◌∙◌, arith, inl, inr}
 use Rattle.std.proofs.lemmas.List.{drop_at, length-append}
 use Rattle.std.specs.List.{ends_with}
@@ -23,7 +23,7 @@ use Rattle.mi_commands.specs.Holder.{HeldDatabase, is_busy}
 use Rattle.mi_commands.specs.Performed.{performed, said_of, all_done, or_session}
 use Rattle.mi_commands.specs.declared.holder.Holder.{Holder}
 use Rattle.mi_replay.specs.LeftOut.{IsPlainRefusal, alters, RefusalsChangeNothing, LookUpsChangeNothing}
-use Rattle.mi_ledger.specs.Belongs.{may_change, is_other, holder_conn, IsQuiet, IsPlainlyQuiet, IsRight, LeavesOutQuiet}
+use Rattle.mi_ledger.specs.Belongs.{may_change, is_other, goes_in, holder_conn, IsQuiet, IsPlainlyQuiet, IsRight, LeavesOutQuiet}
 
 -- ---- texts
 
@@ -243,3 +243,22 @@ plainly_out c (say.refused n e) h = refl
 
 pub plainly_left : (reply : List ℕ) (kept : Bool) → kept ≡ may_change reply → LeavesOutQuiet reply kept
 plainly_left reply kept is c s h told = is ∙ ap (λ t. may_change t) told ∙ plainly_out c s h
+
+-- ---- exactly
+
+-- where another holds sessions the line doesn't go in
+pub goes_not : (holder : Option ℕ) (conn : ℕ) (reply : List ℕ) → is_other holder conn ≡ true → false ≡ goes_in holder conn reply
+goes_not holder conn reply other = sym (ap (λ b. not b && may_change reply) other)
+
+-- else its reply tells
+pub goes_by : (holder : Option ℕ) (conn : ℕ) (reply : List ℕ) → is_other holder conn ≡ false → (kept : Bool) → kept ≡ may_change reply
+    → kept ≡ goes_in holder conn reply
+goes_by holder conn reply free kept is = is ∙ sym (ap (λ b. not b && may_change reply) free)
+
+second_true : (a b : Bool) → (a && b) ≡ true → b ≡ true
+second_true true b h = h
+second_true false b h = absurd (cc)
+
+-- what goes in has a reply that may be a change's
+pub in_changes : (holder : Option ℕ) (conn : ℕ) (reply : List ℕ) → goes_in holder conn reply ≡ true → may_change reply ≡ true
+in_changes holder conn reply h = second_true (not (is_other holder conn)) (may_change reply) h

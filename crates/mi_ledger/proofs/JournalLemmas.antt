@@ -1,10 +1,10 @@
 -- What a line adds to the journal, and what the journal is then.
-use Rattle.std.proofs.Common.{◌≡◌, ℕ, List, [], ◌∷◌, ◌++◌, Bool, true, false, Option, Some, None, option_to_list}
-use Rattle.std.proofs.Common.{refl, sym, ap, ◌∙◌, subst, append-nil, length, suc, take, arith, cond, nat_eq}
+use Rattle.std.proofs.Common.{◌≡◌, ◌⊎◌, ℕ, List, [], ◌∷◌, ◌++◌, Bool, true, false, Option, Some, None, option_to_list, inl, inr}
+use Rattle.std.proofs.Common.{refl, sym, ap, ◌∙◌, subst, append-nil, length, suc, take, arith, cond, nat_eq, eqb-true, eq-eqb}
 use Rattle.std.proofs.lemmas.List.{length-append}
 use Rattle.std.proofs.Math.Seq.{take-append_seam}
 use Rattle.std.proofs.Common.{Result, Ok, Err}
-use Rattle.std.specs.Prelude.{if◌then◌else◌, OnOk, replicate}
+use Rattle.std.specs.Prelude.{◌↔◌, if◌then◌else◌, IsTrue, OnOk, replicate}
 use Rattle.std.specs.Option.{option_map_or}
 use Rattle.std.specs.Io.KnownBytes.{Appends}
 use Rattle.std.proofs.KnownBytes.{Appends-nil}
@@ -24,9 +24,9 @@ use Rattle.mi_replay.specs.Journal.{JournalOf, undo_line}
 use Rattle.mi_replay.specs.ReplayLaws.{JournalsJoin}
 use Rattle.mi_replay.specs.RunActs.{asked_by, lines_in, ActsOfDone}
 use Rattle.mi_replay.specs.Replayed.{replayer, replayed}
-use Rattle.mi_ledger.specs.Belongs.{may_change, holder_conn, is_conn}
-use Rattle.mi_ledger.proofs.BelongsLemmas.{put_in}
-use Rattle.mi_ledger.specs.Journals.{IsWholeLine, Decided, IsNoted, Journals, Asks, JournalsGoOn}
+use Rattle.mi_ledger.specs.Belongs.{may_change, goes_in, holder_conn, is_conn, IsRight}
+use Rattle.mi_ledger.proofs.BelongsLemmas.{put_in, in_changes}
+use Rattle.mi_ledger.specs.Journals.{IsWholeLine, IsTaken, Decided, IsNoted, Journals, Asks, JournalsGoOn}
 
 -- ---- lines
 
@@ -64,11 +64,59 @@ module _ (conn : ℕ) (holder : Option ℕ) (kept : Bool) where
     (if kept then l ∷ [] else []),
     [],
     p.1,
-    d r (w ∙ append-nil (r ++ 10 ∷ [])) old p.0 l is p.1,
+    (d.0 r (w ∙ append-nil (r ++ 10 ∷ []))).0 old p.0 l is p.1,
     (refl, p.2),
     sym (append-nil (if kept then l ∷ [] else [])),
   )
   one_line (Some l) (r ∷ q ∷ rs) out old new p w is d = absurd p.2
+
+-- ---- a reply's end
+
+pub no_last : (text : List ℕ) (x : ℕ) → ◌≡◌ {A = List ℕ} [] (text ++ x ∷ []) → ⊥
+no_last [] x e = absurd (cc)
+no_last (t ∷ text) x e = absurd (cc)
+
+-- what stands before the last byte is one text
+pub cut_last : (xs rest text : List ℕ) (x y : ℕ) → xs ≡ rest ++ x ∷ [] → xs ≡ text ++ y ∷ [] → rest ≡ text
+cut_last xs rest text x y p q =
+    let both : rest ++ x ∷ [] ≡ text ++ y ∷ [] = sym p ∙ q in
+    let len : length rest ≡ length text = omega (arith, ap length both, length-append rest (x ∷ []), length-append text (y ∷ [])) in
+    sym (take-append_seam rest (x ∷ [])) ∙ ap (λ n. take n (rest ++ x ∷ [])) len ∙ ap (take (length text)) both ∙ take-append_seam text (y ∷ [])
+
+-- ---- what is decided
+
+pub no_bytes : (bytes : List ℕ) → length bytes ≡ 0 → bytes ≡ []
+no_bytes [] none = refl
+no_bytes (b ∷ bytes) none = absurd (omega arith)
+
+-- nothing is kept of a reply that is empty
+pub decided_none : (holder : Option ℕ) (conn : ℕ) (reply : List ℕ) → reply ≡ [] → Decided holder conn reply false
+decided_none holder conn reply none = ((λ text e. absurd (no_last text 10 (sym none ∙ e))), (λ is. absurd (cc)))
+
+pub decided_by : (holder : Option ℕ) (conn : ℕ) (reply rest : List ℕ) (last : ℕ) (kept : Bool) → reply ≡ rest ++ last ∷ []
+    → IsRight holder conn rest kept → kept ≡ goes_in holder conn rest → Decided holder conn reply kept
+decided_by holder conn reply rest last kept parts right exact = (
+  (λ text e. let same : rest ≡ text = cut_last reply rest text last 10 parts e in
+      (subst (λ t. IsRight holder conn t kept) same right, exact ∙ ap (goes_in holder conn) same)),
+  (λ is. (rest, last, parts, in_changes holder conn rest (sym exact ∙ is))),
+)
+
+-- the reply to one line is a text and a newline
+taken_by : (conn : ℕ) (o : Option Asked) (replies : List (List ℕ)) (out text : List ℕ) (last : ℕ) (old new : HeldDatabase)
+    → InTurn (MayGive conn) old (option_to_list o) replies new → out ≡ sent replies → out ≡ text ++ last ∷ [] → may_change text ≡ true → IsTaken out
+taken_by conn None [] out text last old new p w e may = absurd (no_last text last (sym w ∙ e))
+taken_by conn None (r ∷ rs) out text last old new p w e may = absurd p
+taken_by conn (Some l) [] out text last old new p w e may = absurd p
+taken_by conn (Some l) (r ∷ []) out text last old new p w e may =
+    let given : out ≡ r ++ 10 ∷ [] = w ∙ append-nil (r ++ 10 ∷ []) in
+    let same : r ≡ text = cut_last out r text 10 last given e in
+    (r, given, ap (λ t. may_change t) same ∙ may)
+taken_by conn (Some l) (r ∷ q ∷ rs) out text last old new p w e may = absurd p.2
+
+nothing_or : (kept : Bool) (line out : List ℕ) → (kept ≡ true → IsTaken out)
+    → ((if kept then line else []) ≡ []) ⊎ (((if kept then line else []) ≡ line) × IsTaken out)
+nothing_or true line out h = inr (refl, h refl)
+nothing_or false line out h = inl refl
 
 -- the acts of a line, and what the journal has of them
 module _ (conn : ℕ) (line out : List ℕ) (holder : Option ℕ) (old new : HubState) (here : rest_at conn old.attached ≡ Some (Some []))
@@ -100,7 +148,7 @@ module _ (conn : ℕ) (line out : List ℕ) (holder : Option ℕ) (old new : Hub
   abbrev replies_of : List (List ℕ)
   replies_of = done.2.replies
 
-  in_turn : InTurn (MayGive conn) old.held asked replies_of new.held
+  pub in_turn : InTurn (MayGive conn) old.held asked replies_of new.held
   in_turn = subst (λ ls. InTurn (MayGive conn) old.held ls replies_of new.held) fed done.2.in_turn
 
   each_replied : (lines : List Asked) (replies : List (List ℕ)) (s t : HeldDatabase) → InTurn (MayGive conn) s lines replies t
@@ -149,6 +197,9 @@ module _ (conn : ℕ) (line out : List ℕ) (holder : Option ℕ) (old new : Hub
       journal = subst (λ ls. JournalOf old.held acts_of ls new.held) (lines_by noted.0) (journal_by noted.0 noted.1);
       appended = noted.2;
     };
+    told = λ text e. ap appended_by (noted.1.0 text e).1 ∙ ap (λ h. if goes_in h conn text then line else []) (sym is);
+    taken = nothing_or noted.0 line out (λ kept. let may = noted.1.1 kept in
+        taken_by conn (ended_line (marked whole.0)) replies_of out may.0 may.1 old.held new.held in_turn done.2.written may.2 may.3);
   }
 
 alike : (r s : Rest) → ◌≡◌ {A = Option Rest} (Some r) (Some s) → r ≡ s
@@ -162,13 +213,6 @@ asked_attached conn line out old new here done still =
     let left : rest_at conn new.attached ≡ Some rest = ap (rest_at conn) done.3 ∙ rest_at-with_rest conn rest (Some []) old.attached here in
     done.3 ∙ ap (λ r. with_rest conn r old.attached) (alike rest (Some []) (sym left ∙ still)) ∙ with_rest-same conn (Some []) old.attached here
 
--- what stands before the last byte is one text
-pub cut_last : (xs rest text : List ℕ) (x y : ℕ) → xs ≡ rest ++ x ∷ [] → xs ≡ text ++ y ∷ [] → rest ≡ text
-cut_last xs rest text x y p q =
-    let both : rest ++ x ∷ [] ≡ text ++ y ∷ [] = sym p ∙ q in
-    let len : length rest ≡ length text = omega (arith, ap length both, length-append rest (x ∷ []), length-append text (y ∷ [])) in
-    sym (take-append_seam rest (x ∷ [])) ∙ ap (λ n. take n (rest ++ x ∷ [])) len ∙ ap (take (length text)) both ∙ take-append_seam text (y ∷ [])
-
 -- a connection that has come has sent nothing
 pub comes_empty : (conn : ℕ) (old new : HubState) → Done old (attach conn) [] new → rest_at conn new.attached ≡ Some (Some [])
 comes_empty conn old new done = ap (λ (s : HubState). rest_at conn s.attached) done.3 ∙ rest_at-last conn (Some []) old.attached done.0
@@ -178,6 +222,19 @@ pub holds_none : (o : Option Holder) (holder : Option ℕ) (conn : ℕ) → hold
 holds_none None holder conn is other = refl
 holds_none (Some h) holder conn is other =
     let test : nat_eq h.conn conn ≡ false = ap (λ o. is_conn o conn) is ∙ other in ap (λ b. cond b h.held 0) test
+
+-- a connection is the holder just where the holder has its number
+pub holds_just : (o : Option Holder) (holder : Option ℕ) (conn : ℕ) (held : Bool) → holder ≡ holder_conn o → held ≡ is_conn holder conn
+    → IsTrue held ↔ (holder_conn o ≡ Some conn)
+holds_just None holder conn held is told =
+    let test : held ≡ false = told ∙ ap (λ o. is_conn o conn) is in
+    ((λ yes. absurd (let both : true ≡ false = sym yes ∙ test in cc)), (λ no. absurd (cc)))
+holds_just (Some h) holder conn held is told =
+    let test : held ≡ nat_eq h.conn conn = told ∙ ap (λ o. is_conn o conn) is in
+    ((λ yes. ap Some (eqb-true h.conn conn (sym test ∙ yes))), (λ same. test ∙ eq-eqb h.conn conn (one_conn h.conn conn same)))
+  where
+    one_conn : (a b : ℕ) → ◌≡◌ {A = Option ℕ} (Some a) (Some b) → a ≡ b
+    one_conn a b e = cc
 
 -- a connection that holds none goes away, and the journal has nothing of that
 pub leaves_so : (conn : ℕ) (old new : HubState) (log : Option (List ℕ)) → held_by conn old.held.holder ≡ 0 → Done old (cut conn) [] new

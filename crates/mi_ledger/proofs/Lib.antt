@@ -1,3 +1,5 @@
 mod BelongsLemmas
 pub mod JournalLemmas
 mod ReplayLemmas
+mod JudgeLemmas
+mod TakenLemmas

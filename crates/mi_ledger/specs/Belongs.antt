@@ -32,6 +32,10 @@ abbrev pub is_conn : Option ℕ → ℕ → Bool
 is_conn None conn = false
 is_conn (Some holder) conn = holder == conn
 
+-- a line goes into the journal where no other connection holds sessions, and its reply may be a change's
+abbrev pub goes_in : Option ℕ → ℕ → List ℕ → Bool
+goes_in holder conn reply = not (is_other holder conn) && may_change reply
+
 -- the connection that holds sessions
 abbrev pub holder_conn : Option Holder → Option ℕ
 holder_conn holder = option_map (λ (h : Holder). h.conn) holder

@@ -1,6 +1,6 @@
 //! Whether a line goes into the journal, told from its reply and from who held sessions before it. It reads no line.
 ghost use Rattle.std.specs.Prelude.{◌≡◌};
-ghost use Rattle.mi_ledger.specs.Belongs.{may_change, is_other, IsRight, LeavesOutQuiet};
+ghost use Rattle.mi_ledger.specs.Belongs.{may_change, is_other, goes_in, IsRight, LeavesOutQuiet};
 
 use mi_replay::laws;
 
@@ -38,6 +38,7 @@ fn another_holds(holder: Option<u64>, conn: u64) -> bool
 pub fn belongs(holder: Option<u64>, conn: u64, reply: &[u8]) -> bool
     ensures right { IsRight holder conn reply.now result }
     ensures quiet { LeavesOutQuiet reply.now result }
+    ensures exact { result ≡ goes_in holder conn reply.now }
 {
     laws::quiet_lines_stay_out();
     if another_holds(holder, conn) {

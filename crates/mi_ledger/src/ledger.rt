@@ -1,12 +1,12 @@
 //! A hub whose lines are journaled: what changed anything is appended to a log as it is executed, and the replies go out once that stays.
 //! It reads and writes no stream.
-ghost use Rattle.std.specs.Prelude.{◌≡◌, ◌<◌, ◌++◌, ℕ, List, [], ◌∷◌, Some, Err, true, false, length, OnOk, OnErr, IfOk, IfErr, IsSome};
+ghost use Rattle.std.specs.Prelude.{◌≡◌, ◌↔◌, ◌<◌, ◌++◌, ℕ, List, [], ◌∷◌, Some, Err, true, false, length, OnOk, OnErr, IfOk, IfErr, IsSome, IsTrue};
 ghost use Rattle.std.specs.Io.KnownBytes.{Keeps};
 ghost use Rattle.mi_commands.specs.Holder.{held_by};
 ghost use Rattle.mi_hub.specs.Connections.{rest_at};
 ghost use Rattle.mi_hub.specs.Run.{attach, cut, Done, Refused};
 ghost use Rattle.mi_replay.specs.Acts.{leaves};
-ghost use Rattle.mi_ledger.specs.Belongs.{is_conn};
+ghost use Rattle.mi_ledger.specs.Belongs.{is_conn, holder_conn};
 ghost use Rattle.mi_ledger.specs.HeldReplies.{bytes_of};
 ghost use Rattle.mi_ledger.specs.Journals.{IsWholeLine, Decided, IsNoted, Journals, Asks};
 
@@ -88,7 +88,8 @@ impl<D: Sessions + Drop, L: Log + Drop> Ledger<D, L> {
 
     /// Whether a connection holds open sessions.
     pub fn holds(&self, conn: u64) -> bool
-        ensures { result ≡ false → held_by conn (hub_of self.now).held.holder ≡ 0 }
+        ensures holder { IsTrue result ↔ (holder_conn (hub_of self.now).held.holder ≡ Some conn) }
+        ensures none { result ≡ false → held_by conn (hub_of self.now).held.holder ≡ 0 }
     {
         is_holder(self.hub.holder(), conn)
     }

@@ -1,13 +1,13 @@
 //! A line of a journal, asked again of a hub that nobody else asks.
-ghost use Rattle.std.specs.Prelude.{◌≡◌, ◌++◌, ◌∷◌, ℕ, List, [], Some, Ok, true, false, OnOk, IfSome};
+ghost use Rattle.std.specs.Prelude.{◌≡◌, ◌⊎◌, ℕ, List, [], Some, Ok, Err, true, false, OnOk, IfSome};
 ghost use Rattle.mi_log.specs.LogLines.{reader_of, line_of};
 ghost use Rattle.mi_hub.specs.Ended.{after_newlines};
-ghost use Rattle.mi_ledger.specs.Replay.{Onward, IsTorn};
+ghost use Rattle.mi_ledger.specs.Replay.{Onward, IsTorn, IsForMemory};
 ghost use Rattle.mi_hub.specs.Connections.{rest_at};
 ghost use Rattle.mi_hub.specs.Lines.{lines_of};
 ghost use Rattle.mi_replay.specs.Replayed.{replayer, replayed};
-ghost use Rattle.mi_ledger.specs.Belongs.{may_change};
-ghost use Rattle.mi_ledger.specs.Journals.{IsWholeLine};
+ghost use Rattle.mi_hub.specs.Run.{piece, Done};
+ghost use Rattle.mi_ledger.specs.Journals.{IsWholeLine, IsTaken};
 
 use crate::deciding::may_be_change;
 use mi_hub::{Hub, Watched};
@@ -43,7 +43,9 @@ pub enum ReplayFault {
 
 /// Whether a reply, with its newline, is one that a line of a journal has.
 fn judge(reply: &[u8]) -> Result<(), LineFault>
-    ensures { OnOk result ((text : List ℕ) × (reply.now ≡ text ++ 10 ∷ []) × (may_change text ≡ true)) }
+    ensures ok { OnOk result (IsTaken reply.now) }
+    ensures refused { result ≡ Err LineFault.Refused → ¬ (IsTaken reply.now ⊎ IsForMemory reply.now) }
+    ensures memory { result ≡ Err LineFault.Memory → IsForMemory reply.now }
 {
     let Some((newline, text)) = reply.split_last() else {
         return Err(LineFault::Refused);
@@ -70,6 +72,8 @@ pub fn replay_line<D: Sessions + Drop>(
     requires attached { rest_at replayer hub.old.attached ≡ Some (Some []) }
     requires whole { IsWholeLine line.now }
     ensures ok { OnOk result (hub.new.held ≡ replayed (lines_of line.now) hub.old.held) }
+    ensures refused { result ≡ Err LineFault.Refused
+        → (out : List ℕ) × Done hub.old (piece replayer line.now) out hub.new × ¬ (IsTaken out ⊎ IsForMemory out) }
     ensures still { OnOk result (rest_at replayer hub.new.attached ≡ Some (Some [])) }
     ensures attached { OnOk result (hub.new.attached ≡ hub.old.attached) }
 {

@@ -1,7 +1,10 @@
--- A connection that isn't the holder holds none.
+-- A connection is the holder just where the holder has its number; one that isn't holds none.
 use Rattle.std.proofs.Common.{◌∙◌, sym}
-use Rattle.mi_ledger.proofs.JournalLemmas.{holds_none}
+use Rattle.mi_ledger.proofs.JournalLemmas.{holds_just, holds_none}
 use Rattle.mi_ledger.proofs.ledger.Ledger.holds.Goals as goal
 
-pub returns : goal.returns
-returns g c = λ no. holds_none _ c.holder.result c.args.conn (sym c.holder.ensures.is) (sym c.is_holder.ensures ∙ no)
+pub returns-clause-holder : goal.returns-clause-holder
+returns-clause-holder g c = holds_just _ c.holder.result c.args.conn c.is_holder.result c.holder.ensures.is c.is_holder.ensures
+
+pub returns-clause-none : goal.returns-clause-none
+returns-clause-none g c = λ no. holds_none _ c.holder.result c.args.conn (sym c.holder.ensures.is) (sym c.is_holder.ensures ∙ no)
