@@ -1,5 +1,5 @@
 -- Bytes that wait, and the lines that they are.
-use Rattle.std.proofs.Common.{◌≡◌, ℕ, ◌+◌, ◌-◌, ◌<◌, ◌≤◌, List, [], ◌∷◌, ◌++◌, length, take, drop, get_or, Bool, true, false, ◌&&◌, cond, nat_eq, nat_lt}
+use Rattle.std.proofs.Common.{◌≡◌, ℕ, zero, suc, ◌+◌, ◌-◌, ◌<◌, ◌≤◌, List, [], ◌∷◌, ◌++◌, length, take, drop, get_or, Bool, true, false, ◌&&◌, cond, nat_eq, nat_lt}
 use Rattle.std.proofs.Common.{Some, None, refl, sym, ap, ◌∙◌, arith, append_assoc, option_to_list}
 use Rattle.std.proofs.Math.Seq.{take-append_seam, get_or-append_seam}
 use Rattle.std.specs.Prelude.{slice_index}
@@ -155,3 +155,35 @@ line_at n m w is lt e =
 pub ends_nothing : (w : List ℕ) → length w ≡ 0 → EndsAsClosed w (w ++ [])
 ends_nothing [] h = ends_empty
 ends_nothing (x ∷ w) h = absurd (omega (arith, h))
+
+-- ---- where a newline stands, and where none does
+
+tail_by : (x : ℕ) (w : List ℕ) (b : Bool) → nat_eq x 10 ≡ b → ended (x ∷ w) ≡ [] → ended w ≡ []
+unfolding ended
+tail_by x w true is h = absurd (cons_none [] (ended w) (sym (ap (λ b. cond b ([] ∷ ended w) (put_front x (ended w))) is) ∙ h))
+tail_by x w false is h = none_before x (ended w) (sym (ap (λ b. cond b ([] ∷ ended w) (put_front x (ended w))) is) ∙ h)
+
+first_newline : (x : ℕ) (w : List ℕ) → nat_eq x 10 ≡ true → ended (x ∷ w) ≡ [] → ⊥
+unfolding ended
+first_newline x w is h = cons_none [] (ended w) (sym (ap (λ b. cond b ([] ∷ ended w) (put_front x (ended w))) is) ∙ h)
+
+-- where a newline stands a text ends
+pub some_newline : (n : ℕ) (w : List ℕ) → n < length w → nat_eq (get_or w n 0) 10 ≡ true → ended w ≡ [] → ⊥
+some_newline n [] lt e h = absurd (omega arith)
+some_newline zero (x ∷ w) lt e h = first_newline x w e h
+some_newline (suc n) (x ∷ w) lt e h = some_newline n w (omega arith) e (tail_by x w (nat_eq x 10) refl h)
+
+is_newline : (x : ℕ) → nat_eq x 10 ≡ true → x ≡ 10
+is_newline x h = grind arith
+
+-- what stands from a newline on begins with it
+pub newline_on : (n : ℕ) (w : List ℕ) → n < length w → nat_eq (get_or w n 0) 10 ≡ true → drop n w ≡ 10 ∷ drop 1 (drop n w)
+newline_on n [] lt e = absurd (omega arith)
+newline_on zero (x ∷ w) lt e = ap (λ y. y ∷ w) (is_newline x e)
+newline_on (suc n) (x ∷ w) lt e = newline_on n w (omega arith) e
+
+-- the end of a text without newlines has none
+pub unended_drop : (n : ℕ) (w : List ℕ) → ended w ≡ [] → ended (drop n w) ≡ []
+unended_drop zero w h = h
+unended_drop (suc n) [] h = h
+unended_drop (suc n) (x ∷ w) h = unended_drop n w (tail_by x w (nat_eq x 10) refl h)

@@ -2,3 +2,4 @@ pub mod StepLemmas
 pub mod RowLemmas
 pub mod ServedLemmas
 mod InputLemmas
+mod UndoneLemmas

@@ -13,7 +13,7 @@ use Rattle.mi_hub.specs.declared.connection.Connection.{Connection}
 use Rattle.mi_clients.specs.Row.{ids, inputs, fresh, IsNoneOf, AllDiffer, Attends}
 use Rattle.mi_clients.specs.declared.client.Client.{Client}
 
-test_of : (b : Bool) → (b ≡ true) ⊎ (b ≡ false)
+pub test_of : (b : Bool) → (b ≡ true) ⊎ (b ≡ false)
 test_of true = inl refl
 test_of false = inr refl
 
@@ -27,7 +27,7 @@ pub back_none : {A : Type 0} (xs ys : List A) → xs ++ ys ≡ [] → ys ≡ []
 back_none [] ys none = none
 back_none (x ∷ xs) ys none = cc
 
-is_same : (x y : ℕ) → nat_eq x y ≡ true → x ≡ y
+pub is_same : (x y : ℕ) → nat_eq x y ≡ true → x ≡ y
 is_same x y h = grind arith
 
 pub turned : (x y : ℕ) → nat_eq x y ≡ false → nat_eq y x ≡ false

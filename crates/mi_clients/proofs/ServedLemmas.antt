@@ -1,23 +1,32 @@
 -- What connections are owed and sent, one step behind another, and over a row.
 use Rattle.std.proofs.Common.{◌≡◌, ◌⊎◌, inl, inr, ℕ, zero, suc, ◌<◌, List, [], ◌∷◌, ◌++◌, length, nat_eq, cond, ◌≤◌, Option, refl, sym, ap, ◌∙◌, subst}
+use Rattle.std.proofs.Common.{Result, Ok, Err}
 use Rattle.std.proofs.Common.{append-nil, append_assoc, arith}
-use Rattle.std.proofs.lemmas.List.{length-append}
-use Rattle.std.specs.Prelude.{slice_set, slice_index_or}
+use Rattle.std.proofs.lemmas.List.{length-append, get_or_default}
+use Rattle.std.specs.Prelude.{slice_set, slice_index_or, OnOk}
 use Rattle.std.specs.List.{remove, All, AllZip, Contains}
-use Rattle.std.specs.Io.KnownBytes.{Appends, Keeps}
+use Rattle.std.specs.Io.KnownBytes.{Appends, Consumes, Keeps}
 use Rattle.std.proofs.KnownBytes.{Appends-nil, Appends-trans}
-use Rattle.mi_clients.specs.Client.{owed, Owes, IsServed, IsAsked, AsksAll, IsOver}
+use Rattle.mi_clients.specs.Client.{owed, Owes, IsServed, HasRoom, IsAsked, AsksAll, AsksWithin, AsksWhatCame, IsAsFar, HasSent, IsSent, IsOver}
 use Rattle.mi_clients.specs.Input.{waiting}
 use Rattle.mi_clients.specs.declared.client.TheConstants.{MOST_UNSENT}
 use Rattle.mi_hub.specs.Ended.{ended}
+use Rattle.mi_clients.specs.Lines.{SameLines, Ends}
 use Rattle.mi_clients.specs.Output.{Sends}
-use Rattle.mi_clients.specs.Row.{ids, inputs, IsNoneOf, AllDiffer, EachServed, IsNew, Joins, LetsGo, NoneIsOver, Serves}
+use Rattle.mi_ledger.specs.HeldReplies.{bytes_of}
+use Rattle.mi_clients.specs.Row.{ids, inputs, IsNoneOf, AllDiffer, EachServed, EachAsFar, OpenOnlyAsk, IsNew, Joins, LetsGo, NoneIsOver, Serves}
 use Rattle.mi_clients.specs.Steps.{Step, comes, asks, undoes, goes, reply_to, given_to, GivesOnly, GivesNone, AreAsks, AreUndos}
+use Rattle.mi_clients.specs.Steps.{line_by, asked_by, OnlyAsks, LeavesOthers}
 use Rattle.mi_clients.specs.declared.client.Client.{Client}
 use Rattle.mi_clients.specs.declared.client.Phase.{Phase}
-use Rattle.mi_clients.specs.declared.client.Phase.TheVariants.{Broken}
+use Rattle.mi_clients.specs.declared.client.Phase.TheVariants.{Open, Ended, Asked, Broken}
 use Rattle.mi_clients.proofs.StepLemmas.{none_more}
 use Rattle.mi_clients.proofs.RowLemmas.{same_test, turned, none_at}
+
+-- what follows from three facts of an Ok
+pub on_ok_all : {T E P Q R W : Type 0} (r : Result T E) → (P → Q → R → W) → OnOk r P → OnOk r Q → OnOk r R → OnOk r W
+on_ok_all (Ok v) f p q s = f p q s
+on_ok_all (Err e) f p q s = tt
 
 -- ---- what is given in steps
 
@@ -39,7 +48,7 @@ only_join : (conn : ℕ) (xs ys : List Step) → GivesOnly conn xs → GivesNone
 only_join conn xs ys p q = λ k other. given_front k xs ys q ∙ p k other
 
 -- to the one that asks, the replies to its lines
-asks_given : (conn : ℕ) (steps : List Step) (taken given : List ℕ) → AreAsks conn steps taken given → given_to conn steps ≡ given
+pub asks_given : (conn : ℕ) (steps : List Step) (taken given : List ℕ) → AreAsks conn steps taken given → given_to conn steps ≡ given
 asks_given conn [] taken given p = sym p.1
 asks_given conn (comes k ∷ steps) taken given p = absurd p
 asks_given conn (asks k line reply ∷ steps) taken given p =
@@ -77,6 +86,72 @@ comes_none_given conn = λ k. refl
 pub nothing_given : GivesNone []
 nothing_given = λ k. refl
 
+-- ---- what is asked in steps
+
+asked_join : (k : ℕ) (xs ys : List Step) → asked_by k (xs ++ ys) ≡ asked_by k xs ++ asked_by k ys
+asked_join k [] ys = refl
+asked_join k (x ∷ xs) ys =
+    ap (λ t. line_by k x ++ t) (asked_join k xs ys) ∙ sym (append_assoc (line_by k x) (asked_by k xs) (asked_by k ys))
+
+asks_taken : (conn : ℕ) (steps : List Step) (taken given : List ℕ) → AreAsks conn steps taken given → asked_by conn steps ≡ taken
+asks_taken conn [] taken given p = sym p.0
+asks_taken conn (comes k ∷ steps) taken given p = absurd p
+asks_taken conn (asks k line reply ∷ steps) taken given p =
+    ap (λ n. cond (nat_eq n conn) line [] ++ asked_by conn steps) p.0
+    ∙ ap (λ b. cond b line [] ++ asked_by conn steps) (same_test conn)
+    ∙ ap (λ t. line ++ t) (asks_taken conn steps p.1 p.2 p.3) ∙ sym p.4
+asks_taken conn (undoes k reply ∷ steps) taken given p = absurd p
+asks_taken conn (goes k ∷ steps) taken given p = absurd p
+
+undos_taken : (conn k : ℕ) (steps : List Step) → AreUndos conn steps → asked_by k steps ≡ []
+undos_taken conn k [] p = refl
+undos_taken conn k (comes j ∷ steps) p = absurd p
+undos_taken conn k (asks j line reply ∷ steps) p = absurd p
+undos_taken conn k (undoes j reply ∷ steps) p = undos_taken conn k steps p.1
+undos_taken conn k (goes j ∷ steps) p = absurd p
+
+pub taken_in : (conn : ℕ) (xs ys : List Step) (taken given : List ℕ) → AreAsks conn xs taken given → AreUndos conn ys
+    → asked_by conn (xs ++ ys) ≡ taken
+taken_in conn xs ys taken given p q =
+    asked_join conn xs ys ∙ ap (λ t. t ++ asked_by conn ys) (asks_taken conn xs taken given p)
+    ∙ ap (λ t. taken ++ t) (undos_taken conn conn ys q) ∙ append-nil taken
+
+-- ---- who only asks in steps
+
+only_then : (k : ℕ) (xs ys : List Step) → OnlyAsks k xs → OnlyAsks k ys → OnlyAsks k (xs ++ ys)
+only_then k [] ys p q = q
+only_then k (comes j ∷ xs) ys p q = (p.0, only_then k xs ys p.1 q)
+only_then k (asks j line reply ∷ xs) ys p q = only_then k xs ys p q
+only_then k (undoes j reply ∷ xs) ys p q = (p.0, only_then k xs ys p.1 q)
+only_then k (goes j ∷ xs) ys p q = (p.0, only_then k xs ys p.1 q)
+
+only_asks : (conn k : ℕ) (steps : List Step) (taken given : List ℕ) → AreAsks conn steps taken given → OnlyAsks k steps
+only_asks conn k [] taken given p = tt
+only_asks conn k (comes j ∷ steps) taken given p = absurd p
+only_asks conn k (asks j line reply ∷ steps) taken given p = only_asks conn k steps p.1 p.2 p.3
+only_asks conn k (undoes j reply ∷ steps) taken given p = absurd p
+only_asks conn k (goes j ∷ steps) taken given p = absurd p
+
+undos_others : (conn : ℕ) (steps : List Step) → AreUndos conn steps → LeavesOthers conn steps
+undos_others conn [] p = λ k other. tt
+undos_others conn (comes j ∷ steps) p = absurd p
+undos_others conn (asks j line reply ∷ steps) p = absurd p
+undos_others conn (undoes j reply ∷ steps) p = λ k other. (ap (λ n. nat_eq n k) p.0 ∙ other, undos_others conn steps p.1 k other)
+undos_others conn (goes j ∷ steps) p = absurd p
+
+-- one asks, and its sessions are undone
+pub asks_others : (conn : ℕ) (xs ys : List Step) (taken given : List ℕ) → AreAsks conn xs taken given → AreUndos conn ys → LeavesOthers conn (xs ++ ys)
+asks_others conn xs ys taken given p q = λ k other. only_then k xs ys (only_asks conn k xs taken given p) (undos_others conn ys q k other)
+
+-- its sessions are undone, and it goes
+pub goes_others : (conn : ℕ) (ys : List Step) → AreUndos conn ys → LeavesOthers conn (ys ++ goes conn ∷ [])
+goes_others conn ys q = λ k other. only_then k ys (goes conn ∷ []) (undos_others conn ys q k other) (other, tt)
+
+-- one asks, and none is undone
+pub asks_alone : (conn : ℕ) (xs ys : List Step) (taken given : List ℕ) → AreAsks conn xs taken given → ys ≡ [] → OnlyAsks conn (xs ++ ys)
+asks_alone conn xs ys taken given p none =
+    only_then conn xs ys (only_asks conn conn xs taken given p) (subst (OnlyAsks conn) (sym none) tt)
+
 -- ---- one connection
 
 -- what two are given, the second behind the first; something is lost of the first only where the second is nothing
@@ -106,6 +181,15 @@ whole_then : {b c : Phase} {h : List ℕ} (l m : List ℕ) → (b ≡ Broken) �
 whole_then l m (inl is) q more = inl (more is).0
 whole_then l m (inr none) (inl is) more = inl is
 whole_then l m (inr none) (inr all) more = inr (ap (λ t. t ++ l) all ∙ none)
+
+asked_open : (p : Phase) → p ≡ Asked → p ≡ Open → ⊥
+asked_open p h k = cc
+
+broken_open : (p : Phase) → p ≡ Broken → p ≡ Open → ⊥
+broken_open p h k = cc
+
+ended_open : (p : Phase) → p ≡ Ended → p ≡ Open → ⊥
+ended_open p h k = cc
 
 module _ {S : Type 0} where
   pub owes_none : (c : Client S) → Owes [] c c
@@ -153,6 +237,71 @@ module _ {S : Type 0} where
     | inr none ↦ inr (inr (λ room. full (subst (λ t. length t ≤ MOST_UNSENT)
         (sym (append-nil (owed b)) ∙ ap (λ t. owed b ++ t) (sym none) ∙ sym p.bytes ∙ append-nil (owed a)) room)))
   ]
+
+  -- what is owed to one that isn't broken is what was, and the replies to its lines
+  pub room_left : (a b : Client S) (steps : List Step) (taken given : List ℕ) → AreAsks a.conn steps taken given → Owes given a b
+      → ¬ (b.phase ≡ Broken) → HasRoom b → length (owed a ++ given_to a.conn steps) ≤ MOST_UNSENT
+  room_left a b steps taken given own p sound room = elim p.whole [
+    | inl broken ↦ absurd (sound broken)
+    | inr none ↦ subst (λ t. length t ≤ MOST_UNSENT)
+        (sym (append-nil (owed b)) ∙ ap (λ t. owed b ++ t) (sym none) ∙ sym p.bytes ∙ ap (λ t. owed a ++ t) (sym (asks_given a.conn steps taken given own)))
+        room
+  ]
+
+  -- ---- how far it is
+
+  pub far_then : (a b c : Client S) → IsAsFar a b → IsAsFar b c → IsAsFar a c
+  far_then a b c p (inl broken) = inl broken
+  far_then a b c (inl broken) (inr same) = inl (same ∙ broken)
+  far_then a b c (inr before) (inr same) = inr (same ∙ before)
+
+  not_ended : (c d : Client S) {X : Type 0} → (d ≡ c) ⊎ ((d.phase ≡ Asked) × X) → d.phase ≡ Open → c.phase ≡ Open
+  not_ended c d (inl same) is = ap (λ (x : Client S). x.phase) (sym same) ∙ is
+  not_ended c d (inr all) is = absurd (asked_open d.phase all.0 is)
+
+  -- one that is open then was open before
+  pub open_before : (b c d : Client S) {X : Type 0} → IsAsFar b c → (d ≡ c) ⊎ ((d.phase ≡ Asked) × X) → d.phase ≡ Open → b.phase ≡ Open
+  open_before b c d (inl broken) settled is = absurd (broken_open c.phase broken (not_ended c d settled is))
+  open_before b c d (inr same) settled is = sym same ∙ not_ended c d settled is
+
+  -- and no session of it was undone
+  pub open_alone : (c d : Client S) (ys : List Step) {X : Type 0} → (d ≡ c) ⊎ ((d.phase ≡ Asked) × X) → (¬ (c.phase ≡ Ended) → ys ≡ [])
+      → d.phase ≡ Open → ys ≡ []
+  open_alone c d ys settled none is = none (λ ended. ended_open c.phase ended (not_ended c d settled is))
+
+  -- what was read is asked or waits
+  pub came_whole : (remaining : S → Option (List ℕ)) (a b c d : Client S) (xs : List Step) (taken given t piece : List ℕ) {X : Type 0}
+      → Consumes (remaining a.stream) (remaining b.stream) piece
+      → (b.phase ≡ Broken) ⊎ (SameLines (waiting a.input ++ piece) (waiting b.input)
+      ⊎ ((b.phase ≡ Ended) × (piece ≡ []) × Ends (waiting a.input) (waiting b.input)))
+      → waiting b.input ≡ taken ++ waiting c.input → AsksWithin b xs → AreAsks b.conn xs taken given → IsAsFar b c → Owes given b c → Owes [] c d
+      → d.input ≡ c.input → (d ≡ c) ⊎ ((d.phase ≡ Asked) × X) → t ≡ taken → AsksWhatCame remaining t a d
+  came_whole remaining a b c d xs taken given t piece read came waits within own far owes more input settled is = (
+    piece,
+    subst (λ s. Consumes (remaining a.stream) (remaining s) piece) (sym (more.stream ∙ owes.stream)) read,
+    elim came [
+      | inl broken ↦ inl ((more.broken (owes.broken broken).0).0, is ∙ nothing broken within)
+      | inr (inl same) ↦ inr (inl (subst (SameLines (waiting a.input ++ piece)) waits_all same))
+      | inr (inr ends) ↦ inr (inr (
+        λ is_open. ended_open b.phase ends.0 (open_before b c d far settled is_open),
+        ends.1,
+        subst (Ends (waiting a.input)) waits_all ends.2,
+      ))
+    ],
+  )
+    where
+      waits_all : waiting b.input ≡ t ++ waiting d.input
+      waits_all = waits ∙ ap (λ x. x ++ waiting c.input) (sym is) ∙ ap (λ i. t ++ waiting i) (sym input)
+
+      nothing : b.phase ≡ Broken → AsksWithin b xs → taken ≡ []
+      nothing broken (inl none) = (subst (λ zs. AreAsks b.conn zs taken given) none own).0
+      nothing broken (inr some) = absurd (some.0 broken)
+
+  -- ---- what is sent
+
+  pub sent_all : (a b : Client S) → HasSent b → bytes_of a.held ≡ [] → b.held ≡ a.held → IsSent b
+  sent_all a b (inl broken) none same = inl broken
+  sent_all a b (inr sent) none same = inr (ap bytes_of same ∙ none, sent)
 
   module _ (contents : S → Option (List ℕ)) where
     served_same : (c : Client S) (g : List ℕ) → g ≡ [] → IsServed contents g c c
@@ -284,6 +433,98 @@ module _ {S : Type 0} where
   zip_both P Q [] (y ∷ b) p q = absurd p
   zip_both P Q (x ∷ a) [] p q = absurd p
   zip_both P Q (x ∷ a) (y ∷ b) p q = ((p.0, q.0), zip_both P Q a b p.1 q.1)
+
+  -- what holds of each that stands in a row
+  all_from : (P : Client S → Type 0) (row : List (Client S)) → ((c : Client S) → Contains row c → P c) → All P row
+  all_from P row f = λ k d within.
+      let c = slice_index_or row k d in f c (k, within, get_or_default row k c d within)
+
+  pub all_left : (P : Client S → Type 0) (olds news : List (Client S)) → LetsGo olds news → All P olds → All P news
+  all_left P olds news left all = all_from P news (λ c h. let there = left.from c h in subst P there.2 (all there.0 c there.1))
+
+  -- ---- how far a row is
+
+  pub far_none : (row : List (Client S)) → EachAsFar row row
+  far_none [] = tt
+  far_none (y ∷ row) = (inr refl, far_none row)
+
+  pub far_set : (olds row : List (Client S)) (i : ℕ) (d x : Client S) → i < length row → IsAsFar (slice_index_or row i d) x → EachAsFar olds row
+      → EachAsFar olds (slice_set row i x)
+  far_set [] [] i d x lt one p = absurd (omega arith)
+  far_set [] (y ∷ row) i d x lt one p = absurd p
+  far_set (o ∷ olds) [] i d x lt one p = absurd p
+  far_set (o ∷ olds) (y ∷ row) zero d x lt one p = (far_then o y x p.0 one, p.1)
+  far_set (o ∷ olds) (y ∷ row) (suc i) d x lt one p = (p.0, far_set olds row i d x (omega arith) one p.1)
+
+  -- ---- those that are open only ask
+
+  pub opens_none : (row : List (Client S)) → OpenOnlyAsk [] row
+  opens_none [] = tt
+  opens_none (y ∷ row) = (λ is. tt, opens_none row)
+
+  -- another one asks, or goes
+  opens_other : (xs ys : List Step) (conn : ℕ) (row : List (Client S)) → LeavesOthers conn ys → IsNoneOf conn (ids row) → OpenOnlyAsk xs row
+      → OpenOnlyAsk (xs ++ ys) row
+  opens_other xs ys conn [] others none p = tt
+  opens_other xs ys conn (y ∷ row) others none p = (
+    λ is. only_then y.conn xs ys (p.0 is) (others y.conn (turned y.conn conn none.0)),
+    opens_other xs ys conn row others none.1 p.1,
+  )
+
+  -- one is served
+  pub opens_set : (xs ys : List Step) (row : List (Client S)) (i : ℕ) (d x : Client S) → AllDiffer (ids row) → i < length row
+      → LeavesOthers (slice_index_or row i d).conn ys → x.conn ≡ (slice_index_or row i d).conn
+      → (x.phase ≡ Open → (slice_index_or row i d).phase ≡ Open) → (x.phase ≡ Open → OnlyAsks (slice_index_or row i d).conn ys)
+      → OpenOnlyAsk xs row → OpenOnlyAsk (xs ++ ys) (slice_set row i x)
+  opens_set xs ys [] i d x differ lt others same before own p = absurd (omega arith)
+  opens_set xs ys (y ∷ row) zero d x differ lt others same before own p = (
+    λ is. subst (λ k. OnlyAsks k (xs ++ ys)) (sym same) (only_then y.conn xs ys (p.0 (before is)) (own is)),
+    opens_other xs ys y.conn row others differ.0 p.1,
+  )
+  opens_set xs ys (y ∷ row) (suc i) d x differ lt others same before own p = (
+    λ is. only_then y.conn xs ys (p.0 is) (others y.conn (none_at y.conn row i d (omega arith) differ.0)),
+    opens_set xs ys row i d x differ.1 (omega arith) others same before own p.1,
+  )
+
+  -- one goes
+  pub opens_less : (xs ys : List Step) (row : List (Client S)) (i : ℕ) (d : Client S) → AllDiffer (ids row) → i < length row
+      → LeavesOthers (slice_index_or row i d).conn ys → OpenOnlyAsk xs row → OpenOnlyAsk (xs ++ ys) (remove row i)
+  opens_less xs ys [] i d differ lt others p = absurd (omega arith)
+  opens_less xs ys (y ∷ row) zero d differ lt others p = opens_other xs ys y.conn row others differ.0 p.1
+  opens_less xs ys (y ∷ row) (suc i) d differ lt others p = (
+    λ is. only_then y.conn xs ys (p.0 is) (others y.conn (none_at y.conn row i d (omega arith) differ.0)),
+    opens_less xs ys row i d differ.1 (omega arith) others p.1,
+  )
+
+  opens_at : (steps : List Step) (row : List (Client S)) (c : Client S) → OpenOnlyAsk steps row → IsIn c row → c.phase ≡ Open → OnlyAsks c.conn steps
+  opens_at steps [] c p h = absurd h
+  opens_at steps (y ∷ row) c p (inl is) = subst (λ (x : Client S). x.phase ≡ Open → OnlyAsks x.conn steps) is p.0
+  opens_at steps (y ∷ row) c p (inr h) = opens_at steps row c p.1 h
+
+  opens_from : (steps : List Step) (row : List (Client S)) → ((c : Client S) → IsIn c row → c.phase ≡ Open → OnlyAsks c.conn steps) → OpenOnlyAsk steps row
+  opens_from steps [] f = tt
+  opens_from steps (y ∷ row) f = (f y (inl refl), opens_from steps row (λ c h. f c (inr h)))
+
+  -- replies are sent
+  opens_sent : (contents : S → Option (List ℕ)) (xs : List Step) (b d : List (Client S)) → EachServed contents [] b d → EachAsFar b d
+      → OpenOnlyAsk xs b → OpenOnlyAsk xs d
+  opens_sent contents xs [] [] sent far p = tt
+  opens_sent contents xs [] (z ∷ d) sent far p = absurd sent
+  opens_sent contents xs (y ∷ b) [] sent far p = absurd sent
+  opens_sent contents xs (y ∷ b) (z ∷ d) sent far p = (
+    λ is. subst (λ k. OnlyAsks k xs) (sym sent.0.conn) (p.0 (was_open far.0 is)),
+    opens_sent contents xs b d sent.1 far.1 p.1,
+  )
+    where
+      was_open : IsAsFar y z → z.phase ≡ Open → y.phase ≡ Open
+      was_open (inl broken) is = absurd (broken_open z.phase broken is)
+      was_open (inr same) is = sym same ∙ is
+
+  -- those that are open have asked, replies were sent, and others have gone
+  pub opens_all : (contents : S → Option (List ℕ)) (xs ys : List Step) (b d e : List (Client S)) → EachServed contents [] b d → EachAsFar b d
+      → OpenOnlyAsk xs b → LetsGo d e → OpenOnlyAsk ys e → OpenOnlyAsk (xs ++ ys) e
+  opens_all contents xs ys b d e sent far p left q = opens_from (xs ++ ys) e (λ c h is.
+      only_then c.conn xs ys (opens_at xs d c (opens_sent contents xs b d sent far p) (in_from d c (left.from c (in_to e c h))) is) (opens_at ys e c q h is))
 
   -- ---- those that stay in the row
 

@@ -1,9 +1,11 @@
 -- What a connection is to be sent, and what becomes of that while some steps are made.
-use Rattle.std.specs.Prelude.{◌≡◌, ◌⊎◌, ◌≤◌, ◌<◌, ℕ, List, [], ◌++◌, length, IsTrue, IsFalse, Option}
-use Rattle.std.specs.Io.KnownBytes.{Appends}
+use Rattle.std.specs.Prelude.{◌≡◌, ◌⊎◌, ◌≤◌, ◌<◌, ℕ, List, [], ◌∷◌, ◌++◌, length, IsTrue, IsFalse, Option}
+use Rattle.std.specs.Io.KnownBytes.{Appends, Consumes}
 use Rattle.mi_ledger.specs.HeldReplies.{bytes_of}
 use Rattle.mi_clients.specs.Output.{unsent}
 use Rattle.mi_clients.specs.Input.{waiting}
+use Rattle.mi_clients.specs.Lines.{SameLines, Ends}
+use Rattle.mi_clients.specs.Steps.{Step, asks, given_to}
 use Rattle.mi_hub.specs.Ended.{ended}
 use Rattle.mi_clients.specs.declared.client.Client.{Client}
 use Rattle.mi_clients.specs.declared.client.Phase.TheVariants.{Open, Asked, Broken}
@@ -66,3 +68,30 @@ WantsBytes c = (c.phase ≡ Open) × IsTrue c.may_read × IsFalse c.has_lines ×
 -- something of it can be done at once: its lines asked, its stream read, or some of what was handed out written to it
 abbrev pub IsBusy : {S : Type 0} → Client S → Type 0
 IsBusy c = MayAsk c ⊎ (WantsBytes c ⊎ (IsTrue c.may_write × ¬ (unsent c.output ≡ [])))
+
+-- These steps of a connection are none, or in the last of them it asks a line while what it was owed, and the replies of the steps in front
+-- of that, had room.
+abbrev pub AsksWithin : {S : Type 0} → Client S → List Step → Type 0
+AsksWithin old steps =
+    (steps ≡ []) ⊎ (¬ (old.phase ≡ Broken) × (front : List Step) × (line : List ℕ) × (last : List ℕ) × (steps ≡ front ++ asks old.conn line last ∷ [])
+    × (length (owed old ++ given_to old.conn front) ≤ MOST_UNSENT))
+
+-- Between old and new a piece came of a connection, and it has asked these lines: they and what waits then have the lines of what waited
+-- and the piece. Or its bytes have ended, and what no newline ended is the last line. Of one whose stream fails nothing is asked.
+abbrev pub AsksWhatCame : {S : Type 0} → (S → Option (List ℕ)) → List ℕ → Client S → Client S → Type 0
+AsksWhatCame remaining taken old new =
+    (piece : List ℕ) × Consumes (remaining old.stream) (remaining new.stream) piece
+    × (((new.phase ≡ Broken) × (taken ≡ [])) ⊎ (SameLines (waiting old.input ++ piece) (taken ++ waiting new.input)
+    ⊎ (¬ (new.phase ≡ Open) × (piece ≡ []) × Ends (waiting old.input) (taken ++ waiting new.input))))
+
+-- it is as far as it was, or it is broken
+abbrev pub IsAsFar : {S : Type 0} → Client S → Client S → Type 0
+IsAsFar old new = (new.phase ≡ Broken) ⊎ (new.phase ≡ old.phase)
+
+-- no byte of it waits that its stream may take: it is broken, or its stream takes none now, or none waits
+abbrev pub HasSent : {S : Type 0} → Client S → Type 0
+HasSent c = (c.phase ≡ Broken) ⊎ (IsFalse c.may_write ⊎ (unsent c.output ≡ []))
+
+-- the same, and no reply of it is held
+abbrev pub IsSent : {S : Type 0} → Client S → Type 0
+IsSent c = (c.phase ≡ Broken) ⊎ ((bytes_of c.held ≡ []) × (IsFalse c.may_write ⊎ (unsent c.output ≡ [])))

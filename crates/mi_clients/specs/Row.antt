@@ -2,9 +2,10 @@
 use Rattle.std.specs.Prelude.{◌≡◌, ◌⊎◌, ℕ, List, [], ◌∷◌, ◌++◌, map, false, ◌==◌, Some, Option}
 use Rattle.std.specs.List.{All, AllZip, Contains}
 use Rattle.mi_hub.specs.declared.connection.Connection.{Connection}
-use Rattle.mi_clients.specs.Client.{owed, IsServed, IsOver, AsksAll}
-use Rattle.mi_clients.specs.Steps.{Step, given_to}
+use Rattle.mi_clients.specs.Client.{owed, IsServed, IsOver, IsAsFar, AsksAll}
+use Rattle.mi_clients.specs.Steps.{Step, given_to, OnlyAsks}
 use Rattle.mi_clients.specs.declared.client.Client.{Client}
+use Rattle.mi_clients.specs.declared.client.Phase.TheVariants.{Open}
 use Rattle.mi_clients.specs.declared.input.Input.{Input}
 
 -- the numbers of clients, in order
@@ -64,3 +65,12 @@ pub record Serves {S : Type 0} (contents : S → Option (List ℕ)) (steps : Lis
       × AsksAll (given_to old.conn steps) old new
   pub to : (old : Client S) → Contains olds old
       → (last : Client S) × (Contains news last ⊎ IsOver last) × IsServed contents (given_to old.conn steps) old last
+
+-- each of a row is as far as it was, or it is broken
+abbrev pub EachAsFar : {S : Type 0} → List (Client S) → List (Client S) → Type 0
+EachAsFar olds news = AllZip (λ old new. IsAsFar old new) olds news
+
+-- Of a row those that are open have neither come nor gone in these steps, and no session of theirs was undone.
+abbrev pub OpenOnlyAsk : {S : Type 0} → List Step → List (Client S) → Type 0
+OpenOnlyAsk steps [] = Unit {0}
+OpenOnlyAsk steps (c ∷ row) = (c.phase ≡ Open → OnlyAsks c.conn steps) × OpenOnlyAsk steps row

@@ -1,6 +1,7 @@
 -- What a service does to its hub, one step after another. Connection 2 comes, asks to start a session, and goes away:
 -- comes 2, asks 2 "{\"cmd\":\"start\"}⏎" "{\"ok\":true,\"revision\":1}⏎", undoes 2 "{\"ok\":true,\"revision\":0}⏎", goes 2.
-use Rattle.std.specs.Prelude.{◌≡◌, ℕ, List, [], ◌∷◌, ◌++◌, ◌==◌, false, if◌then◌else◌, codes, Option}
+use Rattle.std.specs.Prelude.{◌≡◌, ℕ, ◌<◌, List, [], ◌∷◌, ◌++◌, ◌==◌, false, if◌then◌else◌, codes, Option, Some, None}
+use Rattle.mi_commands.specs.declared.holder.Holder.{Holder}
 use Rattle.mi_hub.specs.Run.{HubState, Event, attach, piece, cut, Done}
 use Rattle.mi_replay.specs.Acts.{Act}
 use Rattle.mi_replay.specs.RunActs.{ActsOfDone}
@@ -81,3 +82,32 @@ GivesOnly conn steps = (k : ℕ) → (conn == k) ≡ false → given_to k steps 
 -- in these steps no connection is given anything
 abbrev pub GivesNone : List Step → Type 0
 GivesNone steps = (k : ℕ) → given_to k steps ≡ []
+
+-- the line that a connection asks in a step, where it asks one itself
+abbrev pub line_by : ℕ → Step → List ℕ
+line_by k (comes conn) = []
+line_by k (asks conn line reply) = if conn == k then line else []
+line_by k (undoes conn reply) = []
+line_by k (goes conn) = []
+
+-- what a connection asks in these steps: its lines, one behind another
+abbrev pub asked_by : ℕ → List Step → List ℕ
+asked_by k [] = []
+asked_by k (step ∷ steps) = line_by k step ++ asked_by k steps
+
+-- in these steps a connection doesn't come, no session of it is undone, and it doesn't go
+abbrev pub OnlyAsks : ℕ → List Step → Type 0
+OnlyAsks k [] = Unit {0}
+OnlyAsks k (comes conn ∷ steps) = ((conn == k) ≡ false) × OnlyAsks k steps
+OnlyAsks k (asks conn line reply ∷ steps) = OnlyAsks k steps
+OnlyAsks k (undoes conn reply ∷ steps) = ((conn == k) ≡ false) × OnlyAsks k steps
+OnlyAsks k (goes conn ∷ steps) = ((conn == k) ≡ false) × OnlyAsks k steps
+
+-- that is so of every other connection than this one
+abbrev pub LeavesOthers : ℕ → List Step → Type 0
+LeavesOthers conn steps = (k : ℕ) → (conn == k) ≡ false → OnlyAsks k steps
+
+-- whoever holds sessions holds one at least
+abbrev pub HoldsSome : Option Holder → Type 0
+HoldsSome None = Unit {0}
+HoldsSome (Some h) = 0 < h.held

@@ -1,14 +1,15 @@
 //! The lines of one connection, asked of the ledger. It reads and writes no stream.
-ghost use Rattle.std.specs.Prelude.{◌≡◌, ◌⊎◌, ◌<◌, ◌++◌, ℕ, List, [], ◌∷◌, Some, true, false, length, IsTrue, OnOk, OnErr, IfOk};
+ghost use Rattle.std.specs.Prelude.{◌≡◌, ◌⊎◌, ◌<◌, ◌++◌, ℕ, List, [], ◌∷◌, Some, true, false, length, IsTrue, IsFalse, OnOk, OnErr, IfOk};
 ghost use Rattle.std.specs.Io.KnownBytes.{Keeps};
-ghost use Rattle.mi_commands.specs.Holder.{held_by};
+ghost use Rattle.mi_commands.specs.Holder.{held_by, released};
 ghost use Rattle.mi_hub.specs.Connections.{rest_at, others};
+ghost use Rattle.mi_ledger.specs.Belongs.{holder_conn};
 ghost use Rattle.mi_ledger.specs.Ledger.{hub_of, log_of, IsSettled};
-ghost use Rattle.mi_clients.specs.Steps.{Step, asks, Makes, GivesNone, AreAsks, AreUndos};
+ghost use Rattle.mi_clients.specs.Steps.{Step, asks, Makes, GivesNone, AreAsks, AreUndos, LeavesOthers, HoldsSome};
 ghost use Rattle.mi_clients.specs.Input.{waiting};
 ghost use Rattle.mi_ledger.specs.HeldReplies.{bytes_of};
 ghost use Rattle.mi_clients.specs.Output.{unsent};
-ghost use Rattle.mi_clients.specs.Client.{owed, Owes, IsAsked};
+ghost use Rattle.mi_clients.specs.Client.{owed, Owes, IsAsked, IsAsFar, AsksWithin};
 ghost use Rattle.mi_hub.specs.Ended.{ended};
 ghost use Rattle.mi_clients.specs.declared.client.Phase.TheVariants as phases;
 
@@ -27,7 +28,9 @@ const UNDO: &[u8] = b"{\"cmd\":\"undo\"}\n";
 fn hand_out<S>(client: &mut Client<S>, bytes: Vec<u8>)
     ensures unsent { ((client.new.phase ≡ phases.Broken) × (unsent client.new.output ≡ unsent client.old.output))
         ⊎ ((client.new.phase ≡ client.old.phase) × (unsent client.new.output ≡ unsent client.old.output ++ bytes.items)) }
-    ensures same { client.new ≡ record client.old { output = client.new.output; phase = client.new.phase } }
+    ensures input { client.new.input ≡ client.old.input }
+    ensures has_lines { client.new.has_lines ≡ client.old.has_lines }
+    ensures same { client.new ≡ record client.old { input = client.new.input; output = client.new.output; phase = client.new.phase; has_lines = client.new.has_lines; lines = client.new.lines; all_asked = client.new.all_asked } }
 {
     match client.output.add(bytes) {
         Ok(()) => {}
@@ -54,6 +57,7 @@ pub fn release<D: Sessions + Drop, L: Log + Drop, S>(
     ensures owes { OnOk result (Owes [] client.old client.new) }
     ensures phase { OnOk result ((client.new.phase ≡ phases.Broken) ⊎ (client.new.phase ≡ client.old.phase)) }
     ensures input { OnOk result (client.new.input ≡ client.old.input) }
+    ensures none { OnOk result (bytes_of client.new.held ≡ []) }
     ensures unsent { OnErr result (client.new.output ≡ client.old.output) }
     ensures hub { hub_of ledger.new ≡ hub_of ledger.old }
     ensures appended { Keeps (L.appended (log_of ledger.old)) (L.appended (log_of ledger.new)) }
@@ -127,8 +131,10 @@ pub fn ask_lines<D: Sessions + Drop, L: Log + Drop, S>(
     ensures asks { OnOk result ((steps : List Step) × (taken : List ℕ) × (given : List ℕ) × AreAsks client.old.conn steps taken given
         × (waiting client.old.input ≡ taken ++ waiting client.new.input)
         × Owes given client.old client.new
-        × Makes steps (hub_of ledger.old) (hub_of ledger.new) (L.appended (log_of ledger.old)) (L.appended (log_of ledger.new))) }
+        × Makes steps (hub_of ledger.old) (hub_of ledger.new) (L.appended (log_of ledger.old)) (L.appended (log_of ledger.new))
+        × AsksWithin client.old steps) }
     ensures all { OnOk result (IsAsked client.new) }
+    ensures phase { OnOk result (IsAsFar client.old client.new) }
     ensures attached { OnOk result ((hub_of ledger.new).attached ≡ (hub_of ledger.old).attached) }
     ensures settled { OnOk result (IsSettled L.appended L.synced ledger.new) }
 {
@@ -142,7 +148,8 @@ pub fn ask_lines<D: Sessions + Drop, L: Log + Drop, S>(
     Ok(())
 }
 
-/// The sessions that a connection holds are undone, each by a line that is asked and whose reply nobody hears.
+/// The sessions that a connection holds are undone, each by a line that is asked and whose reply nobody hears. Where it isn't the holder nothing
+/// changes.
 pub fn undo_all<D: Sessions + Drop, L: Log + Drop>(
     alloc: Global,
     ledger: &mut Ledger<D, L>,
@@ -152,6 +159,8 @@ pub fn undo_all<D: Sessions + Drop, L: Log + Drop>(
     ensures undoes { OnOk result ((steps : List Step) × AreUndos conn steps
         × Makes steps (hub_of ledger.old) (hub_of ledger.new) (L.appended (log_of ledger.old)) (L.appended (log_of ledger.new))) }
     ensures none { OnOk result (held_by conn (hub_of ledger.new).held.holder ≡ 0) }
+    ensures left { OnOk result (HoldsSome (hub_of ledger.old).held.holder → (hub_of ledger.new).held ≡ released conn (hub_of ledger.old).held) }
+    ensures still { ¬ (holder_conn (hub_of ledger.old).held.holder ≡ Some conn) → ledger.new ≡ ledger.old }
     ensures attached { OnOk result ((hub_of ledger.new).attached ≡ (hub_of ledger.old).attached) }
     ensures settled { IsSettled L.appended L.synced ledger.old → IsSettled L.appended L.synced ledger.new }
 {
@@ -165,14 +174,20 @@ pub fn undo_all<D: Sessions + Drop, L: Log + Drop>(
     Err(LedgerFault::Memory)
 }
 
-/// Once all lines of a connection are asked whose bytes have ended, its sessions are undone.
+/// Once all lines of a connection are asked whose bytes have ended, its sessions are undone. Before that nothing changes.
 pub fn settle<D: Sessions + Drop, L: Log + Drop, S>(
     ledger: &mut Ledger<D, L>,
     client: &mut Client<S>,
 ) -> Result<(), LedgerFault>
     requires here { rest_at client.old.conn (hub_of ledger.old).attached ≡ Some (Some []) }
     ensures undoes { OnOk result ((steps : List Step) × AreUndos client.old.conn steps × Owes [] client.old client.new
-        × Makes steps (hub_of ledger.old) (hub_of ledger.new) (L.appended (log_of ledger.old)) (L.appended (log_of ledger.new))) }
+        × Makes steps (hub_of ledger.old) (hub_of ledger.new) (L.appended (log_of ledger.old)) (L.appended (log_of ledger.new))
+        × (¬ (client.old.phase ≡ phases.Ended) → steps ≡ [])) }
+    ensures still { (client.old.phase ≡ phases.Ended) ⊎ (ledger.new ≡ ledger.old) }
+    ensures none { OnOk result ((client.new ≡ client.old)
+        ⊎ ((client.new.phase ≡ phases.Asked) × ((client.old.phase ≡ phases.Ended) × (held_by client.new.conn (hub_of ledger.new).held.holder ≡ 0)))) }
+    ensures left { OnOk result (client.old.phase ≡ phases.Ended → IsFalse client.old.has_lines → HoldsSome (hub_of ledger.old).held.holder
+        → (client.new.phase ≡ phases.Asked) × ((hub_of ledger.new).held ≡ released client.old.conn (hub_of ledger.old).held)) }
     ensures input { OnOk result (client.new.input ≡ client.old.input) }
     ensures attached { OnOk result ((hub_of ledger.new).attached ≡ (hub_of ledger.old).attached) }
     ensures settled { IsSettled L.appended L.synced ledger.old → IsSettled L.appended L.synced ledger.new }
@@ -192,7 +207,10 @@ pub fn part<D: Sessions + Drop, L: Log + Drop>(
 ) -> Result<(), LedgerFault>
     requires here { rest_at conn (hub_of ledger.old).attached ≡ Some (Some []) }
     ensures goes { OnOk result ((steps : List Step) × GivesNone steps
-        × Makes steps (hub_of ledger.old) (hub_of ledger.new) (L.appended (log_of ledger.old)) (L.appended (log_of ledger.new))) }
+        × Makes steps (hub_of ledger.old) (hub_of ledger.new) (L.appended (log_of ledger.old)) (L.appended (log_of ledger.new))
+        × LeavesOthers conn steps) }
+    ensures left { OnOk result (HoldsSome (hub_of ledger.old).held.holder → (hub_of ledger.new).held ≡ released conn (hub_of ledger.old).held) }
+    ensures still { OnOk result (¬ (holder_conn (hub_of ledger.old).held.holder ≡ Some conn) → (hub_of ledger.new).held ≡ (hub_of ledger.old).held) }
     ensures attached { OnOk result ((hub_of ledger.new).attached ≡ others conn (hub_of ledger.old).attached) }
     ensures settled { IsSettled L.appended L.synced ledger.old → IsSettled L.appended L.synced ledger.new }
 {

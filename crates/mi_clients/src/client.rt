@@ -55,6 +55,8 @@ pub struct Client<S> {
     pub(crate) alloc: Global,
     /// Where no line may wait, none does.
     ghost lines: { IsFalse has_lines → ended (waiting input) ≡ [] },
+    /// Of one that counts as asked none waits.
+    ghost all_asked: { phase ≡ phases.Asked → ended (waiting input) ≡ [] },
 }
 
 impl<S> Client<S> {
@@ -144,7 +146,7 @@ impl<S> Client<S> {
 
 impl<S: Duplex> Client<S> {
     ghost use Rattle.std.specs.Io.KnownBytes.{Keeps, Consumes};
-    ghost use Rattle.mi_clients.specs.Client.{owed};
+    ghost use Rattle.mi_clients.specs.Client.{owed, HasSent};
     ghost use Rattle.mi_clients.specs.Output.{Sends};
     ghost use Rattle.mi_clients.specs.Lines.{SameLines, Ends};
 
@@ -156,6 +158,7 @@ impl<S: Duplex> Client<S> {
         ensures contents { Keeps (S.contents self.old.stream) (S.contents self.new.stream) }
         ensures owed { owed self.new ≡ owed self.old }
         ensures broken { self.old.phase ≡ phases.Broken → self.new.phase ≡ phases.Broken }
+        ensures opened { self.new.phase ≡ phases.Open → self.old.phase ≡ phases.Open }
         ensures conn { self.new.conn ≡ self.old.conn }
     {
         if !self.wants_bytes() {
@@ -182,7 +185,9 @@ impl<S: Duplex> Client<S> {
 
     /// A read has failed, or would wait.
     fn fail(&mut self, kind: ErrorKind)
-        ensures { self.new ≡ record self.old { may_read = self.new.may_read; phase = self.new.phase } }
+        ensures input { self.new.input ≡ self.old.input }
+        ensures has_lines { self.new.has_lines ≡ self.old.has_lines }
+        ensures same { self.new ≡ record self.old { input = self.new.input; may_read = self.new.may_read; phase = self.new.phase; has_lines = self.new.has_lines; lines = self.new.lines; all_asked = self.new.all_asked } }
     {
         match kind {
             ErrorKind::WouldBlock => self.may_read = false,
@@ -193,8 +198,9 @@ impl<S: Duplex> Client<S> {
 
     /// A piece has come.
     fn take(&mut self, piece: &[u8])
+        requires { self.old.phase ≡ phases.Open }
         ensures waits { (self.new.phase ≡ phases.Broken) ⊎ SameLines (waiting self.old.input ++ piece.now) (waiting self.new.input) }
-        ensures same { self.new ≡ record self.old { input = self.new.input; phase = self.new.phase; has_lines = self.new.has_lines; lines = self.new.lines } }
+        ensures same { self.new ≡ record self.old { input = self.new.input; phase = self.new.phase; has_lines = self.new.has_lines; lines = self.new.lines; all_asked = self.new.all_asked } }
     {
         self.has_lines = true;
         match self.input.fill(piece) {
@@ -207,7 +213,7 @@ impl<S: Duplex> Client<S> {
     fn finish(&mut self)
         requires { ended (waiting self.old.input) ≡ [] }
         ensures ends { (self.new.phase ≡ phases.Broken) ⊎ ((self.new.phase ≡ phases.Ended) × Ends (waiting self.old.input) (waiting self.new.input)) }
-        ensures same { self.new ≡ record self.old { input = self.new.input; phase = self.new.phase; has_lines = self.new.has_lines; lines = self.new.lines } }
+        ensures same { self.new ≡ record self.old { input = self.new.input; phase = self.new.phase; has_lines = self.new.has_lines; lines = self.new.lines; all_asked = self.new.all_asked } }
     {
         self.has_lines = true;
         match self.input.end() {
@@ -219,8 +225,12 @@ impl<S: Duplex> Client<S> {
     /// Sends what was handed out, as much as its stream takes now. Each byte is sent or owed still.
     pub(crate) fn send(&mut self)
         ensures sent { Sends S.contents self.old.stream self.new.stream (owed self.old) (owed self.new) }
+        ensures all { HasSent self.new }
         ensures broken { self.old.phase ≡ phases.Broken → self.new.phase ≡ phases.Broken }
-        ensures same { self.new ≡ record self.old { stream = self.new.stream; output = self.new.output; phase = self.new.phase; may_write = self.new.may_write } }
+        ensures phase { (self.new.phase ≡ phases.Broken) ⊎ (self.new.phase ≡ self.old.phase) }
+        ensures input { self.new.input ≡ self.old.input }
+        ensures has_lines { self.new.has_lines ≡ self.old.has_lines }
+        ensures same { self.new ≡ record self.old { stream = self.new.stream; input = self.new.input; output = self.new.output; phase = self.new.phase; may_write = self.new.may_write; has_lines = self.new.has_lines; lines = self.new.lines; all_asked = self.new.all_asked } }
     {
         if !self.may_write || self.phase == Phase::Broken {
             return;

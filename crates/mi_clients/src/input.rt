@@ -2,7 +2,7 @@
 ghost use Rattle.std.specs.Prelude.{◌≡◌, ◌≤◌, ◌++◌, ℕ, List, [], length, drop, OnOk, OnErr, MatchOption};
 ghost use Rattle.mi_hub.specs.Ended.{ended};
 ghost use Rattle.mi_ledger.specs.Journals.{IsWholeLine};
-ghost use Rattle.mi_clients.specs.Lines.{SameLines, Ends};
+ghost use Rattle.mi_clients.specs.Lines.{SameLines, Ends, IsFilled};
 
 use crate::lines::{closing, kept_of};
 use memchr::memchr;
@@ -72,6 +72,7 @@ impl Input {
     /// A piece comes. An error leaves what waits as it is.
     pub fn fill(&mut self, piece: &[u8]) -> Result<(), AllocError>
         ensures ok { OnOk result (SameLines (waiting self.old ++ piece.now) (waiting self.new)) }
+        ensures kept { OnOk result (IsFilled (waiting self.old) piece.now (waiting self.new)) }
         ensures err { OnErr result (waiting self.new ≡ waiting self.old) }
     {
         self.settle();

@@ -1,15 +1,14 @@
 //! What of bytes is kept, and what makes a line of them. It holds no bytes.
-ghost use Rattle.std.specs.Prelude.{◌≡◌, ◌<◌, ◌++◌, ℕ, List, [], length, true, MatchOption};
-ghost use Rattle.mi_value.specs.declared.limits.TheConstants.{MAX_LINE};
+ghost use Rattle.std.specs.Prelude.{◌≡◌, ◌↔◌, ◌++◌, [], IsTrue, MatchOption};
 ghost use Rattle.mi_hub.specs.Ended.{ended};
-ghost use Rattle.mi_clients.specs.Lines.{SameLines, EndsAsClosed, IsFull};
+ghost use Rattle.mi_clients.specs.Lines.{SameLines, EndsAsClosed, IsFull, IsOverLong, IsFromNewline, IsKept};
 
 use memchr::memchr;
 use mi_value::limits::MAX_LINE;
 
 /// What of a piece is kept behind a beginning that is over-long already: from its first newline on.
 fn from_newline(piece: &[u8]) -> &[u8]
-    ensures { (dropped : List ℕ) × (piece.now ≡ dropped ++ result.now) × (ended dropped ≡ []) }
+    ensures { IsFromNewline piece.now result.now }
 {
     match memchr(b'\n', piece) {
         Some(at) => {
@@ -22,7 +21,7 @@ fn from_newline(piece: &[u8]) -> &[u8]
 
 /// Whether bytes are the beginning of a line that is over-long.
 fn is_over_long(bytes: &[u8]) -> bool
-    ensures { result ≡ true → (MAX_LINE < length bytes.now) × (ended bytes.now ≡ []) }
+    ensures { IsTrue result ↔ IsOverLong bytes.now }
 {
     match memchr(b'\n', bytes) {
         Some(_at) => false,
@@ -32,7 +31,8 @@ fn is_over_long(bytes: &[u8]) -> bool
 
 /// What of a piece is kept behind what waits.
 pub(crate) fn kept_of<'a>(waiting: &[u8], piece: &'a [u8]) -> &'a [u8]
-    ensures { SameLines (waiting.now ++ piece.now) (waiting.now ++ result.now) }
+    ensures lines { SameLines (waiting.now ++ piece.now) (waiting.now ++ result.now) }
+    ensures kept { IsKept waiting.now piece.now result.now }
 {
     if is_over_long(waiting) {
         from_newline(piece)

@@ -3,10 +3,11 @@ ghost use Rattle.std.specs.Prelude.{◌≡◌, ◌⊎◌, ◌↔◌, ◌++◌, �
 ghost use Rattle.std.specs.List.{All, Any};
 ghost use Rattle.std.specs.Io.KnownBytes.{Keeps};
 ghost use Rattle.mi_ledger.specs.Ledger.{hub_of, log_of, IsSettled};
-ghost use Rattle.mi_clients.specs.Client.{owed, IsServed, IsAsked, IsBusy};
-ghost use Rattle.mi_clients.specs.Steps.{Step, Makes, given_to, GivesOnly, GivesNone};
-ghost use Rattle.mi_clients.specs.Row.{ids, inputs, Attends, EachServed, Joins, LetsGo, NoneIsOver, Serves};
+ghost use Rattle.mi_clients.specs.Client.{owed, IsServed, IsAsked, IsSent, IsBusy, AsksWhatCame};
+ghost use Rattle.mi_clients.specs.Steps.{Step, Makes, given_to, asked_by, GivesOnly, GivesNone, OnlyAsks, LeavesOthers};
+ghost use Rattle.mi_clients.specs.Row.{ids, inputs, Attends, EachServed, EachAsFar, OpenOnlyAsk, Joins, LetsGo, NoneIsOver, Serves};
 ghost use Rattle.mi_clients.specs.declared.client.Client.{Client};
+ghost use Rattle.mi_clients.specs.declared.client.Phase.TheVariants as phases;
 ghost use Rattle.mi_hub.specs.Connections.{rest_at};
 
 use crate::asking::{ask_lines, part, release, settle};
@@ -28,7 +29,10 @@ fn serve<D: Sessions + Drop, L: Log + Drop, S: Duplex>(
     requires settled { IsSettled L.appended L.synced ledger.old }
     ensures serves { OnOk result ((steps : List Step) × GivesOnly client.old.conn steps
         × IsServed S.contents (given_to client.old.conn steps) client.old client.new
-        × Makes steps (hub_of ledger.old) (hub_of ledger.new) (L.appended (log_of ledger.old)) (L.appended (log_of ledger.new))) }
+        × Makes steps (hub_of ledger.old) (hub_of ledger.new) (L.appended (log_of ledger.old)) (L.appended (log_of ledger.new))
+        × AsksWhatCame S.remaining (asked_by client.old.conn steps) client.old client.new
+        × LeavesOthers client.old.conn steps × (client.new.phase ≡ phases.Open → OnlyAsks client.old.conn steps)) }
+    ensures opened { OnOk result (client.new.phase ≡ phases.Open → client.old.phase ≡ phases.Open) }
     ensures asked { OnOk result (IsAsked client.new) }
     ensures attached { OnOk result ((hub_of ledger.new).attached ≡ (hub_of ledger.old).attached) }
     ensures settled { OnOk result (IsSettled L.appended L.synced ledger.new) }
@@ -48,7 +52,8 @@ pub fn ask_all<D: Sessions + Drop, L: Log + Drop, S: Duplex>(
     requires attends { Attends (ids row.old.items) (hub_of ledger.old).attached }
     requires settled { IsSettled L.appended L.synced ledger.old }
     ensures serves { OnOk result ((steps : List Step) × EachServed S.contents steps row.old.items row.new.items
-        × Makes steps (hub_of ledger.old) (hub_of ledger.new) (L.appended (log_of ledger.old)) (L.appended (log_of ledger.new))) }
+        × Makes steps (hub_of ledger.old) (hub_of ledger.new) (L.appended (log_of ledger.old)) (L.appended (log_of ledger.new))
+        × OpenOnlyAsk steps row.new.items) }
     ensures asked { OnOk result (All IsAsked row.new.items) }
     ensures attends { OnOk result (Attends (ids row.new.items) (hub_of ledger.new).attached) }
     ensures settled { OnOk result (IsSettled L.appended L.synced ledger.new) }
@@ -67,6 +72,8 @@ pub fn send_all<D: Sessions + Drop, L: Log + Drop, S: Duplex>(
     requires attends { Attends (ids row.old.items) (hub_of ledger.old).attached }
     requires settled { IsSettled L.appended L.synced ledger.old }
     ensures sends { OnOk result (EachServed S.contents [] row.old.items row.new.items) }
+    ensures sent { OnOk result (All IsSent row.new.items) }
+    ensures far { OnOk result (EachAsFar row.old.items row.new.items) }
     ensures inputs { OnOk result (inputs row.new.items ≡ inputs row.old.items) }
     ensures hub { OnOk result (hub_of ledger.new ≡ hub_of ledger.old) }
     ensures appended { OnOk result (Keeps (L.appended (log_of ledger.old)) (L.appended (log_of ledger.new))) }
@@ -89,7 +96,8 @@ pub fn let_go<D: Sessions + Drop, L: Log + Drop, S: Drop>(
     requires attends { Attends (ids row.old.items) (hub_of ledger.old).attached }
     requires settled { IsSettled L.appended L.synced ledger.old }
     ensures goes { OnOk result ((steps : List Step) × GivesNone steps × LetsGo row.old.items row.new.items
-        × Makes steps (hub_of ledger.old) (hub_of ledger.new) (L.appended (log_of ledger.old)) (L.appended (log_of ledger.new))) }
+        × Makes steps (hub_of ledger.old) (hub_of ledger.new) (L.appended (log_of ledger.old)) (L.appended (log_of ledger.new))
+        × OpenOnlyAsk steps row.new.items) }
     ensures stay { OnOk result (NoneIsOver row.new.items) }
     ensures attends { OnOk result (Attends (ids row.new.items) (hub_of ledger.new).attached) }
     ensures settled { OnOk result (IsSettled L.appended L.synced ledger.new) }
@@ -130,7 +138,9 @@ pub fn serve_all<D: Sessions + Drop, L: Log + Drop, S: Duplex + Drop>(
     requires attends { Attends (ids row.old.items) (hub_of ledger.old).attached }
     requires settled { IsSettled L.appended L.synced ledger.old }
     ensures serves { OnOk result ((steps : List Step) × Serves S.contents steps row.old.items row.new.items
-        × Makes steps (hub_of ledger.old) (hub_of ledger.new) (L.appended (log_of ledger.old)) (L.appended (log_of ledger.new))) }
+        × Makes steps (hub_of ledger.old) (hub_of ledger.new) (L.appended (log_of ledger.old)) (L.appended (log_of ledger.new))
+        × OpenOnlyAsk steps row.new.items) }
+    ensures sent { OnOk result (All IsSent row.new.items) }
     ensures stay { OnOk result (NoneIsOver row.new.items) }
     ensures attends { OnOk result (Attends (ids row.new.items) (hub_of ledger.new).attached) }
     ensures settled { OnOk result (IsSettled L.appended L.synced ledger.new) }

@@ -1,4 +1,5 @@
 //! What waits goes to a stream that doesn't block.
+ghost use Rattle.std.specs.Prelude.{◌≡◌, []};
 ghost use Rattle.mi_clients.specs.Output.{unsent, Sends};
 
 use crate::duplex::Duplex;
@@ -18,7 +19,8 @@ pub enum Sending {
 
 /// Sends what waits, as much as the stream takes now. Each byte is sent or waits still.
 pub fn send_out<S: Duplex>(stream: &mut S, output: &mut Output) -> Sending
-    ensures { Sends S.contents stream.old stream.new (unsent output.old) (unsent output.new) }
+    ensures sends { Sends S.contents stream.old stream.new (unsent output.old) (unsent output.new) }
+    ensures all { result ≡ Sending.All → unsent output.new ≡ [] }
 {
     'out: while !output.waiting().is_empty() {
         match stream.write(output.waiting()) {

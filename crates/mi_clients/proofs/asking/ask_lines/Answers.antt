@@ -1,5 +1,5 @@
 -- Each line that is asked is a step more, and its reply is owed.
-use Rattle.std.proofs.Common.{◌≡◌, ◌++◌, ◌∷◌, [], ◌∙◌, refl, sym, ap, arith, true}
+use Rattle.std.proofs.Common.{◌≡◌, ◌++◌, ◌∷◌, [], ◌∙◌, inl, inr, refl, sym, ap, arith, true}
 use Rattle.std.proofs.KnownBytes.{Keeps-refl}
 use Rattle.mi_hub.specs.Run.{HubState}
 use Rattle.mi_ledger.specs.Ledger.{hub_of}
@@ -7,7 +7,7 @@ use Rattle.mi_clients.specs.Input.{waiting}
 use Rattle.mi_clients.specs.Steps.{asks}
 use Rattle.mi_clients.specs.declared.client.Phase.TheVariants.{Broken}
 use Rattle.mi_clients.proofs.StepLemmas.{makes_none, makes_then, makes_kept, asks_of, asks_more, waits_more}
-use Rattle.mi_clients.proofs.ServedLemmas.{owes_none, owes_more, owes_reply}
+use Rattle.mi_clients.proofs.ServedLemmas.{owes_none, owes_more, owes_reply, far_then, room_left}
 use Rattle.mi_clients.proofs.asking.ask_lines.Goals as goal
 
 pub lines-init : goal.lines-init
@@ -20,6 +20,8 @@ lines-init g c = record {
   own = (refl, refl);
   input = refl;
   owes = owes_none c.args.client.now;
+  far = inr refl;
+  within = inl refl;
   makes = makes_none _ _ _ (Keeps-refl _);
 }
 
@@ -42,6 +44,17 @@ lines-preserved g c =
           (one.3 ∙ ap (λ i. one.0 ++ waiting i) (sym c.in_ok-release_each.ensures.input));
       owes = owes_more before.given one.1 c.args.client.now c.lines.client c.ask_line.new.client c.release_each.new.client before.owes
           (owes_reply one.1 c.lines.client c.ask_line.new.client same.0 same.2 one.4 sound) c.in_ok-release_each.ensures.owes;
+      far = far_then c.args.client.now c.lines.client c.release_each.new.client before.far
+          (far_then c.lines.client c.ask_line.new.client c.release_each.new.client (inr same.1) c.in_ok-release_each.ensures.phase);
+      within = inr (
+        λ broken. sound (before.owes.broken broken).0,
+        before.steps,
+        one.0,
+        one.1,
+        refl,
+        room_left c.args.client.now c.lines.client before.steps before.taken before.given before.own before.owes sound
+            (c.may_ask.ensures.may.0 c.lines-test.true).2,
+      );
       makes = makes_kept (before.steps ++ step ∷ []) _ (hub_of c.ask_line.new.ledger) _ _ _ _
           (makes_then before.steps (step ∷ []) _ (hub_of c.lines.ledger) _ _ _ _ before.makes
           (asks_of c.lines.client.conn conn one.0 one.1 (hub_of c.lines.ledger) (hub_of c.ask_line.new.ledger) _ _ before.owes.conn one.5))

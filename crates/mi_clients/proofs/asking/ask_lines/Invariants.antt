@@ -2,7 +2,7 @@ use Rattle.std.proofs.Common.{◌≡◌, ◌++◌, ℕ, List, length}
 use Rattle.mi_ledger.specs.Ledger.{hub_of, log_of, IsSettled}
 use Rattle.mi_clients.specs.Steps.{Step, Makes, AreAsks}
 use Rattle.mi_clients.specs.Input.{waiting}
-use Rattle.mi_clients.specs.Client.{Owes}
+use Rattle.mi_clients.specs.Client.{Owes, IsAsFar, AsksWithin}
 use Rattle.mi_clients.proofs.asking.ask_lines.Given as goal
 
 -- the lines so far are the first of what waited, and their replies are owed
@@ -16,6 +16,8 @@ invariant-lines g l = record {
   own : AreAsks l.fn.client.conn steps taken given;
   input : waiting l.fn.client.input ≡ taken ++ waiting l.client.input;
   owes : Owes given l.fn.client l.client;
+  far : IsAsFar l.fn.client l.client;
+  within : AsksWithin l.fn.client steps;
   makes : Makes steps (hub_of l.fn.ledger) (hub_of l.ledger) (g.L.Log.appended (log_of l.fn.ledger)) (g.L.Log.appended (log_of l.ledger));
 }
 

@@ -1,5 +1,8 @@
 -- Each session that is undone is a step more.
-use Rattle.std.proofs.Common.{◌++◌, ◌∷◌, [], ◌∙◌, refl, ap}
+use Rattle.std.proofs.Common.{◌≡◌, ◌++◌, ◌∷◌, [], ◌∙◌, Some, refl, sym, ap, arith}
+use Rattle.mi_ledger.specs.Belongs.{holder_conn}
+use Rattle.mi_hub.specs.Run.{HubState}
+use Rattle.mi_clients.proofs.UndoneLemmas.{asked_leaves}
 use Rattle.std.proofs.KnownBytes.{Keeps-refl}
 use Rattle.mi_hub.specs.Connections.{rest_at}
 use Rattle.mi_ledger.specs.Ledger.{hub_of}
@@ -11,6 +14,8 @@ pub sessions-init : goal.sessions-init
 sessions-init g c = record {
   attached = refl;
   settled = λ h. h;
+  left = λ some. (refl, some);
+  still = λ no. refl;
   steps = [];
   own = tt;
   makes = makes_none _ _ _ (Keeps-refl _);
@@ -24,9 +29,13 @@ sessions-preserved g c =
     let before = c.sessions.invariant in
     let asked = c.in_ok-ask.ensures.ok in
     let step = undoes c.args.conn asked.0 in
+    let holds : holder_conn (hub_of c.sessions.ledger).held.holder ≡ Some c.args.conn = c.holds.ensures.holder.0 (grind (arith, c.if-not-holds.false)) in
     let here = ap (rest_at c.args.conn) before.attached ∙ c.requires.here in record {
       attached = asks_attached c.args.conn _ asked.0 (hub_of c.sessions.ledger) (hub_of c.ask.new.self) _ _ here asked.2 ∙ before.attached;
       settled = λ h. c.in_ok-ask.ensures.settled (before.settled h);
+      left = λ some. asked_leaves c.args.conn _ asked.0 (hub_of c.args.ledger.now) (hub_of c.sessions.ledger) (hub_of c.ask.new.self) refl here holds
+          asked.2.done (before.left some);
+      still = λ no. absurd (no (sym (ap (λ (s : HubState). holder_conn s.held.holder) (ap hub_of (before.still no))) ∙ holds));
       steps = before.steps ++ step ∷ [];
       own = undos_more c.args.conn before.steps asked.0 before.own;
       makes = makes_then before.steps (step ∷ []) _ (hub_of c.sessions.ledger) _ _ _ _ before.makes

@@ -6,8 +6,8 @@ use Rattle.mi_ledger.specs.Ledger.{hub_of}
 use Rattle.mi_clients.specs.Client.{IsAsked}
 use Rattle.mi_clients.specs.Row.{ids, Attends, EachServed}
 use Rattle.mi_clients.proofs.StepLemmas.{makes_none, makes_then}
-use Rattle.mi_clients.proofs.RowLemmas.{ids_set, attends_at, holds_none, holds_set, holds_all}
-use Rattle.mi_clients.proofs.ServedLemmas.{nothing_given, each_none, each_set, each_then}
+use Rattle.mi_clients.proofs.RowLemmas.{ids_set, attends_at, holds_none, holds_set}
+use Rattle.mi_clients.proofs.ServedLemmas.{nothing_given, each_none, each_set, each_then, opens_none, opens_set}
 use Rattle.mi_clients.proofs.row.ask_all.Goals as goal
 
 pub loop-client-init : goal.loop-client-init
@@ -18,6 +18,7 @@ loop-client-init g c = record {
   steps = [];
   each = subst (EachServed g.S.Duplex.contents [] c.args.row.now.items) (sym c.deref_mut-client-items.ensures.value)
       (each_none g.S.Duplex.contents [] c.args.row.now.items nothing_given);
+  opens = opens_none _;
   makes = makes_none _ _ _ (Keeps-refl _);
 }
 
@@ -41,5 +42,7 @@ loop-client-preserved g c =
       steps = before.steps ++ one.0;
       asked = holds_set (λ x. IsAsked x) row at c.serve.new.client within c.in_ok-serve.ensures.asked before.asked;
       each = each_then g.S.Duplex.contents before.steps one.0 c.args.row.now.items row (slice_set row at c.serve.new.client) before.each set;
+      opens = opens_set before.steps one.0 row at c.client-item.result c.serve.new.client before.attends.differ within one.5 one.2.conn
+          c.in_ok-serve.ensures.opened one.6 before.opens;
       makes = makes_then before.steps one.0 _ (hub_of c.loop-client.ledger) _ _ _ _ before.makes one.3;
     }

@@ -1,12 +1,13 @@
 use Rattle.std.proofs.Common.{List}
 use Rattle.mi_ledger.specs.Ledger.{hub_of, log_of, IsSettled}
 use Rattle.mi_clients.specs.Steps.{Step, Makes}
-use Rattle.mi_clients.specs.Row.{ids, Attends, EachServed}
+use Rattle.mi_clients.specs.Row.{ids, Attends, EachServed, OpenOnlyAsk}
 use Rattle.mi_clients.specs.Client.{IsAsked}
 use Rattle.mi_clients.proofs.RowLemmas.{HoldsTo}
 use Rattle.mi_clients.proofs.row.ask_all.Given as goal
 
--- the row stays what the hub has attached, the first are asked, and each was given the replies to its own lines
+-- the row stays what the hub has attached, the first are asked, each was given the replies to its own lines, and no session of an open one was
+-- undone
 abbrev pub invariant-loop-client : goal.invariant-loop-client
 invariant-loop-client g l = record {
   attends : Attends (ids l.client-items) (hub_of l.ledger).attached;
@@ -14,5 +15,6 @@ invariant-loop-client g l = record {
   steps : List Step;
   asked : HoldsTo (λ c. IsAsked c) l.client-index l.client-items;
   each : EachServed g.S.Duplex.contents steps l.fn.row.items l.client-items;
+  opens : OpenOnlyAsk steps l.client-items;
   makes : Makes steps (hub_of l.fn.ledger) (hub_of l.ledger) (g.L.Log.appended (log_of l.fn.ledger)) (g.L.Log.appended (log_of l.ledger));
 }

@@ -4,11 +4,12 @@ use Rattle.std.proofs.KnownBytes.{Keeps-refl}
 use Rattle.mi_hub.specs.Connections.{rest_at, others}
 use Rattle.mi_ledger.specs.Ledger.{hub_of}
 use Rattle.mi_clients.specs.Client.{IsOver}
-use Rattle.mi_clients.specs.Row.{ids, Attends, LetsGo}
+use Rattle.mi_clients.specs.Row.{ids, Attends, LetsGo, OpenOnlyAsk}
+use Rattle.mi_clients.specs.Steps.{LeavesOthers}
 use Rattle.mi_clients.specs.declared.client.Client.{Client}
 use Rattle.mi_clients.proofs.StepLemmas.{makes_none, makes_then}
 use Rattle.mi_clients.proofs.RowLemmas.{attends_at, attends_less, holds_none, holds_less, holds_more, holds_all, true_false, HoldsTo}
-use Rattle.mi_clients.proofs.ServedLemmas.{nothing_given, none_join, lets_none, lets_one}
+use Rattle.mi_clients.proofs.ServedLemmas.{nothing_given, none_join, lets_none, lets_one, opens_none, opens_less}
 use Rattle.mi_clients.proofs.row.let_go.Goals as goal
 
 -- it isn't to be let go
@@ -23,6 +24,7 @@ row-init g c = record {
   stay = holds_none stays c.args.row.now.items;
   steps = [];
   none = nothing_given;
+  opens = opens_none c.args.row.now.items;
   makes = makes_none _ _ _ (Keeps-refl _);
 }
 
@@ -51,6 +53,9 @@ row-preserved-then-is_over g c =
       stay = subst (HoldsTo stays c.row.at) (sym c.remove.ensures.items) (holds_less stays c.row.row.items c.row.at within before.stay);
       steps = before.steps ++ parted.0;
       none = none_join before.steps parted.0 before.none parted.1;
+      opens = subst (OpenOnlyAsk (before.steps ++ parted.0)) (sym c.remove.ensures.items)
+          (opens_less before.steps parted.0 c.row.row.items c.row.at client before.attends.differ within
+          (subst (λ k. LeavesOthers k parted.0) (ap (λ (x : Client _). x.conn) c.index-then-is_over.ensures) parted.3) before.opens);
       makes = makes_then before.steps parted.0 _ (hub_of c.row.ledger) _ _ _ _ before.makes parted.2;
     }
 
@@ -65,6 +70,7 @@ row-preserved g c =
           (λ over. true_false c.is_over.result (c.is_over.ensures.1 over) c.if-is_over.false) before.stay;
       steps = before.steps;
       none = before.none;
+      opens = before.opens;
       makes = before.makes;
     }
 

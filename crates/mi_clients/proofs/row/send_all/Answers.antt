@@ -4,16 +4,19 @@ use Rattle.std.proofs.KnownBytes.{Keeps-refl, Keeps-trans}
 use Rattle.std.specs.Prelude.{slice_set, slice_index_or}
 use Rattle.mi_hub.specs.Run.{HubState}
 use Rattle.mi_ledger.specs.Ledger.{hub_of}
-use Rattle.mi_clients.specs.Row.{ids, inputs, Attends, EachServed}
+use Rattle.mi_clients.specs.Client.{IsSent}
+use Rattle.mi_clients.specs.Row.{ids, inputs, Attends, EachServed, EachAsFar}
 use Rattle.mi_clients.specs.declared.client.Client.{Client}
-use Rattle.mi_clients.proofs.RowLemmas.{ids_set, inputs_set}
-use Rattle.mi_clients.proofs.ServedLemmas.{nothing_given, each_none, each_set, each_then, served_then, served_owes, served_sends}
+use Rattle.mi_clients.proofs.RowLemmas.{ids_set, inputs_set, holds_none, holds_set}
+use Rattle.mi_clients.proofs.ServedLemmas.{nothing_given, each_none, each_set, each_then, served_then, served_owes, served_sends, sent_all, far_none, far_then, far_set}
 use Rattle.mi_clients.proofs.row.send_all.Goals as goal
 
 pub loop-client-init : goal.loop-client-init
 loop-client-init g c = record {
   attends = subst (λ items. Attends (ids items) (hub_of c.args.ledger.now).attached) (sym c.deref_mut-client-items.ensures.value) c.requires.attends;
   settled = c.requires.settled;
+  sent = holds_none (λ x. IsSent x) _;
+  far = subst (EachAsFar c.args.row.now.items) (sym c.deref_mut-client-items.ensures.value) (far_none c.args.row.now.items);
   inputs = ap inputs c.deref_mut-client-items.ensures.value;
   each = subst (EachServed g.S.Duplex.contents [] c.args.row.now.items) (sym c.deref_mut-client-items.ensures.value)
       (each_none g.S.Duplex.contents [] c.args.row.now.items nothing_given);
@@ -33,12 +36,17 @@ loop-client-preserved g c =
     c.send.ensures.sent c.send.ensures.broken in
     let old = slice_index_or row at c.client-item.result in
     let one = served_then contents [] [] old c.release.new.client c.send.new.self (served_owes contents [] old c.release.new.client released) sent in
-    let kept = ap (λ (x : Client _). x.input) c.send.ensures.same ∙ c.in_ok-release.ensures.input in
+    let kept = c.send.ensures.input ∙ c.in_ok-release.ensures.input in
     let same = ids_set row at c.send.new.self c.client-item.result one.conn in
     let set = each_set contents [] row at c.client-item.result c.send.new.self before.attends.differ within (λ k other. refl) one in record {
       attends = subst (λ ks. Attends ks (hub_of c.release.new.ledger).attached) (sym same)
           (subst (Attends (ids row)) (sym (ap (λ (s : HubState). s.attached) c.release.ensures.hub)) before.attends);
       settled = c.release.ensures.settled;
+      sent = holds_set (λ x. IsSent x) row at c.send.new.self within
+          (sent_all c.release.new.client c.send.new.self c.send.ensures.all c.in_ok-release.ensures.none (ap (λ (x : Client _). x.held) c.send.ensures.same))
+          before.sent;
+      far = far_set c.args.row.now.items row at c.client-item.result c.send.new.self within
+          (far_then old c.release.new.client c.send.new.self c.in_ok-release.ensures.phase c.send.ensures.phase) before.far;
       inputs = inputs_set row at c.send.new.self c.client-item.result kept ∙ before.inputs;
       each = each_then contents [] [] c.args.row.now.items row (slice_set row at c.send.new.self) before.each set;
       hub = c.release.ensures.hub ∙ before.hub;

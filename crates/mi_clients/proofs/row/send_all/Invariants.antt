@@ -1,14 +1,18 @@
 use Rattle.std.proofs.Common.{◌≡◌, []}
 use Rattle.std.specs.Io.KnownBytes.{Keeps}
 use Rattle.mi_ledger.specs.Ledger.{hub_of, log_of, IsSettled}
-use Rattle.mi_clients.specs.Row.{ids, inputs, Attends, EachServed}
+use Rattle.mi_clients.specs.Client.{IsSent}
+use Rattle.mi_clients.specs.Row.{ids, inputs, Attends, EachServed, EachAsFar}
+use Rattle.mi_clients.proofs.RowLemmas.{HoldsTo}
 use Rattle.mi_clients.proofs.row.send_all.Given as goal
 
--- nothing is asked, and what each is owed goes to its own stream
+-- nothing is asked, what each is owed goes to its own stream, and the first are sent it
 abbrev pub invariant-loop-client : goal.invariant-loop-client
 invariant-loop-client g l = record {
   attends : Attends (ids l.client-items) (hub_of l.ledger).attached;
   settled : IsSettled g.L.Log.appended g.L.Log.synced l.ledger;
+  sent : HoldsTo (λ c. IsSent c) l.client-index l.client-items;
+  far : EachAsFar l.fn.row.items l.client-items;
   inputs : inputs l.client-items ≡ inputs l.fn.row.items;
   each : EachServed g.S.Duplex.contents [] l.fn.row.items l.client-items;
   hub : hub_of l.ledger ≡ hub_of l.fn.ledger;

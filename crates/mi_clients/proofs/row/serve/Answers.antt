@@ -2,29 +2,42 @@
 use Rattle.std.proofs.Common.{◌++◌, ◌∙◌, subst}
 use Rattle.std.proofs.lemmas.Result.{on_ok_weaker}
 use Rattle.mi_ledger.specs.Ledger.{hub_of}
-use Rattle.mi_clients.specs.Steps.{AreAsks, AreUndos}
+use Rattle.mi_clients.specs.Steps.{AreAsks, AreUndos, asked_by}
 use Rattle.mi_clients.proofs.StepLemmas.{makes_then}
 use Rattle.mi_ledger.proofs.JournalLemmas.{on_ok_both}
-use Rattle.mi_clients.proofs.ServedLemmas.{asked_still, served_read, served_whole}
+use Rattle.mi_clients.proofs.ServedLemmas.{on_ok_all, asked_still, served_read, served_whole, taken_in, asks_others, asks_alone, came_whole, open_before, open_alone}
 use Rattle.mi_clients.proofs.row.serve.Goals as goal
 
 pub returns-clause-serves : goal.returns-clause-serves
 returns-clause-serves g c =
     let old = c.args.client.now in
     let read = c.read.new.self in
+    let piece = c.read.ensures.piece in
     let asked = c.in_ok-ask_lines.ensures.asks in
+    let far = c.in_ok-ask_lines.ensures.phase in
     let mid = c.ask_lines.new.client in
+    let last = c.settle.new.client in
     let contents = g.S.Duplex.contents in
     let first = served_read contents old read c.read.ensures.conn c.read.ensures.contents c.read.ensures.owed c.read.ensures.broken in
-    on_ok_weaker c.settle.result (λ undone.
-    let all = served_whole contents old read mid c.settle.new.client asked.0 undone.0 asked.1 asked.2 first
-    (subst (λ k. AreAsks k asked.0 asked.1 asked.2) c.read.ensures.conn asked.3) asked.5
-    (subst (λ k. AreUndos k undone.0) (asked.5.conn ∙ c.read.ensures.conn) undone.1) undone.2 in (
+    let own = subst (λ k. AreAsks k asked.0 asked.1 asked.2) c.read.ensures.conn asked.3 in
+    on_ok_all c.settle.result (λ undone settled input.
+    let gone = subst (λ k. AreUndos k undone.0) (asked.5.conn ∙ c.read.ensures.conn) undone.1 in
+    let all = served_whole contents old read mid last asked.0 undone.0 asked.1 asked.2 first own asked.5 gone undone.2 in (
       asked.0 ++ undone.0,
       all.0,
       all.1,
       makes_then asked.0 undone.0 _ (hub_of c.ask_lines.new.ledger) _ _ _ _ asked.6 undone.3,
-    )) c.settle.ensures.undoes
+      came_whole g.S.Duplex.remaining old read mid last asked.0 asked.1 asked.2 (asked_by old.conn (asked.0 ++ undone.0)) piece.0 piece.1 piece.2 asked.4 asked.7 asked.3 far asked.5 undone.2
+          input settled (taken_in old.conn asked.0 undone.0 asked.1 asked.2 own gone),
+      asks_others old.conn asked.0 undone.0 asked.1 asked.2 own gone,
+      λ is. asks_alone old.conn asked.0 undone.0 asked.1 asked.2 own (open_alone mid last undone.0 settled undone.4 is),
+    )) c.settle.ensures.undoes c.settle.ensures.none c.settle.ensures.input
+
+pub returns-clause-opened : goal.returns-clause-opened
+returns-clause-opened g c =
+    on_ok_weaker c.settle.result (λ settled is.
+    c.read.ensures.opened (open_before c.read.new.self c.ask_lines.new.client c.settle.new.client c.in_ok-ask_lines.ensures.phase settled is))
+    c.settle.ensures.none
 
 pub returns-clause-asked : goal.returns-clause-asked
 returns-clause-asked g c =

@@ -1,9 +1,11 @@
 -- What each is owed behind its lines is sent, and then those that are over go.
 use Rattle.std.proofs.Common.{◌++◌}
+use Rattle.std.proofs.lemmas.Result.{on_ok_weaker}
 use Rattle.mi_ledger.specs.Ledger.{hub_of}
 use Rattle.mi_ledger.proofs.JournalLemmas.{on_ok_both}
 use Rattle.mi_clients.proofs.StepLemmas.{makes_then, makes_kept}
-use Rattle.mi_clients.proofs.ServedLemmas.{serves_each}
+use Rattle.mi_clients.specs.Client.{IsSent}
+use Rattle.mi_clients.proofs.ServedLemmas.{serves_each, opens_all, all_left}
 use Rattle.mi_clients.proofs.row.serve_all.Goals as goal
 
 pub returns-clause-serves : goal.returns-clause-serves
@@ -20,4 +22,10 @@ returns-clause-serves g c =
       serves_each contents asked.0 gone.0 a b d e gone.1 asked.1 c.in_ok-ask_all.ensures.asked sent.sends sent.inputs gone.2 stay,
       makes_then asked.0 gone.0 _ (hub_of c.send_all.new.ledger) _ _ _ _
           (makes_kept asked.0 _ (hub_of c.ask_all.new.ledger) _ _ _ _ asked.2 sent.hub sent.appended) gone.3,
+      opens_all contents asked.0 gone.0 b d e sent.sends sent.far asked.3 gone.2 gone.4,
     )) c.let_go.ensures.goes c.let_go.ensures.stay
+
+pub returns-clause-sent : goal.returns-clause-sent
+returns-clause-sent g c =
+    on_ok_weaker c.let_go.result (λ gone.
+    all_left (λ x. IsSent x) c.send_all.new.row.items c.let_go.new.row.items gone.2 c.in_ok-send_all.ensures.sent) c.let_go.ensures.goes

@@ -25,8 +25,8 @@ returns-in-Ok-clause-piece g c =
 pub returns-in-Err-clause-piece : goal.returns-in-Err-clause-piece
 returns-in-Err-clause-piece g c =
     let old = waiting c.args.self.now.input in
-    let stream : c.fail.new.self.stream ≡ c.read.new.self = ap (λ (s : Client _). s.stream) c.fail.ensures in
-    let input : c.fail.new.self.input ≡ c.args.self.now.input = ap (λ (s : Client _). s.input) c.fail.ensures in
+    let stream : c.fail.new.self.stream ≡ c.read.new.self = ap (λ (s : Client _). s.stream) c.fail.ensures.same in
+    let input : c.fail.new.self.input ≡ c.args.self.now.input = c.fail.ensures.input in
     let same : SameLines (old ++ []) old = subst (λ t. SameLines t old) (sym (append-nil old)) (refl, refl) in (
       [],
       subst (λ s. Consumes (g.S.Duplex.remaining c.args.self.now.stream) (g.S.Duplex.remaining s) []) (sym stream)
