@@ -161,6 +161,7 @@ pub fn undo_all<D: Sessions + Drop, L: Log + Drop>(
     ensures none { OnOk result (held_by conn (hub_of ledger.new).held.holder ≡ 0) }
     ensures left { OnOk result (HoldsSome (hub_of ledger.old).held.holder → (hub_of ledger.new).held ≡ released conn (hub_of ledger.old).held) }
     ensures still { ¬ (holder_conn (hub_of ledger.old).held.holder ≡ Some conn) → ledger.new ≡ ledger.old }
+    ensures makes_stay { L.makes_stay (log_of ledger.new) ≡ L.makes_stay (log_of ledger.old) }
     ensures attached { OnOk result ((hub_of ledger.new).attached ≡ (hub_of ledger.old).attached) }
     ensures settled { IsSettled L.appended L.synced ledger.old → IsSettled L.appended L.synced ledger.new }
 {
@@ -212,6 +213,7 @@ pub fn part<D: Sessions + Drop, L: Log + Drop>(
     ensures left { OnOk result (HoldsSome (hub_of ledger.old).held.holder → (hub_of ledger.new).held ≡ released conn (hub_of ledger.old).held) }
     ensures still { OnOk result (¬ (holder_conn (hub_of ledger.old).held.holder ≡ Some conn) → (hub_of ledger.new).held ≡ (hub_of ledger.old).held) }
     ensures attached { OnOk result ((hub_of ledger.new).attached ≡ others conn (hub_of ledger.old).attached) }
+    ensures makes_stay { L.makes_stay (log_of ledger.new) ≡ L.makes_stay (log_of ledger.old) }
     ensures settled { IsSettled L.appended L.synced ledger.old → IsSettled L.appended L.synced ledger.new }
 {
     undo_all(alloc, ledger, conn)?;

@@ -137,6 +137,7 @@ impl<D: Sessions + Drop, L: Log + Drop> Ledger<D, L> {
             × Asks conn line.now (hub_of self.old) (hub_of self.new) (L.appended (log_of self.old)) (L.appended (log_of self.new)) out) }
         ensures memory { result ≡ Err LedgerFault.Memory → log_of self.new ≡ log_of self.old }
         ensures journal { result ≡ Err LedgerFault.Journal → L.has_failed (log_of self.new) ≡ true }
+        ensures makes_stay { L.makes_stay (log_of self.new) ≡ L.makes_stay (log_of self.old) }
         ensures settled { IsSettled L.appended L.synced self.old → IsSettled L.appended L.synced self.new }
     {
         let holder = self.hub.holder();
@@ -162,6 +163,7 @@ impl<D: Sessions + Drop, L: Log + Drop> Ledger<D, L> {
         ensures hub { hub_of self.new ≡ hub_of self.old }
         ensures memory { result ≡ Err LedgerFault.Memory → log_of self.new ≡ log_of self.old }
         ensures journal { result ≡ Err LedgerFault.Journal → L.has_failed (log_of self.new) ≡ true }
+        ensures makes_stay { L.makes_stay (log_of self.new) ≡ L.makes_stay (log_of self.old) }
         ensures settled { IsSettled L.appended L.synced self.old → IsSettled L.appended L.synced self.new }
     {
         if replies.add(reply).is_err() {
@@ -187,6 +189,7 @@ impl<D: Sessions + Drop, L: Log + Drop> Ledger<D, L> {
         ensures hub { hub_of self.new ≡ hub_of self.old }
         ensures appended { Keeps (L.appended (log_of self.old)) (L.appended (log_of self.new)) }
         ensures journal { OnErr result (result ≡ Err LedgerFault.Journal) }
+        ensures makes_stay { L.makes_stay (log_of self.new) ≡ L.makes_stay (log_of self.old) }
         ensures settled { IsSettled L.appended L.synced self.new }
     {
         if self.unsynced {

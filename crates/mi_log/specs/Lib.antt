@@ -1,6 +1,7 @@
 -- To be read in this order.
 pub mod Kept
 pub mod DeviceLog
+pub mod OpenedFile
 pub mod MemoryDevice
 pub mod LogLines
 pub mod Header

@@ -40,6 +40,7 @@ fn write_all<D: Device>(device: &mut D, bytes: &[u8]) -> Result<(), LogFault>
     ensures ok { OnOk result (Appends (D.contents device.old) (D.contents device.new) bytes.now) }
     ensures err { OnErr result (AppendsFront (D.contents device.old) (D.contents device.new) bytes.now) }
     ensures stays { Keeps (D.stays device.old) (D.stays device.new) }
+    ensures makes_stay { D.makes_stay device.new ≡ D.makes_stay device.old }
 {
     let mut at = 0;
     'bytes: while at < bytes.len() {
@@ -58,6 +59,8 @@ impl<D: Device> Log for DeviceLog<D> {
     ghost appended = { λ l. D.contents (device_of l) };
 
     ghost synced = { λ l. D.stays (device_of l) };
+
+    ghost makes_stay = { λ l. D.makes_stay (device_of l) };
 
     ghost has_failed = { λ l. is_broken l };
 

@@ -19,6 +19,9 @@ pub trait Log {
     /// Those that stay, whatever becomes of the process or the machine, where the log tells: what was appended when a sync last answered `Ok`.
     ghost synced: { Self → Option (List ℕ) };
 
+    /// Whether what was appended is made to stay where that is asked, and not only said to. No call changes it.
+    ghost makes_stay: { Self → Bool };
+
     /// Whether a call has failed.
     ghost has_failed: { Self → Bool };
 
@@ -28,6 +31,7 @@ pub trait Log {
         ensures ok { OnOk result (Appends (appended self.old) (appended self.new) bytes.now) }
         ensures err { OnErr result (AppendsFront (appended self.old) (appended self.new) bytes.now) }
         ensures synced { Keeps (synced self.old) (synced self.new) }
+        ensures makes_stay { makes_stay self.new ≡ makes_stay self.old }
         ensures failed { has_failed self.new ≡ not (is_ok result) }
         ensures over { has_failed self.old ≡ true → IsErr result × (self.new ≡ self.old) };
 
@@ -36,6 +40,7 @@ pub trait Log {
         ensures ok { OnOk result (Keeps (appended self.new) (synced self.new)) }
         ensures err { OnErr result (Keeps (synced self.old) (synced self.new)) }
         ensures appended { Keeps (appended self.old) (appended self.new) }
+        ensures makes_stay { makes_stay self.new ≡ makes_stay self.old }
         ensures failed { has_failed self.new ≡ not (is_ok result) }
         ensures over { has_failed self.old ≡ true → IsErr result × (self.new ≡ self.old) };
 }

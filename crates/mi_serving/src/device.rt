@@ -13,7 +13,7 @@ pub enum Keeping {
     Unsynced,
 }
 
-/// What a service's journal is appended to. It tells nothing of its bytes.
+/// What a service's journal is appended to. It tells nothing of its bytes; but what it is given is written to its file, where it has one.
 #[derive(Drop)]
 pub struct JournalDevice<F> {
     file: Option<F>,
@@ -21,14 +21,35 @@ pub struct JournalDevice<F> {
 }
 
 impl<F> JournalDevice<F> {
+    ghost use Rattle.std.specs.Prelude.{◌≡◌};
+    ghost use Rattle.mi_serving.specs.Device.{file_of, keeping_of};
+
     /// A file, or none, which takes what it is given and keeps nothing.
-    pub fn new(file: Option<F>, keeping: Keeping) -> JournalDevice<F> {
+    pub fn new(file: Option<F>, keeping: Keeping) -> JournalDevice<F>
+        ensures file { file_of result ≡ file }
+        ensures keeping { keeping_of result ≡ keeping }
+    {
         JournalDevice { file, keeping }
     }
 }
 
 impl<F: Write + OpenFile> Device for JournalDevice<F> {
-    fn write(&mut self, bytes: &[u8]) -> io::Result<usize> {
+    ghost use Rattle.std.specs.Prelude.{◌≡◌, None};
+    ghost use Rattle.std.specs.Io.{WritesAtMost};
+    ghost use Rattle.std.specs.Io.KnownBytes.{WriteAppends, Keeps};
+    ghost use Rattle.mi_serving.specs.Device.{keeping_of, written_to, is_staying};
+
+    ghost makes_stay = { λ d. is_staying d };
+
+    /// Its file has what it took, where it has one that tells.
+    fn write(&mut self, bytes: &[u8]) -> io::Result<usize>
+        ensures bound { WritesAtMost result bytes.now }
+        ensures bytes { WriteAppends None None result bytes.now }
+        ensures stays { Keeps None None }
+        ensures file { WriteAppends (written_to F.contents self.old) (written_to F.contents self.new) result bytes.now }
+        ensures keeping { keeping_of self.new ≡ keeping_of self.old }
+        ensures makes_stay { is_staying self.new ≡ is_staying self.old }
+    {
         match &mut self.file {
             Some(file) => file.write(bytes),
             None => Ok(bytes.len()),

@@ -2,7 +2,9 @@
 ghost use Rattle.std.specs.Prelude.{◌≡◌, ◌++◌, ◌∷◌, [], ℕ, true, false, Ok, OnOk, IfOk, IfSome};
 ghost use Rattle.mi_log.specs.LogLines.{reader_of};
 ghost use Rattle.mi_replay.specs.Replayed.{replayer};
-ghost use Rattle.mi_ledger.specs.Ledger.{hub_of};
+ghost use Rattle.mi_log.specs.DeviceLog.{device_of};
+ghost use Rattle.mi_ledger.specs.Ledger.{hub_of, log_of};
+ghost use Rattle.mi_serving.specs.Device.{is_synced, is_staying};
 ghost use Rattle.mi_clients.specs.Row.{fresh};
 ghost use Rattle.mi_serving.specs.Recovery.{HasHeader, IsBeginning, IsReplayed, IsRecovered, IsWith};
 
@@ -151,7 +153,9 @@ fn begun(
     file: File,
     keeping: Keeping,
     header: &str,
-) -> Result<DeviceLog<JournalDevice<File>>, Failure> {
+) -> Result<DeviceLog<JournalDevice<File>>, Failure>
+    ensures { IfOk result (λ log. is_staying (device_of log) ≡ is_synced keeping) }
+{
     if file.set_len(0).is_err() {
         return Err(Failure::JournalFile);
     }
@@ -168,7 +172,9 @@ fn continued(
     keeping: Keeping,
     found: Journaled,
     header: &str,
-) -> Result<DeviceLog<JournalDevice<File>>, Failure> {
+) -> Result<DeviceLog<JournalDevice<File>>, Failure>
+    ensures { IfOk result (λ log. is_staying (device_of log) ≡ is_synced keeping) }
+{
     match found {
         Journaled::Nothing => begun(file, keeping, header),
         Journaled::Journal(torn) => {
@@ -180,7 +186,8 @@ fn continued(
 
 /// A hub with no journal.
 pub fn without<D: Sessions + Drop>(alloc: Global, hub: Hub<D>) -> FileLedger<D>
-    ensures { hub_of result ≡ hub }
+    ensures hub { hub_of result ≡ hub }
+    ensures stays { is_staying (device_of (log_of result)) ≡ false }
 {
     Ledger::new(
         alloc,
@@ -199,7 +206,8 @@ pub fn opened<R: Files<File = File> + AllocGlobal, D: Sessions + Drop>(
     header: &str,
 ) -> Result<FileLedger<D>, Failure>
     requires { hub.attached ≡ [] }
-    ensures { IfOk result (λ ledger. (hub_of ledger).attached ≡ []) }
+    ensures attached { IfOk result (λ ledger. (hub_of ledger).attached ≡ []) }
+    ensures stays { IfOk result (λ ledger. is_staying (device_of (log_of ledger)) ≡ is_synced keeping) }
 {
     let mut hub = hub;
     let file = claimed(rt, path)?;

@@ -1,7 +1,10 @@
 //! What the program does, in its order: the words are judged, the schema is read, the port is listened on, the journal is asked again,
 //! and then connections are served.
-ghost use Rattle.std.specs.Prelude.{◌≡◌, [], IfOk};
-ghost use Rattle.mi_ledger.specs.Ledger.{hub_of};
+ghost use Rattle.std.specs.Prelude.{◌≡◌, [], false, IfOk, MatchOption};
+ghost use Rattle.mi_log.specs.DeviceLog.{device_of};
+ghost use Rattle.mi_ledger.specs.Ledger.{hub_of, log_of};
+ghost use Rattle.mi_serving.specs.Device.{is_staying};
+ghost use Rattle.mi_serving.specs.Words.{asks_sync};
 
 use crate::device::Keeping;
 use crate::digest::fingerprint;
@@ -40,7 +43,9 @@ fn ledger_of<R: Files<File = File> + AllocGlobal + RandomSource>(
     catalog: Catalog,
     journal: Option<&JournalWords>,
 ) -> Result<FileLedger<Tables>, Failure>
-    ensures { IfOk result (λ ledger. (hub_of ledger).attached ≡ []) }
+    ensures attached { IfOk result (λ ledger. (hub_of ledger).attached ≡ []) }
+    ensures stays { IfOk result (λ ledger. MatchOption journal.entry (is_staying (device_of (log_of ledger)) ≡ false)
+        (λ words. is_staying (device_of (log_of ledger)) ≡ asks_sync words.now.sync)) }
 {
     let Ok(header) = header_of(rt.alloc(), &catalog) else {
         return Err(Failure::Memory);

@@ -16,6 +16,7 @@ sessions-init g c = record {
   settled = λ h. h;
   left = λ some. (refl, some);
   still = λ no. refl;
+  makes_stay = refl;
   steps = [];
   own = tt;
   makes = makes_none _ _ _ (Keeps-refl _);
@@ -36,6 +37,7 @@ sessions-preserved g c =
       left = λ some. asked_leaves c.args.conn _ asked.0 (hub_of c.args.ledger.now) (hub_of c.sessions.ledger) (hub_of c.ask.new.self) refl here holds
           asked.2.done (before.left some);
       still = λ no. absurd (no (sym (ap (λ (s : HubState). holder_conn s.held.holder) (ap hub_of (before.still no))) ∙ holds));
+      makes_stay = c.in_ok-ask.ensures.makes_stay ∙ before.makes_stay;
       steps = before.steps ++ step ∷ [];
       own = undos_more c.args.conn before.steps asked.0 before.own;
       makes = makes_then before.steps (step ∷ []) _ (hub_of c.sessions.ledger) _ _ _ _ before.makes

@@ -1,5 +1,5 @@
 -- What was written is a front of the bytes, and what is left is the rest of them.
-use Rattle.std.proofs.Common.{arith}
+use Rattle.std.proofs.Common.{arith, ◌∙◌}
 use Rattle.std.proofs.Math.Seq.{take-add}
 use Rattle.std.proofs.KnownBytes.{Appends-trans, Keeps-trans}
 use Rattle.mi_log.proofs.device_log.write_all.Goals as goal
@@ -9,4 +9,5 @@ bytes-preserved g c = record {
   within = omega (arith, c.in-Ok.ensures.bound);
   written = rw (take-add, ← c.split_at.ensures.back) (Appends-trans _ _ _ _ _ c.bytes.invariant.written c.in-Ok.ensures.bytes);
   stays = Keeps-trans _ _ _ c.bytes.invariant.stays c.in-Ok.ensures.stays;
+  makes_stay = c.in-Ok.ensures.makes_stay ∙ c.bytes.invariant.makes_stay;
 }

@@ -1,4 +1,4 @@
-use Rattle.std.proofs.Common.{◌-◌, ◌≤◌, length, take}
+use Rattle.std.proofs.Common.{◌≡◌, ◌-◌, ◌≤◌, length, take}
 use Rattle.std.specs.Io.KnownBytes.{Appends, Keeps}
 use Rattle.mi_log.proofs.device_log.write_all.Given as goal
 
@@ -8,6 +8,7 @@ invariant-bytes g l = record {
   within : l.at ≤ length l.bytes;
   written : Appends (g.D.Device.contents l.fn.device) (g.D.Device.contents l.device) (take l.at l.bytes);
   stays : Keeps (g.D.Device.stays l.fn.device) (g.D.Device.stays l.device);
+  makes_stay : g.D.Device.makes_stay l.device ≡ g.D.Device.makes_stay l.fn.device;
 }
 
 abbrev pub decreases-bytes : goal.decreases-bytes
