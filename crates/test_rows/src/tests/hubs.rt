@@ -20,12 +20,14 @@ enum Call {
 }
 
 /// As many connections as can be, and one more: a call, the first and the last connection that it is made of, and what each is answered.
+/// One that is there already is told so, also where no other can come.
 struct Limit(Call, u64, u64, Result<(), HubFault>);
 
-const LIMITS: [Limit; 7] = [
+const LIMITS: [Limit; 8] = [
     Limit(Call::Attach, 1, 1, Ok(())),
     Limit(Call::Attach, 1, 1, Err(HubFault::AlreadyAttached)),
     Limit(Call::Attach, 2, 64, Ok(())),
+    Limit(Call::Attach, 1, 1, Err(HubFault::AlreadyAttached)),
     Limit(Call::Attach, 65, 65, Err(HubFault::TooMany)),
     Limit(Call::Cut, 64, 64, Ok(())),
     Limit(Call::Attach, 65, 65, Ok(())),
@@ -44,6 +46,11 @@ impl Call {
 /// The built-in table.
 fn accounts(alloc: Global) -> Result<Catalog, AllocError> {
     Catalog::of(alloc, built_in(alloc)?)
+}
+
+/// A hub with no connection.
+fn fresh<D: Opens>(rt: &impl Abort, alloc: Global, catalog: &Catalog) -> Hub<D> {
+    opened(alloc, catalog).expect(rt, "memory is there")
 }
 
 /// Connection 1 sends the piece.
@@ -65,11 +72,19 @@ fn narrow(alloc: Global) -> Watched<Sink> {
     Watched::new(sink)
 }
 
+/// The writer has failed, and took ten bytes.
+fn assert_narrow(rt: &impl Abort, writer: &Watched<Sink>) {
+    assert!(rt; writer.failed());
+    assert_eq!(rt; writer.inner().taken.as_slice(), b"{\"ok\":true".as_slice());
+}
+
 /// A connection whose writer takes ten bytes is cut at its first reply, and has no more pieces.
 fn check_piece<D: Opens>(rt: &impl Abort, hub: &mut Hub<D>, writer: &mut Watched<Sink>) {
-    assert_eq!(rt; Call::Attach.of(hub, 1), Ok(()));
+    Call::Attach
+        .of(hub, 1)
+        .expect(rt, "the first connection comes");
     assert_eq!(rt; fed(hub, writer), Err(HubFault::Write));
-    assert_eq!(rt; writer.inner().taken.as_slice(), b"{\"ok\":true".as_slice());
+    assert_narrow(rt, writer);
     assert_eq!(rt; sessions(hub), (0, 0));
     assert_eq!(rt; fed(hub, writer), Err(HubFault::NotAttached));
 }
@@ -83,28 +98,17 @@ fn check_limits<D: Opens>(rt: &impl Abort, hub: &mut Hub<D>) {
     }
 }
 
-#[test]
-fn a_failing_writer_cuts_its_connection(rt: HostRuntime) -> Result<(), Fail> {
-    let alloc = rt.alloc();
-    let catalog = accounts(alloc)?;
-    check_piece(
-        &rt,
-        &mut opened::<Plain>(alloc, &catalog)?,
-        &mut narrow(alloc),
-    );
-    check_piece(
-        &rt,
-        &mut opened::<Served>(alloc, &catalog)?,
-        &mut narrow(alloc),
-    );
-    Ok(())
+/// Both, each of a hub of its own.
+fn check_form<D: Opens>(rt: &impl Abort, alloc: Global, catalog: &Catalog) {
+    check_piece(rt, &mut fresh::<D>(rt, alloc, catalog), &mut narrow(alloc));
+    check_limits(rt, &mut fresh::<D>(rt, alloc, catalog));
 }
 
+/// A failing writer cuts its connection, and connections are limited.
 #[test]
-fn connections_are_limited(rt: HostRuntime) -> Result<(), Fail> {
-    let alloc = rt.alloc();
-    let catalog = accounts(alloc)?;
-    check_limits(&rt, &mut opened::<Plain>(alloc, &catalog)?);
-    check_limits(&rt, &mut opened::<Served>(alloc, &catalog)?);
+fn calls_are_answered(rt: HostRuntime) -> Result<(), Fail> {
+    let catalog = accounts(rt.alloc())?;
+    check_form::<Plain>(&rt, rt.alloc(), &catalog);
+    check_form::<Served>(&rt, rt.alloc(), &catalog);
     Ok(())
 }
