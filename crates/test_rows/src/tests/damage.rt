@@ -1,9 +1,9 @@
 //! Lines with one thing wrong at random, the same for the same seed, to both forms of the database.
-use super::beside::Both;
+use super::beside::{Both, Lines, check_beside};
+use super::databases::Opens;
 use super::random::{CHANGES, READS, Random};
 use std::alloc::{AllocError, Global};
 use std::process::Abort;
-use std::test::Fail;
 
 /// Bytes that come to stand where they don't belong: no UTF-8, or a part of it; escapes; signs of JSON; spaces and controls.
 const BYTES: [&[u8]; 26] = [
@@ -292,30 +292,29 @@ fn check_heard(rt: &impl Abort, heard: &[bool; 9]) {
 }
 
 /// Both forms answer a whole line alike.
-fn ask_whole(
+fn ask_whole<A: Opens, B: Opens>(
     rt: &impl Abort,
     alloc: Global,
-    both: &mut Both,
+    both: &mut Both<A, B>,
     random: &mut Random,
-) -> Result<(), Fail> {
-    let line = line(alloc, random)?;
-    let reply = both.ask(rt, alloc, line.as_str())?;
+) {
+    let line = line(alloc, random).expect(rt, "memory is there");
+    let reply = both.ask(rt, alloc, line.as_str());
     random.hear(reply.as_str());
-    Ok(())
 }
 
 /// Both forms answer a damaged line alike, with at most one line.
-fn ask_damaged(
+fn ask_damaged<A: Opens, B: Opens>(
     rt: &impl Abort,
     alloc: Global,
-    both: &mut Both,
+    both: &mut Both<A, B>,
     random: &mut Random,
-) -> Result<String, Fail> {
-    let bytes = damaged_line(alloc, random)?;
-    let reply = both.ask_bytes(rt, alloc, bytes.as_slice())?;
+) -> String {
+    let bytes = damaged_line(alloc, random).expect(rt, "memory is there");
+    let reply = both.ask_bytes(rt, alloc, bytes.as_slice());
     check_one_line(rt, bytes.as_slice(), reply.as_str());
     random.hear(reply.as_str());
-    Ok(reply)
+    reply
 }
 
 /// A reply to a line has at most one line.
@@ -329,48 +328,38 @@ fn check_one_line(rt: &impl Abort, line: &[u8], reply: &str) {
 
 /// Both forms answer so many damaged lines alike. Each fourth line or so is whole, so that there are records and sessions to speak of.
 /// Each word is among the replies to damaged lines.
-fn ask_lines(
+pub(super) fn ask_damaged_lines<A: Opens, B: Opens>(
     rt: &impl Abort,
     alloc: Global,
-    both: &mut Both,
+    both: &mut Both<A, B>,
     seed: u64,
     steps: u64,
-) -> Result<(), Fail> {
+) {
     let mut random = Random::new(alloc, seed);
     let mut heard = [false; 9];
     for step in 0..steps {
         if step % 100 == 0 {
-            both.look(rt, alloc, &mut random)?;
+            both.look(rt, alloc, &mut random);
         }
         if random.below(3) == 0 {
-            ask_whole(rt, alloc, both, &mut random)?;
+            ask_whole(rt, alloc, both, &mut random);
         }
-        let reply = ask_damaged(rt, alloc, both, &mut random)?;
+        let reply = ask_damaged(rt, alloc, both, &mut random);
         note_words(&mut heard, reply.as_str());
     }
     check_heard(rt, &heard);
-    Ok(())
-}
-
-/// Both forms answer damaged lines alike, and show the same at the end.
-fn check_damaged(rt: &impl Abort, alloc: Global, seed: u64) -> Result<(), Fail> {
-    let mut both = Both::open(alloc)?;
-    ask_lines(rt, alloc, &mut both, seed, 20_000)?;
-    both.view(rt, alloc)
 }
 
 #[test]
-fn both_forms_answer_damaged_lines_alike(rt: HostRuntime) -> Result<(), Fail> {
+fn both_forms_answer_damaged_lines_alike(rt: HostRuntime) {
     for seed in 11..13 {
-        check_damaged(&rt, rt.alloc(), seed)?;
+        check_beside(&rt, rt.alloc(), Lines::Damaged, seed);
     }
-    Ok(())
 }
 
 #[test]
-fn both_forms_answer_damaged_lines_alike_by_more_seeds(rt: HostRuntime) -> Result<(), Fail> {
+fn both_forms_answer_damaged_lines_alike_by_more_seeds(rt: HostRuntime) {
     for seed in 13..16 {
-        check_damaged(&rt, rt.alloc(), seed)?;
+        check_beside(&rt, rt.alloc(), Lines::Damaged, seed);
     }
-    Ok(())
 }
