@@ -41,6 +41,13 @@ pub(super) enum Form {
     Served,
 }
 
+/// What a hub is asked: that events happen, or to serve a stream as connection 1.
+#[derive(Drop)]
+enum Asked<'a> {
+    Events(&'a [Event]),
+    Stream(Source<'a>),
+}
+
 /// How events or a stream ended: the answer, what was written, how many bytes weren't read or events weren't begun, and what another
 /// connection is answered then.
 #[derive(Drop)]
@@ -83,10 +90,7 @@ impl Form {
         events: &[Event],
         sink: Sink,
     ) -> Result<Ended, Fail> {
-        match self {
-            Form::Plain => driven::<Plain>(alloc, catalog, events, sink),
-            Form::Served => driven::<Served>(alloc, catalog, events, sink),
-        }
+        self.run(alloc, catalog, Asked::Events(events), sink)
     }
 
     /// Serves a stream as connection 1.
@@ -97,9 +101,20 @@ impl Form {
         source: Source<'_>,
         sink: Sink,
     ) -> Result<Ended, Fail> {
+        self.run(alloc, catalog, Asked::Stream(source), sink)
+    }
+
+    /// Asks a hub over a database of this form.
+    fn run(
+        self,
+        alloc: Global,
+        catalog: &Catalog,
+        asked: Asked<'_>,
+        sink: Sink,
+    ) -> Result<Ended, Fail> {
         match self {
-            Form::Plain => served::<Plain>(alloc, catalog, source, sink),
-            Form::Served => served::<Served>(alloc, catalog, source, sink),
+            Form::Plain => ends::<Plain>(alloc, catalog, asked, sink),
+            Form::Served => ends::<Served>(alloc, catalog, asked, sink),
         }
     }
 }
@@ -151,37 +166,45 @@ fn drive_all<D: Opens>(
     }
 }
 
-fn driven<D: Opens>(
-    alloc: Global,
-    catalog: &Catalog,
-    events: &[Event],
-    sink: Sink,
-) -> Result<Ended, Fail> {
-    let mut hub = opened::<D>(alloc, catalog)?;
-    let mut writer = Watched::new(sink);
-    let (answer, left) = drive_all(&mut hub, events, &mut writer)?;
-    end_of(alloc, &mut hub, answer, writer.inner(), left)
-}
-
-fn served<D: Opens>(
-    alloc: Global,
-    catalog: &Catalog,
+/// Serves a stream as connection 1: the answer, and how many bytes weren't read.
+fn serve<D: Opens>(
+    hub: &mut Hub<D>,
     source: Source<'_>,
-    sink: Sink,
-) -> Result<Ended, Fail> {
-    let mut hub = opened::<D>(alloc, catalog)?;
+    writer: &mut Watched<Sink>,
+) -> Result<(Result<(), ServeFault>, usize), Fail>
+    requires { hub.old.attached ≡ [] }
+{
     match hub.attach(1) {
         Ok(()) => {}
         Err(_) => return Err(Fail::from("a connection isn't attached")),
     }
     let mut reader = Watched::new(source);
+    let answer = serve_stream(hub, 1, &mut reader, writer);
+    Ok((answer, reader.inner().left.len()))
+}
+
+/// Asks a hub: the answer, and how much wasn't read or begun.
+fn answer_of<D: Opens>(
+    hub: &mut Hub<D>,
+    asked: Asked<'_>,
+    writer: &mut Watched<Sink>,
+) -> Result<(Result<(), ServeFault>, usize), Fail>
+    requires { hub.old.attached ≡ [] }
+{
+    match asked {
+        Asked::Events(events) => drive_all(hub, events, writer),
+        Asked::Stream(source) => serve(hub, source, writer),
+    }
+}
+
+fn ends<D: Opens>(
+    alloc: Global,
+    catalog: &Catalog,
+    asked: Asked<'_>,
+    sink: Sink,
+) -> Result<Ended, Fail> {
+    let mut hub = opened::<D>(alloc, catalog)?;
     let mut writer = Watched::new(sink);
-    let answer = serve_stream(&mut hub, 1, &mut reader, &mut writer);
-    end_of(
-        alloc,
-        &mut hub,
-        answer,
-        writer.inner(),
-        reader.inner().left.len(),
-    )
+    let (answer, left) = answer_of(&mut hub, asked, &mut writer)?;
+    end_of(alloc, &mut hub, answer, writer.inner(), left)
 }
