@@ -45,14 +45,6 @@ const K: usize = 0;
 
 const N: usize = 3;
 
-/// The schema of that table.
-fn schema(alloc: Global) -> Result<Schema, Fail> {
-    match read_schema(alloc, TABLE.as_bytes()) {
-        Ok(schema) => Ok(schema),
-        Err(_) => Err(Fail::from("the schema isn't read")),
-    }
-}
-
 /// A record of that table.
 fn record(rt: &impl Abort, alloc: Global, k: i64, s: &str, f: bool, n: i64) -> Record {
     let k = ValueRef::Int(k);
@@ -709,13 +701,6 @@ fn check_each_call<C: Container>(
     Ok(())
 }
 
-#[test]
-fn each_call_of_the_container(rt: HostRuntime) -> Result<(), Fail> {
-    let alloc = rt.alloc();
-    let mut undoable = Undoable::<MultiIndex>::open(alloc, schema(alloc)?)?;
-    check_each_call(&rt, alloc, &mut undoable)
-}
-
 /// The column of an account's balance.
 const BALANCE: usize = 1;
 
@@ -745,6 +730,7 @@ fn has_account<C: Container>(undoable: &Undoable<C>, balance: i64) -> bool {
     }
 }
 
+/// Accounts: an insert and a modify, both taken back. The id is used again.
 fn check_reuse<C: Container>(rt: &impl Abort, alloc: Global, undoable: &mut Undoable<C>)
     requires { CanTakeBack undoable.old.schema (C.shape undoable.old.rows) (C.plain undoable.old.rows) undoable.old.inverses.items }
 {
@@ -758,11 +744,23 @@ fn check_reuse<C: Container>(rt: &impl Abort, alloc: Global, undoable: &mut Undo
     add_account(rt, alloc, undoable);
 }
 
-/// Accounts: an insert and a modify, both taken back. The id is used again.
-#[test]
-fn an_id_is_used_again(rt: HostRuntime) -> Result<(), Fail> {
-    let alloc = rt.alloc();
-    let mut undoable = Undoable::<MultiIndex>::open(alloc, built_in(alloc)?)?;
-    check_reuse(&rt, alloc, &mut undoable);
+/// A container of a table without a record.
+fn opened<C: Container>(rt: &impl Abort, alloc: Global, schema: Schema) -> Undoable<C>
+    ensures { CanTakeBack result.schema (C.shape result.rows) (C.plain result.rows) result.inverses.items }
+{
+    Undoable::open(alloc, schema).expect(rt, "memory is there")
+}
+
+/// Each call over the table with every kind of index, and an id that is used again over accounts.
+fn check_container<C: Container>(rt: &impl Abort, alloc: Global) -> Result<(), Fail> {
+    let table = read_schema(alloc, TABLE.as_bytes()).expect(rt, "the schema is read");
+    check_each_call(rt, alloc, &mut opened::<C>(rt, alloc, table))?;
+    let accounts = built_in(alloc).expect(rt, "memory is there");
+    check_reuse(rt, alloc, &mut opened::<C>(rt, alloc, accounts));
     Ok(())
+}
+
+#[test]
+fn each_call_of_the_container(rt: HostRuntime) -> Result<(), Fail> {
+    check_container::<MultiIndex>(&rt, rt.alloc())
 }

@@ -11,7 +11,6 @@ use mi_schema::read_schema;
 use mi_value::{Edit, Record, Steps, Value, ValueRef};
 use std::alloc::{AllocError, Global};
 use std::process::Abort;
-use std::test::Fail;
 
 /// A table of numbers, of which no two are equal.
 const NUMBERS: &str = r#"table = "numbers"
@@ -21,6 +20,9 @@ index = [{name = "by_n", kind = "ordered", unique = true, key = ["n"]}]
 
 /// The index by the number.
 const BY_N: usize = 1;
+
+/// A change of a journal: its table, and to which index and id it had lost its record, if it had.
+type Noted = (usize, Option<(usize, u64)>);
 
 /// A container, its schema, and the journal of its changes.
 #[derive(Drop)]
@@ -107,9 +109,8 @@ impl<C: Container> Journaled<C> {
         self.journal.join_top();
     }
 
-    /// Takes the newest change of the newest session back. Answers its table, and to which index and id it had lost its record,
-    /// if it had; and none where there is no change.
-    fn back(&mut self) -> Option<(usize, Option<(usize, u64)>)>
+    /// Takes the newest change of the newest session back, and answers it; or none where there is no change.
+    fn back(&mut self) -> Option<Noted>
         requires { CanGoBack self.old.schema (C.shape self.old.rows) (C.plain self.old.rows) self.old.journal.sessions }
         ensures { CanGoBack self.new.schema (C.shape self.new.rows) (C.plain self.new.rows) self.new.journal.sessions }
     {
@@ -123,9 +124,8 @@ impl<C: Container> Journaled<C> {
         }
     }
 
-    /// Settles the oldest change of the oldest session. Answers its table, and to which index and id it had lost its record,
-    /// if it had; and none where there is no change.
-    fn settle(&mut self) -> Option<(usize, Option<(usize, u64)>)>
+    /// Settles the oldest change of the oldest session, and answers it; or none where there is no change.
+    fn settle(&mut self) -> Option<Noted>
         requires { CanGoBack self.old.schema (C.shape self.old.rows) (C.plain self.old.rows) self.old.journal.sessions }
         ensures { CanGoBack self.new.schema (C.shape self.new.rows) (C.plain self.new.rows) self.new.journal.sessions }
     {
@@ -160,13 +160,6 @@ impl<C: Container> Journaled<C> {
     }
 }
 
-fn schema(alloc: Global) -> Result<Schema, Fail> {
-    match read_schema(alloc, NUMBERS.as_bytes()) {
-        Ok(schema) => Ok(schema),
-        Err(_) => Err(Fail::from("the schema isn't read")),
-    }
-}
-
 /// Adds a number, whose id is to be this one.
 fn add<C: Container>(rt: &impl Abort, alloc: Global, kept: &mut Journaled<C>, n: i64, id: u64)
     requires { CanGoBack kept.old.schema (C.shape kept.old.rows) (C.plain kept.old.rows) kept.old.journal.sessions }
@@ -193,9 +186,20 @@ fn assert_number<C: Container>(rt: &impl Abort, kept: &Journaled<C>, id: u64, wa
     assert_eq!(rt; got, want);
 }
 
+/// Asserts which change is answered, if one is.
+fn assert_change(rt: &impl Abort, got: Option<Noted>, want: Option<Noted>) {
+    assert_eq!(rt; got, want);
+}
+
 /// Asserts how many sessions are open.
 fn assert_depth<C: Container>(rt: &impl Abort, kept: &Journaled<C>, want: usize) {
     assert_eq!(rt; kept.journal.depth(), want);
+}
+
+/// Asserts that no session is open, and that one record is there.
+fn assert_one_left<C: Container>(rt: &impl Abort, kept: &Journaled<C>) {
+    assert_depth(rt, kept, 0);
+    assert_eq!(rt; kept.rows.size(), 1);
 }
 
 /// Adds a number for good.
@@ -205,7 +209,7 @@ fn keep_one<C: Container>(rt: &impl Abort, alloc: Global, kept: &mut Journaled<C
 {
     kept.start(rt);
     add(rt, alloc, kept, 7, 0);
-    assert_eq!(rt; kept.settle(), Some((0, None)));
+    assert_change(rt, kept.settle(), Some((0, None)));
     kept.end_oldest(rt);
     kept.make_room(rt);
 }
@@ -226,34 +230,48 @@ fn lose_one<C: Container>(rt: &impl Abort, alloc: Global, kept: &mut Journaled<C
 }
 
 /// The change that lost its record comes back first, and then the one that added it.
-#[test]
-fn inverses_come_back_from_the_newest(rt: HostRuntime) -> Result<(), Fail> {
-    let alloc = rt.alloc();
-    let mut kept: Journaled<MultiIndex> = Journaled::open(alloc, schema(alloc)?)?;
-    lose_one(&rt, alloc, &mut kept);
-    assert_eq!(&rt; kept.back(), Some((0, Some((BY_N, 0)))));
-    assert_number(&rt, &kept, 1, Some(8));
-    assert_eq!(&rt; kept.back(), Some((0, None)));
-    assert_number(&rt, &kept, 1, None);
-    assert_eq!(&rt; kept.back(), None);
-    kept.end_newest(&rt);
-    assert_depth(&rt, &kept, 0);
-    assert_eq!(&rt; kept.rows.size(), 1);
-    Ok(())
+fn check_back<C: Container>(rt: &impl Abort, alloc: Global, kept: &mut Journaled<C>)
+    requires { CanGoBack kept.old.schema (C.shape kept.old.rows) (C.plain kept.old.rows) kept.old.journal.sessions }
+{
+    lose_one(rt, alloc, kept);
+    assert_change(rt, kept.back(), Some((0, Some((BY_N, 0)))));
+    assert_number(rt, kept, 1, Some(8));
+    assert_change(rt, kept.back(), Some((0, None)));
+    assert_number(rt, kept, 1, None);
+    assert_change(rt, kept.back(), None);
+    kept.end_newest(rt);
+    assert_one_left(rt, kept);
 }
 
 /// The one that added the record is settled first, and then the one that lost it, whose node is freed.
+fn check_settled<C: Container>(rt: &impl Abort, alloc: Global, kept: &mut Journaled<C>)
+    requires { CanGoBack kept.old.schema (C.shape kept.old.rows) (C.plain kept.old.rows) kept.old.journal.sessions }
+{
+    lose_one(rt, alloc, kept);
+    assert_change(rt, kept.settle(), Some((0, None)));
+    assert_change(rt, kept.settle(), Some((0, Some((BY_N, 0)))));
+    assert_change(rt, kept.settle(), None);
+    kept.end_oldest(rt);
+    assert_number(rt, kept, 0, Some(7));
+    assert_one_left(rt, kept);
+}
+
+/// A container of numbers without a record.
+fn opened<C: Container>(rt: &impl Abort, alloc: Global) -> Journaled<C>
+    ensures { CanGoBack result.schema (C.shape result.rows) (C.plain result.rows) result.journal.sessions }
+{
+    let schema = read_schema(alloc, NUMBERS.as_bytes()).expect(rt, "the schema is read");
+    Journaled::open(alloc, schema).expect(rt, "memory is there")
+}
+
+/// Of one container the changes are taken back, and of another they are settled.
+fn check_both<C: Container>(rt: &impl Abort, alloc: Global) {
+    check_back(rt, alloc, &mut opened::<C>(rt, alloc));
+    check_settled(rt, alloc, &mut opened::<C>(rt, alloc));
+}
+
+/// Inverses come back from the newest, and are settled from the oldest.
 #[test]
-fn inverses_are_settled_from_the_oldest(rt: HostRuntime) -> Result<(), Fail> {
-    let alloc = rt.alloc();
-    let mut kept: Journaled<MultiIndex> = Journaled::open(alloc, schema(alloc)?)?;
-    lose_one(&rt, alloc, &mut kept);
-    assert_eq!(&rt; kept.settle(), Some((0, None)));
-    assert_eq!(&rt; kept.settle(), Some((0, Some((BY_N, 0)))));
-    assert_eq!(&rt; kept.settle(), None);
-    kept.end_oldest(&rt);
-    assert_depth(&rt, &kept, 0);
-    assert_number(&rt, &kept, 0, Some(7));
-    assert_eq!(&rt; kept.rows.size(), 1);
-    Ok(())
+fn inverses_are_kept_in_order(rt: HostRuntime) {
+    check_both::<MultiIndex>(&rt, rt.alloc());
 }
