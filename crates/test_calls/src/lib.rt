@@ -1,4 +1,4 @@
-//! Each public call of the crates below the hub once, and how many look-ups a query makes. It has tests alone.
+//! Calls of records, keys and edits, sessions by calls of a database, and how many look-ups a query makes. It has tests alone.
 #![tactic(auto)]
 
 #[cfg(test)]

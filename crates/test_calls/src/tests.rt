@@ -4,4 +4,5 @@ mod accounts;
 mod counting;
 mod library;
 mod look_ups;
+mod serving;
 mod sessions;

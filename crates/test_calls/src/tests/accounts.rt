@@ -1,15 +1,28 @@
-//! Records of the built-in schema.
+//! The built-in schema, and records of it.
+use mi_catalog::{Catalog, built_in};
 use mi_value::{Record, ValueRef};
-use std::alloc::{AllocError, Global};
+use std::alloc::Global;
+use std::process::Abort;
+
+/// A catalog of the built-in schema alone.
+pub(super) fn catalog(rt: &impl Abort, alloc: Global) -> Catalog {
+    let schema = built_in(alloc).expect(rt, "memory is there");
+    Catalog::of(alloc, schema).expect(rt, "memory is there")
+}
 
 pub(super) fn account(
+    rt: &impl Abort,
     alloc: Global,
     owner: &str,
     balance: i64,
     vip: bool,
-) -> Result<Record, AllocError> {
-    let owner = ValueRef::Text(owner);
-    Record::new(alloc, &[owner, ValueRef::Int(balance), ValueRef::Flag(vip)])
+) -> Record {
+    let values = [
+        ValueRef::Text(owner),
+        ValueRef::Int(balance),
+        ValueRef::Flag(vip),
+    ];
+    Record::new(alloc, &values).expect(rt, "memory is there")
 }
 
 /// Whether a record is this account.

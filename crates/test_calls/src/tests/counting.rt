@@ -5,6 +5,12 @@ use mi_value::{Edit, NoSession, Record, Refusal, Steps, Value};
 use std::alloc::Global;
 use std::cell::Cell;
 
+/// A database that tells how often it was asked.
+pub(super) trait Asked: Sessions + Drop {
+    /// How often it was asked since this was last called; the count begins anew.
+    fn take_asked(&self) -> u64;
+}
+
 /// A database, and how often it was asked for a record, for an id or for a rank.
 #[derive(Drop)]
 pub(super) struct Counting<D> {
@@ -25,17 +31,18 @@ impl<D: Sessions> Counting<D> {
         }
     }
 
-    /// How often it was asked since this was last called; the count begins anew.
-    pub(super) fn take_asked(&self) -> u64 {
-        self.asked.take()
-    }
-
     /// Counts a call, and lends the database to make it.
     fn ask(&self) -> &D
         ensures { result.now ≡ self.now.inner }
     {
         self.asked.set(self.asked.get().saturating_add(1));
         &self.inner
+    }
+}
+
+impl<D: Sessions + Drop> Asked for Counting<D> {
+    fn take_asked(&self) -> u64 {
+        self.asked.take()
     }
 }
 

@@ -1,126 +1,139 @@
 //! How many look-ups a count and a page make, however many rows there are: bounds are ranks, and a page is stepped through
 //! from where it begins.
-use super::accounts::account;
-use super::counting::Counting;
-use mi_hub::{Hub, Watched};
+use super::accounts::{account, catalog};
+use super::counting::{Asked, Counting};
+use super::serving::{answer, served};
+use mi_hub::Hub;
 use mi_plain::Plain;
-use mi_schema::{Catalog, built_in};
 use mi_sessions::Sessions;
-use std::alloc::{AllocError, Global};
+use std::alloc::Global;
 use std::process::Abort;
-use std::test::Fail;
 
-/// As many accounts of one balance.
-const EQUALS: i64 = 10_000;
-
-/// As many accounts of a balance each.
-const ROWS: i64 = 4_000;
-
-fn opened(alloc: Global) -> Result<Counting<Plain>, AllocError> {
-    let catalog = Catalog::of(alloc, built_in(alloc)?)?;
-    Ok(Counting::new(Plain::new(alloc, catalog)?))
+/// A line, its reply, and the fewest and the most look-ups that it makes.
+struct Row {
+    line: &'static str,
+    reply: &'static str,
+    fewest: u64,
+    most: u64,
 }
 
-/// Adds the account of the owner `o{n}`, whose id is answered, or none where it isn't added.
-fn insert(alloc: Global, database: &mut Counting<Plain>, n: i64, balance: i64) -> Option<u64> {
-    let owner = format!(in alloc; "o{n}").ok()?;
-    let row = account(alloc, owner.as_str(), balance, true).ok()?;
-    if database.catalog().table_count() == 0 || !database.catalog().table(0).fits_record(&row) {
-        return None;
-    }
-    database.insert(alloc, 0, row, None).ok()
-}
-
-/// A hub over a database, with connection 1.
-fn served(rt: &impl Abort, alloc: Global, database: Counting<Plain>) -> Hub<Counting<Plain>> {
-    let mut hub = Hub::new(alloc, database);
-    assert!(rt; hub.attach(1).is_ok());
-    hub
-}
-
-/// What connection 1 is answered to a line, and how many look-ups that made.
-fn answer(
-    alloc: Global,
-    hub: &mut Hub<Counting<Plain>>,
-    line: &str,
-) -> Result<(Vec<u8>, u64), Fail> {
-    let mut writer = Watched::new(Vec::new(alloc));
-    let _ = hub.database().take_asked();
-    if hub.feed(1, line.as_bytes(), &mut writer).is_err() {
-        return Err(Fail::from("the line isn't answered"));
-    }
-    let reply = Vec::from_slice(alloc, writer.inner().as_slice())?;
-    Ok((reply, hub.database().take_asked()))
+/// As many accounts, all of one balance or each of its own, and lines about them.
+struct Table {
+    accounts: i64,
+    balance: Option<i64>,
+    rows: [Row; 2],
 }
 
 /// Ten thousand equal keys are counted by their ranks in a ranked and in an ordered index.
-#[test]
-fn equal_keys_are_counted(rt: HostRuntime) -> Result<(), Fail> {
-    let mut database = opened(rt.alloc())?;
-    for n in 0..EQUALS {
-        let id = insert(rt.alloc(), &mut database, n, 7);
-        assert!(rt; id.is_some(), "owner {n}");
-    }
-    let mut hub = served(&rt, rt.alloc(), database);
-    for line in [
-        "{\"cmd\":\"count\",\"index\":\"by_balance\",\"key\":[7]}\n",
-        "{\"cmd\":\"count\",\"index\":\"by_class\",\"key\":[true]}\n",
-    ] {
-        let (reply, asked) = answer(rt.alloc(), &mut hub, line)?;
-        assert!(rt; reply.as_slice() == b"{\"count\":10000,\"ok\":true}\n".as_slice());
-        assert!(rt; (1..=4).contains(&asked), "{asked} look-ups");
-    }
-    Ok(())
-}
-
-/// Adds the row of the account of a number.
-fn push_row(alloc: Global, page: &mut String, n: u64) -> Result<(), AllocError> {
-    let row = format!(in alloc; "{{\"balance\":{n},\"id\":{n},\"owner\":\"o{n}\",\"vip\":true}}")?;
-    page.push_str(row.as_str())
-}
-
-/// The reply of ten rows up from the account of 2,000, or of ten rows down from that of 2,499.
-fn page(alloc: Global, reverse: bool) -> Result<String, AllocError> {
-    let mut page = String::from_str(alloc, "{\"more\":true,\"ok\":true,\"rows\":[")?;
-    for k in 0..10u64 {
-        if k > 0 {
-            page.push(',')?;
-        }
-        let n = if reverse {
-            2499u64.saturating_sub(k)
-        } else {
-            2000u64.saturating_add(k)
-        };
-        push_row(alloc, &mut page, n)?;
-    }
-    page.push_str("]}\n")?;
-    Ok(page)
-}
+const EQUALS: Table = Table {
+    accounts: 10_000,
+    balance: Some(7),
+    rows: [
+        Row {
+            line: "{\"cmd\":\"count\",\"index\":\"by_balance\",\"key\":[7]}\n",
+            reply: "{\"count\":10000,\"ok\":true}\n",
+            fewest: 1,
+            most: 4,
+        },
+        Row {
+            line: "{\"cmd\":\"count\",\"index\":\"by_class\",\"key\":[true]}\n",
+            reply: "{\"count\":10000,\"ok\":true}\n",
+            fewest: 1,
+            most: 4,
+        },
+    ],
+};
 
 /// Ten rows from the middle of four thousand, from the lower bound on and from the upper one back: a look-up for each bound,
 /// one for the first row, and one walk.
+const PAGES: Table = Table {
+    accounts: 4_000,
+    balance: None,
+    rows: [
+        Row {
+            line: "{\"cmd\":\"range\",\"index\":\"by_balance\",\"limit\":10,\"lower\":{\"ge\":[2000]},\"reverse\":false,\"upper\":{\"lt\":[2500]}}\n",
+            reply: concat!(
+                "{\"more\":true,\"ok\":true,\"rows\":[",
+                "{\"balance\":2000,\"id\":2000,\"owner\":\"o2000\",\"vip\":true},",
+                "{\"balance\":2001,\"id\":2001,\"owner\":\"o2001\",\"vip\":true},",
+                "{\"balance\":2002,\"id\":2002,\"owner\":\"o2002\",\"vip\":true},",
+                "{\"balance\":2003,\"id\":2003,\"owner\":\"o2003\",\"vip\":true},",
+                "{\"balance\":2004,\"id\":2004,\"owner\":\"o2004\",\"vip\":true},",
+                "{\"balance\":2005,\"id\":2005,\"owner\":\"o2005\",\"vip\":true},",
+                "{\"balance\":2006,\"id\":2006,\"owner\":\"o2006\",\"vip\":true},",
+                "{\"balance\":2007,\"id\":2007,\"owner\":\"o2007\",\"vip\":true},",
+                "{\"balance\":2008,\"id\":2008,\"owner\":\"o2008\",\"vip\":true},",
+                "{\"balance\":2009,\"id\":2009,\"owner\":\"o2009\",\"vip\":true}]}\n",
+            ),
+            fewest: 4,
+            most: 4,
+        },
+        Row {
+            line: "{\"cmd\":\"range\",\"index\":\"by_balance\",\"limit\":10,\"lower\":{\"ge\":[2000]},\"reverse\":true,\"upper\":{\"lt\":[2500]}}\n",
+            reply: concat!(
+                "{\"more\":true,\"ok\":true,\"rows\":[",
+                "{\"balance\":2499,\"id\":2499,\"owner\":\"o2499\",\"vip\":true},",
+                "{\"balance\":2498,\"id\":2498,\"owner\":\"o2498\",\"vip\":true},",
+                "{\"balance\":2497,\"id\":2497,\"owner\":\"o2497\",\"vip\":true},",
+                "{\"balance\":2496,\"id\":2496,\"owner\":\"o2496\",\"vip\":true},",
+                "{\"balance\":2495,\"id\":2495,\"owner\":\"o2495\",\"vip\":true},",
+                "{\"balance\":2494,\"id\":2494,\"owner\":\"o2494\",\"vip\":true},",
+                "{\"balance\":2493,\"id\":2493,\"owner\":\"o2493\",\"vip\":true},",
+                "{\"balance\":2492,\"id\":2492,\"owner\":\"o2492\",\"vip\":true},",
+                "{\"balance\":2491,\"id\":2491,\"owner\":\"o2491\",\"vip\":true},",
+                "{\"balance\":2490,\"id\":2490,\"owner\":\"o2490\",\"vip\":true}]}\n",
+            ),
+            fewest: 4,
+            most: 4,
+        },
+    ],
+};
+
+/// Adds the account of the owner `o{n}`.
+fn insert<D: Sessions>(rt: &impl Abort, alloc: Global, database: &mut D, n: i64, balance: i64) {
+    let owner = format!(in alloc; "o{n}").expect(rt, "memory is there");
+    let row = account(rt, alloc, owner.as_str(), balance, true);
+    assert!(rt; database.catalog().table_count() > 0);
+    assert!(rt; database.catalog().table(0).fits_record(&row));
+    assert!(rt; database.insert(alloc, 0, row, None).is_ok(), "owner {n}");
+}
+
+/// What connection 1 is answered to a line, and how many look-ups that made.
+fn asked<D: Asked>(rt: &impl Abort, alloc: Global, hub: &mut Hub<D>, line: &str) -> (Vec<u8>, u64) {
+    let _ = hub.database().take_asked();
+    let reply = answer(rt, alloc, hub, line);
+    (reply, hub.database().take_asked())
+}
+
+/// Fills a database and asks its lines.
+fn check_table<D: Asked>(rt: &impl Abort, alloc: Global, database: D, table: &Table) {
+    let mut database = database;
+    for n in 0..table.accounts {
+        insert(rt, alloc, &mut database, n, table.balance.unwrap_or(n));
+    }
+    let mut hub = served(rt, alloc, database);
+    for row in &table.rows {
+        let (reply, count) = asked(rt, alloc, &mut hub, row.line);
+        assert!(rt; reply.as_slice() == row.reply.as_bytes());
+        assert!(rt;
+            row.fewest <= count && count <= row.most,
+            "{count} look-ups"
+        );
+    }
+}
+
+/// The plain database is asked the lines of a table.
+fn check_plain(rt: &impl Abort, alloc: Global, table: &Table) {
+    let plain = Plain::new(alloc, catalog(rt, alloc)).expect(rt, "memory is there");
+    check_table(rt, alloc, Counting::new(plain), table);
+}
+
 #[test]
-fn pages_begin_in_the_middle(rt: HostRuntime) -> Result<(), Fail> {
-    let mut database = opened(rt.alloc())?;
-    for n in 0..ROWS {
-        let id = insert(rt.alloc(), &mut database, n, n);
-        assert!(rt; id.is_some(), "owner {n}");
-    }
-    let mut hub = served(&rt, rt.alloc(), database);
-    for (reverse, line) in [
-        (
-            false,
-            "{\"cmd\":\"range\",\"index\":\"by_balance\",\"limit\":10,\"lower\":{\"ge\":[2000]},\"reverse\":false,\"upper\":{\"lt\":[2500]}}\n",
-        ),
-        (
-            true,
-            "{\"cmd\":\"range\",\"index\":\"by_balance\",\"limit\":10,\"lower\":{\"ge\":[2000]},\"reverse\":true,\"upper\":{\"lt\":[2500]}}\n",
-        ),
-    ] {
-        let want = page(rt.alloc(), reverse)?;
-        let (reply, asked) = answer(rt.alloc(), &mut hub, line)?;
-        assert!(rt; reply.as_slice() == want.as_bytes());
-        assert!(rt; asked == 4, "{asked} look-ups");
-    }
-    Ok(())
+fn equal_keys_are_counted(rt: HostRuntime) {
+    check_plain(&rt, rt.alloc(), &EQUALS);
+}
+
+#[test]
+fn pages_begin_in_the_middle(rt: HostRuntime) {
+    check_plain(&rt, rt.alloc(), &PAGES);
 }
