@@ -58,10 +58,10 @@ nth_by s n x place = let t = table_of s.database n in and_then (λ _. found t (l
 abbrev pub TellsNumber : Result ℕ Refusal → Told → Type 0
 TellsNumber defined told = (answer : Result ℕ Refusal) × IsAnswer answer defined × (told ≡ told_of (λ n. n) answer)
 
--- The row that a look-up found is shown, or why there is none is told.
+-- The row that a look-up found is shown, or why there is none is told, and cells and bytes stay.
 abbrev pub TellsFound : Result Row Refusal → Told → List Cell → List Cell → List ℕ → List ℕ → Type 0
 TellsFound (Ok r) told cells new_cells texts new_texts = IsShown r.0 r.1 told cells new_cells texts new_texts
-TellsFound (Err e) told cells new_cells texts new_texts = told ≡ refused e
+TellsFound (Err e) told cells new_cells texts new_texts = (told ≡ refused e) × (new_cells ≡ cells) × (new_texts ≡ texts)
 
 -- What is told of a row that may be answered so: as it is defined, or for want of memory.
 abbrev pub MayTellFound : Result Row Refusal → Told → List Cell → List Cell → List ℕ → List ℕ → Type 0

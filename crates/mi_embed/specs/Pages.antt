@@ -81,10 +81,11 @@ abbrev pub IsPaged : Rows → Told → List ℕ → List ℕ → List Cell → L
 IsPaged p told ids new_ids cells new_cells texts new_texts =
     IsPagedIf (has_room (values_of p.0) cells texts) p told ids new_ids cells new_cells texts new_texts
 
--- rows are shown, or why there are none is told
+-- rows are shown, or why there are none is told, and ids, cells and bytes stay
 abbrev pub TellsPage : Result Rows Refusal → Told → List ℕ → List ℕ → List Cell → List Cell → List ℕ → List ℕ → Type 0
 TellsPage (Ok p) told ids new_ids cells new_cells texts new_texts = IsPaged p told ids new_ids cells new_cells texts new_texts
-TellsPage (Err e) told ids new_ids cells new_cells texts new_texts = told ≡ refused e
+TellsPage (Err e) told ids new_ids cells new_cells texts new_texts =
+    (told ≡ refused e) × (new_ids ≡ ids) × (new_cells ≡ cells) × (new_texts ≡ texts)
 
 -- What is told of rows that may be answered so: as they are defined, or for want of memory.
 abbrev pub MayTellPage : Result Rows Refusal → Told → List ℕ → List ℕ → List Cell → List Cell → List ℕ → List ℕ → Type 0

@@ -28,7 +28,7 @@ IsShownIf false id row told cells new_cells texts new_texts = told ≡ wanting (
 abbrev pub IsShown : ℕ → List Value → Told → List Cell → List Cell → List ℕ → List ℕ → Type 0
 IsShown id row told cells new_cells texts new_texts = IsShownIf (has_room row cells texts) id row told cells new_cells texts new_texts
 
--- a record is shown, or why there is none is told
+-- a record is shown, or why there is none is told, and cells and bytes stay
 abbrev pub TellsRow : ℕ → Result (List Value) Refusal → Told → List Cell → List Cell → List ℕ → List ℕ → Type 0
 TellsRow id (Ok row) told cells new_cells texts new_texts = IsShown id row told cells new_cells texts new_texts
-TellsRow id (Err e) told cells new_cells texts new_texts = told ≡ refused e
+TellsRow id (Err e) told cells new_cells texts new_texts = (told ≡ refused e) × (new_cells ≡ cells) × (new_texts ≡ texts)

@@ -163,7 +163,7 @@ impl Engine {
     }
 
     /// Shows the first record of a key, or in an ordered or ranked index of the first values of one, as `get` shows a record, and tells its
-    /// id. Refusals, in this order: `NoTable`, `Index`, `Kind` (a sequenced index), `Key` and `NoId`.
+    /// id. Refusals, in this order: `NoTable`, `Index`, `Kind` (a sequenced index), `Key` and `NoId`; then cells and bytes stay as they are.
     pub fn find(
         &self,
         table: usize,
@@ -182,7 +182,7 @@ impl Engine {
     }
 
     /// Shows the record with n records before it in a ranked index, as `get` shows a record, and tells its id. Refusals, in this order:
-    /// `NoTable`, `Index`, `Kind` and `NoId`.
+    /// `NoTable`, `Index`, `Kind` and `NoId`; then cells and bytes stay as they are.
     pub fn nth(
         &self,
         table: usize,

@@ -151,7 +151,7 @@ impl Engine {
     /// whether others remain. Without room for the values or their texts it tells what is wanted, and nothing is said of ids, cells and bytes.
     ///
     /// Refusals, in this order: `NoTable`, `Index`, `Kind` (a hashed or sequenced index), `Key` (of the lower end, of the upper one, or a number that
-    /// is none of an end), and `Memory`.
+    /// is none of an end), and `Memory`; then ids, cells and bytes stay as they are.
     pub fn range(
         &self,
         table: usize,
@@ -202,7 +202,7 @@ impl Engine {
 
     /// Puts the rows of a sequenced index, or those behind a record, as `range` does.
     ///
-    /// Refusals, in this order: `NoTable`, `Index`, `Kind`, `NoId` and `Memory`.
+    /// Refusals, in this order: `NoTable`, `Index`, `Kind`, `NoId` and `Memory`; then ids, cells and bytes stay as they are.
     pub fn list(
         &self,
         table: usize,

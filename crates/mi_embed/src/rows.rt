@@ -50,7 +50,7 @@ impl Engine {
     }
 
     /// Puts the record of an id into cells, one for each column, and its texts into bytes, and tells the id. Refusals, in this order:
-    /// `NoTable` and `NoId`. Without room for both it tells what is wanted, and nothing is said of either.
+    /// `NoTable` and `NoId`; then both stay as they are. Without room for both it tells what is wanted, and nothing is said of either.
     pub fn get(&self, table: usize, id: u64, cells: &mut [Cell], texts: &mut [u8]) -> Told
         ensures { TellsRow id (got self.now.held table id) result cells.old cells.new texts.old texts.new }
     {
