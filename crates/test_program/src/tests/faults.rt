@@ -3,20 +3,19 @@ ghost use Rattle.std.specs.Prelude.{◌≡◌, [], IsSome};
 ghost use Rattle.mi_hub.specs.Connections.{rest_at};
 
 use super::devices::{AtEnd, Narrow, Pieces};
-use super::serving::{assert_attach, assert_idle, attach_first, ended, opened};
+use super::serving::{Opens, assert_attach, assert_idle, attach_first, ended, opened};
 use mi_hub::{Hub, HubFault, ServeFault, Watched, serve_stream};
 use mi_plain::Plain;
 use std::alloc::Global;
 use std::process::Abort;
-use std::test::Fail;
 
 const TWO_STARTS: &[u8] = b"{\"cmd\":\"start\"}\n{\"cmd\":\"start\"}\n";
 
 /// Serves connection 1 two lines that start a session each, with a writer that fails or takes nothing once its room is used up.
 /// Answers what serving answered, whether the reader has failed, and the writer.
-fn serve_narrowly(
+fn serve_narrowly<D: Opens>(
     alloc: Global,
-    hub: &mut Hub<Plain>,
+    hub: &mut Hub<D>,
     step: usize,
     at_end: AtEnd,
 ) -> (Result<(), ServeFault>, bool, Watched<Narrow>)
@@ -38,7 +37,7 @@ fn serve_narrowly(
 }
 
 /// Connection 1 comes before any other, and can't come again.
-fn attach_once(rt: &impl Abort, hub: &mut Hub<Plain>)
+fn attach_once<D: Opens>(rt: &impl Abort, hub: &mut Hub<D>)
     requires { hub.old.attached ≡ [] }
     ensures { IsSome (rest_at 1 hub.new.attached) }
 {
@@ -53,88 +52,28 @@ fn assert_narrow(rt: &impl Abort, writer: &Watched<Narrow>) {
 }
 
 /// A connection whose writer takes ten bytes is cut, and can come again.
-fn check_write(rt: &impl Abort, alloc: Global, hub: &mut Hub<Plain>, step: usize, at_end: AtEnd)
-    requires { hub.old.attached ≡ [] }
-{
-    attach_once(rt, hub);
-    let (served, reader_failed, writer) = serve_narrowly(alloc, hub, step, at_end);
+fn check_write<D: Opens>(rt: &impl Abort, alloc: Global, step: usize, at_end: AtEnd) {
+    let mut hub = opened::<D>(rt, alloc);
+    attach_once(rt, &mut hub);
+    let (served, reader_failed, writer) = serve_narrowly(alloc, &mut hub, step, at_end);
     assert_eq!(rt; served, Err(ServeFault::Write));
     assert!(rt; !reader_failed);
     assert_narrow(rt, &writer);
     assert_idle(rt, hub.database());
-    assert_attach(rt, hub, 1, Ok(()));
+    assert_attach(rt, &mut hub, 1, Ok(()));
+}
+
+/// A writer that fails, and one that takes nothing.
+fn check_writes<D: Opens>(rt: &impl Abort, alloc: Global) {
+    check_write::<D>(rt, alloc, 64, AtEnd::Fail);
+    check_write::<D>(rt, alloc, 1, AtEnd::TakeNone);
 }
 
 /// A write that fails or takes nothing cuts the connection: its line was executed and the later ones not, and what it held is
 /// undone.
 #[test]
-fn failing_write(rt: HostRuntime) -> Result<(), Fail> {
-    check_write(&rt, rt.alloc(), &mut opened(rt.alloc())?, 64, AtEnd::Fail);
-    check_write(
-        &rt,
-        rt.alloc(),
-        &mut opened(rt.alloc())?,
-        1,
-        AtEnd::TakeNone,
-    );
-    Ok(())
-}
-
-/// As many connections as can be, and one more; the place of one that is cut can be taken.
-#[test]
-fn connections_are_limited(rt: HostRuntime) -> Result<(), Fail> {
-    check_limit(&rt, &mut opened(rt.alloc())?);
-    Ok(())
-}
-
-/// A connection that is cut is answered so.
-fn assert_cut(rt: &impl Abort, hub: &mut Hub<Plain>, conn: u64, want: Result<(), HubFault>) {
-    assert_eq!(rt; hub.cut(conn), want);
-}
-
-/// A hub with no connection takes 64, and no other before one of them is cut.
-fn check_limit(rt: &impl Abort, hub: &mut Hub<Plain>) {
-    for conn in 1..65 {
-        assert_attach(rt, hub, conn, Ok(()));
-    }
-    assert_attach(rt, hub, 1, Err(HubFault::AlreadyAttached));
-    assert_attach(rt, hub, 65, Err(HubFault::TooMany));
-    assert_cut(rt, hub, 64, Ok(()));
-    assert_attach(rt, hub, 65, Ok(()));
-    assert_cut(rt, hub, 64, Err(HubFault::NotAttached));
-}
-
-/// A piece of two lines whose writer takes 10 bytes: the first line was executed and undone, and the connection is gone.
-#[test]
-fn failing_piece(rt: HostRuntime) -> Result<(), Fail> {
-    let mut writer = Watched::new(Narrow {
-        taken: Vec::new(rt.alloc()),
-        step: 64,
-        room: 10,
-        at_end: AtEnd::Fail,
-    });
-    check_piece(&rt, &mut opened(rt.alloc())?, &mut writer);
-    Ok(())
-}
-
-/// A piece of connection 1 with two lines is answered so.
-fn assert_feed(
-    rt: &impl Abort,
-    hub: &mut Hub<Plain>,
-    writer: &mut Watched<Narrow>,
-    want: HubFault,
-) {
-    let piece = b"{\"cmd\":\"start\"}\n{\"cmd\":\"size\"}\n";
-    assert_eq!(rt; hub.feed(1, piece, writer), Err(want));
-}
-
-/// A connection whose writer takes ten bytes is cut at its first reply, and has no more pieces.
-fn check_piece(rt: &impl Abort, hub: &mut Hub<Plain>, writer: &mut Watched<Narrow>) {
-    assert_attach(rt, hub, 1, Ok(()));
-    assert_feed(rt, hub, writer, HubFault::Write);
-    assert_narrow(rt, writer);
-    assert_idle(rt, hub.database());
-    assert_feed(rt, hub, writer, HubFault::NotAttached);
+fn failing_write(rt: HostRuntime) {
+    check_writes::<Plain>(&rt, rt.alloc());
 }
 
 /// A read that fails ends the program, and what was read before it is answered; so does a last flush that fails.

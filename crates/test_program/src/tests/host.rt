@@ -2,7 +2,7 @@
 //! random bytes are those of the host below; how often it is asked for its allocator is counted.
 use super::devices::{Pieces, Sent};
 use mi_program::run;
-use std::alloc::{Allocator, Global};
+use std::alloc::Allocator;
 use std::cell::Cell;
 use std::fs::{Metadata, OpenOptions};
 use std::io;
@@ -12,7 +12,6 @@ use std::os::fd::{AsRawFd, RawFd};
 use std::process::Abort;
 use std::random::RandomSource;
 use std::rt::{Files, Net};
-use std::test::Fail;
 
 /// A client: the pieces that it sends, behind which its reads fail where it isn't sound, and what it must be answered; how much of that has
 /// come, and whether anything else has.
@@ -265,42 +264,47 @@ const ROWS: [Row; 3] = [
     },
 ];
 
-/// A run at port 8000 ends so, and each client gets its own replies and nothing else. It listens at 127.0.0.1 and no other address, and neither
-/// reads the input nor writes the output.
-fn check_row<R: Files + AllocGlobal + RandomSource>(
-    rt: &impl Abort,
+/// The status of a run with these words, and what it writes on the output and on the third stream. Its input fails where it ends.
+fn ran<R: Files + AllocGlobal + RandomSource>(
     below: &R,
-    row: &Row,
-) -> Result<(), Fail> {
-    let visits = [
-        Visit::new(FIRST, true, row.want[0]),
-        Visit::new(SECOND, row.sound, row.want[1]),
-    ];
-    let host = Host::new(below, &visits);
-    check_run(rt, &host, below.alloc(), row);
-    assert_eq!(rt;
-        host.address.get(),
-        Some(SocketAddr::from((Ipv4Addr::LOCALHOST, 8000)))
-    );
-    assert!(rt; visits[0].is_answered() && visits[1].is_answered());
-    Ok(())
-}
-
-/// The status of a run, and what it says on the third stream.
-fn check_run<R: Files + AllocGlobal + RandomSource>(
-    rt: &impl Abort,
     host: &Host<'_, R>,
-    alloc: Global,
-    row: &Row,
-) {
-    let words = ["mi_server", "--listen", "8000", "--clients", row.clients];
+    words: &[&str],
+) -> (u8, Vec<u8>, Vec<u8>) {
     let input = Pieces {
         left: b"{\"cmd\":\"size\"}\n",
         size: 4096,
         sound: false,
     };
-    let (mut output, mut errors) = (Vec::new(alloc), Vec::new(alloc));
-    let status = run(host, &words, input, &mut output, &mut errors);
+    let (mut output, mut errors) = (Vec::new(below.alloc()), Vec::new(below.alloc()));
+    let status = run(host, words, input, &mut output, &mut errors);
+    (status, output, errors)
+}
+
+/// A run at port 8000 ends so, and each client gets its own replies and nothing else. It listens at 127.0.0.1 and no other address, and neither
+/// reads the input nor writes the output.
+fn check_row<R: Files + AllocGlobal + RandomSource>(rt: &impl Abort, below: &R, row: &Row) {
+    let visits = [
+        Visit::new(FIRST, true, row.want[0]),
+        Visit::new(SECOND, row.sound, row.want[1]),
+    ];
+    let host = Host::new(below, &visits);
+    check_run(rt, below, &host, row);
+    assert_eq!(rt;
+        host.address.get(),
+        Some(SocketAddr::from((Ipv4Addr::LOCALHOST, 8000)))
+    );
+    assert!(rt; visits[0].is_answered() && visits[1].is_answered());
+}
+
+/// The status of a run, and what it says on the third stream.
+fn check_run<R: Files + AllocGlobal + RandomSource>(
+    rt: &impl Abort,
+    below: &R,
+    host: &Host<'_, R>,
+    row: &Row,
+) {
+    let words = ["mi_server", "--listen", "8000", "--clients", row.clients];
+    let (status, output, errors) = ran(below, host, &words);
     assert_eq!(rt; status, row.status);
     assert_eq!(rt; errors.as_slice(), row.errors);
     assert!(rt; output.is_empty());
@@ -309,34 +313,20 @@ fn check_run<R: Files + AllocGlobal + RandomSource>(
 /// Words that are refused are judged by the first allocator that is asked for: none is asked for behind it, so no buffer is taken.
 fn check_refused<R: Files + AllocGlobal + RandomSource>(rt: &impl Abort, below: &R) {
     let host = Host::new(below, &[]);
-    let input = Pieces {
-        left: b"{\"cmd\":\"size\"}\n",
-        size: 4096,
-        sound: false,
-    };
-    let (mut output, mut errors) = (Vec::new(below.alloc()), Vec::new(below.alloc()));
-    let status = run(
-        &host,
-        &["mi_server", "--what"],
-        input,
-        &mut output,
-        &mut errors,
-    );
+    let (status, output, errors) = ran(below, &host, &["mi_server", "--what"]);
     assert_eq!(rt; status, 2);
     assert_eq!(rt; host.asked.get(), 1);
     assert!(rt; output.is_empty() && !errors.is_empty());
 }
 
 #[test]
-fn refused_words_take_no_buffer(rt: HostRuntime) -> Result<(), Fail> {
+fn refused_words_take_no_buffer(rt: HostRuntime) {
     check_refused(&rt, &rt);
-    Ok(())
 }
 
 #[test]
-fn ports_are_served(rt: HostRuntime) -> Result<(), Fail> {
+fn ports_are_served(rt: HostRuntime) {
     for row in &ROWS {
-        check_row(&rt, &rt, row)?;
+        check_row(&rt, &rt, row);
     }
-    Ok(())
 }

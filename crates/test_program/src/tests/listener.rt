@@ -149,15 +149,9 @@ const ROWS: [Row; 2] = [
 ];
 
 /// Two clients, and what the database has once both have ended.
-fn check_row<D: Opens>(
-    rt: &impl Abort,
-    host: &HostRuntime,
-    hub: &mut Hub<D>,
-    row: &Row,
-) -> Result<(), Fail>
-    requires { hub.old.attached ≡ [] }
-{
-    check_two(rt, host, hub, row)?;
+fn check_row<D: Opens>(rt: &impl Abort, host: &HostRuntime, row: &Row) -> Result<(), Fail> {
+    let mut hub = opened::<D>(rt, host.alloc());
+    check_two(rt, host, &mut hub, row)?;
     assert_ended(rt, hub.database(), row.owner);
     Ok(())
 }
@@ -165,7 +159,7 @@ fn check_row<D: Opens>(
 /// Each row, over a form of the database.
 fn check_rows<D: Opens>(rt: &impl Abort, host: &HostRuntime) -> Result<(), Fail> {
     for row in &ROWS {
-        check_row(rt, host, &mut opened::<D>(host.alloc())?, row)?;
+        check_row::<D>(rt, host, row)?;
     }
     Ok(())
 }
@@ -176,24 +170,28 @@ fn two_clients_are_answered(rt: HostRuntime) -> Result<(), Fail> {
     check_rows::<Served>(&rt, &rt)
 }
 
-/// With no client there to accept the call ends, and the one that had come is cut.
-#[test]
-fn failed_accept_ends_all(rt: HostRuntime) -> Result<(), Fail> {
-    check_accept(&rt, &rt, &mut opened(rt.alloc())?)
-}
-
 /// One client comes where two are served.
-fn check_accept(rt: &impl Abort, host: &HostRuntime, hub: &mut Hub<Plain>) -> Result<(), Fail>
-    requires { hub.old.attached ≡ [] }
-{
+fn check_accept<D: Opens>(rt: &impl Abort, host: &HostRuntime) -> Result<(), Fail> {
     let listener = listen(host)?;
     listener.set_nonblocking(true)?;
     let _first = client(host, &listener, INSERT_A)?;
-    let (served, _, _) = serve_all(host.alloc(), hub, &listener, 2);
+    check_one_of_two::<D>(rt, host.alloc(), &listener);
+    Ok(())
+}
+
+/// The listener gives one of two clients.
+fn check_one_of_two<D: Opens>(rt: &impl Abort, alloc: Global, listener: &TcpListener) {
+    let mut hub = opened::<D>(rt, alloc);
+    let (served, _, _) = serve_all(alloc, &mut hub, listener, 2);
     assert_eq!(rt; served, Err(ServeFault::Accept));
     assert!(rt; first_owner(hub.database()).is_none());
-    assert_attach(rt, hub, 1, Ok(()));
-    Ok(())
+    assert_attach(rt, &mut hub, 1, Ok(()));
+}
+
+/// With no client there to accept the call ends, and the one that had come is cut.
+#[test]
+fn failed_accept_ends_all(rt: HostRuntime) -> Result<(), Fail> {
+    check_accept::<Plain>(&rt, &rt)
 }
 
 /// A stream over memory: it gives one piece a read, and then is at its end or fails; where it is dumb each write fails.
@@ -266,9 +264,9 @@ impl OpenListener for Breaking {
 
 /// Serves two connections of which the first breaks off, and answers what that answered, and whether a read and whether a write
 /// has failed.
-fn serve_breaking(
+fn serve_breaking<D: Opens>(
     alloc: Global,
-    hub: &mut Hub<Plain>,
+    hub: &mut Hub<D>,
     sound: bool,
 ) -> (Result<(), ServeFault>, bool, bool)
     requires { hub.old.attached ≡ [] }
@@ -281,37 +279,22 @@ fn serve_breaking(
     serve_all(alloc, hub, &listener, 2)
 }
 
-/// A connection whose read or write fails is cut: what it holds is undone, the other goes on, and the fault is answered at the end.
-#[test]
-fn others_go_on(rt: HostRuntime) -> Result<(), Fail> {
-    check_breaking(
-        &rt,
-        rt.alloc(),
-        &mut opened(rt.alloc())?,
-        false,
-        ServeFault::Read,
-    );
-    check_breaking(
-        &rt,
-        rt.alloc(),
-        &mut opened(rt.alloc())?,
-        true,
-        ServeFault::Write,
-    );
-    Ok(())
-}
-
 /// The first connection breaks off with this fault, and the second inserts.
-fn check_breaking(
-    rt: &impl Abort,
-    alloc: Global,
-    hub: &mut Hub<Plain>,
-    sound: bool,
-    fault: ServeFault,
-)
-    requires { hub.old.attached ≡ [] }
-{
-    let answer = serve_breaking(alloc, hub, sound);
+fn check_breaking<D: Opens>(rt: &impl Abort, alloc: Global, sound: bool, fault: ServeFault) {
+    let mut hub = opened::<D>(rt, alloc);
+    let answer = serve_breaking(alloc, &mut hub, sound);
     assert_eq!(rt; answer, (Err(fault), !sound, sound));
     assert_ended(rt, hub.database(), Some("b"));
+}
+
+/// A read fails, or a write does.
+fn check_breakings<D: Opens>(rt: &impl Abort, alloc: Global) {
+    check_breaking::<D>(rt, alloc, false, ServeFault::Read);
+    check_breaking::<D>(rt, alloc, true, ServeFault::Write);
+}
+
+/// A connection whose read or write fails is cut: what it holds is undone, the other goes on, and the fault is answered at the end.
+#[test]
+fn others_go_on(rt: HostRuntime) {
+    check_breakings::<Plain>(&rt, rt.alloc());
 }

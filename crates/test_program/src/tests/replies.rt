@@ -2,7 +2,7 @@
 ghost use Rattle.std.specs.Prelude.{◌≡◌, [], IsSome};
 ghost use Rattle.mi_hub.specs.Connections.{rest_at};
 
-use super::serving::{assert_attach, assert_idle, attach_first, ended, opened, serve_all};
+use super::serving::{Opens, assert_attach, assert_idle, attach_first, ended, opened, serve_all};
 use mi_hub::{Hub, ServeFault, Watched, serve_stream};
 use mi_plain::Plain;
 use mi_program::Buffered;
@@ -137,55 +137,50 @@ fn gone_consumers_end_the_program(rt: HostRuntime) -> Result<(), Fail> {
 
 /// Serves connection 1, and answers what serving answered, whether the reader has failed, whether the writer has, and whether
 /// it refuses what is written then.
-fn serve_once<R: Read + Drop, W: Write + Drop>(
+fn serve_once<D: Opens, R: Read + Drop, W: Write + Drop>(
+    rt: &impl Abort,
     alloc: Global,
-    hub: &mut Hub<Plain>,
+    hub: &mut Hub<D>,
     input: R,
     output: W,
-) -> Result<(Result<(), ServeFault>, bool, bool, bool), AllocError>
+) -> (Result<(), ServeFault>, bool, bool, bool)
     requires { IsSome (rest_at 1 hub.old.attached) }
 {
     let mut reader = Watched::new(input);
-    let mut writer = Watched::new(Buffered::new(alloc, output)?);
+    let output = Buffered::new(alloc, output).expect(rt, "memory is there");
+    let mut writer = Watched::new(output);
     let served = serve_stream(hub, 1, &mut reader, &mut writer);
     let refused = writer.write(b"more").is_err();
-    Ok((served, reader.failed(), writer.failed(), refused))
-}
-
-/// A flush that fails cuts the connection: what it held is undone, and a writer that has failed takes nothing more.
-#[test]
-fn failed_flush_cuts(rt: HostRuntime) -> Result<(), Fail> {
-    let talk = Talk::new(0);
-    check_cut(&rt, rt.alloc(), &mut opened(rt.alloc())?, &talk)?;
-    assert_eq!(rt; talk.asked.get(), 1);
-    Ok(())
+    (served, reader.failed(), writer.failed(), refused)
 }
 
 /// A client whose first flush fails is cut, and can come again.
-fn check_cut(
-    rt: &impl Abort,
-    alloc: Global,
-    hub: &mut Hub<Plain>,
-    talk: &Talk,
-) -> Result<(), AllocError>
-    requires { hub.old.attached ≡ [] }
-{
-    attach_first(rt, hub);
+fn check_cut<D: Opens>(rt: &impl Abort, alloc: Global, talk: &Talk) {
+    let mut hub = opened::<D>(rt, alloc);
+    attach_first(rt, &mut hub);
     let input = Asker {
         talk,
         pieces: SESSION,
     };
     let (served, reader_failed, writer_failed, refused) = serve_once(
+        rt,
         alloc,
-        hub,
+        &mut hub,
         input,
         Teller { talk },
-    )?;
+    );
     assert_eq!(rt; served, Err(ServeFault::Write));
     assert!(rt; writer_failed && !reader_failed && refused);
     assert_idle(rt, hub.database());
-    assert_attach(rt, hub, 1, Ok(()));
-    Ok(())
+    assert_attach(rt, &mut hub, 1, Ok(()));
+}
+
+/// A flush that fails cuts the connection: what it held is undone, and a writer that has failed takes nothing more.
+#[test]
+fn failed_flush_cuts(rt: HostRuntime) {
+    let talk = Talk::new(0);
+    check_cut::<Plain>(&rt, rt.alloc(), &talk);
+    assert_eq!(rt; talk.asked.get(), 1);
 }
 
 /// A connection of a client.
@@ -246,34 +241,14 @@ impl<'a> OpenListener for Calls<'a> {
     }
 }
 
-/// Five connections, each answered to its last line before it asks the next; and one of five that is gone, beside which the others go on.
-#[test]
-fn connections_are_answered(rt: HostRuntime) -> Result<(), Fail> {
-    let all = &mut opened(rt.alloc())?;
-    check_five(&rt, rt.alloc(), all, 100, Ok(()), &[4, 4, 4, 4, 4]);
-    let but_one = &mut opened(rt.alloc())?;
-    check_five(
-        &rt,
-        rt.alloc(),
-        but_one,
-        1,
-        Err(ServeFault::Write),
-        &[4, 4, 2, 4, 4],
-    );
-    Ok(())
-}
-
 /// Five clients come, of which the third has patience for so many flushes: what serving answers, and how many replies each gets.
-fn check_five(
+fn check_five<D: Opens>(
     rt: &impl Abort,
     alloc: Global,
-    hub: &mut Hub<Plain>,
     third: usize,
     served: Result<(), ServeFault>,
     flushed: &[usize; 5],
-)
-    requires { hub.old.attached ≡ [] }
-{
+) {
     let talks = [
         Talk::new(100),
         Talk::new(100),
@@ -281,13 +256,18 @@ fn check_five(
         Talk::new(100),
         Talk::new(100),
     ];
-    assert_eq!(rt; serve_calls(alloc, hub, &talks), served);
+    let mut hub = opened::<D>(rt, alloc);
+    assert_eq!(rt; serve_calls(alloc, &mut hub, &talks), served);
     assert_flushed(rt, &talks, flushed);
     assert_idle(rt, hub.database());
 }
 
 /// Serves five clients.
-fn serve_calls(alloc: Global, hub: &mut Hub<Plain>, talks: &[Talk; 5]) -> Result<(), ServeFault>
+fn serve_calls<D: Opens>(
+    alloc: Global,
+    hub: &mut Hub<D>,
+    talks: &[Talk; 5],
+) -> Result<(), ServeFault>
     requires { hub.old.attached ≡ [] }
 {
     let calls = Calls {
@@ -296,6 +276,18 @@ fn serve_calls(alloc: Global, hub: &mut Hub<Plain>, talks: &[Talk; 5]) -> Result
         accepted: Cell::new(0),
     };
     serve_all(alloc, hub, &calls, 5).0
+}
+
+/// All five stay, or the third goes.
+fn check_fives<D: Opens>(rt: &impl Abort, alloc: Global) {
+    check_five::<D>(rt, alloc, 100, Ok(()), &[4, 4, 4, 4, 4]);
+    check_five::<D>(rt, alloc, 1, Err(ServeFault::Write), &[4, 4, 2, 4, 4]);
+}
+
+/// Five connections, each answered to its last line before it asks the next; and one of five that is gone, beside which the others go on.
+#[test]
+fn connections_are_answered(rt: HostRuntime) {
+    check_fives::<Plain>(&rt, rt.alloc());
 }
 
 /// Each client has got so many replies, by a stream that was told to send at once.

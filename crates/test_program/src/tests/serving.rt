@@ -1,6 +1,6 @@
 //! What the tests serve with. The calls have no contract of their own, so that a test that makes one carries none of what the
 //! call below promises.
-ghost use Rattle.std.specs.Prelude.{◌≡◌, ◌≤◌, [], IfOk, IsSome};
+ghost use Rattle.std.specs.Prelude.{◌≡◌, ◌≤◌, [], IsSome};
 ghost use Rattle.mi_hub.specs.Connections.{rest_at};
 ghost use Rattle.mi_value.specs.declared.limits.TheConstants.{MAX_CONNECTIONS};
 
@@ -39,11 +39,13 @@ impl<C: Container> Opens for Linked<C> {
 }
 
 /// A hub with no connection over the built-in table.
-pub(super) fn opened<D: Opens>(alloc: Global) -> Result<Hub<D>, AllocError>
-    ensures { IfOk result (λ hub. hub.attached ≡ []) }
+pub(super) fn opened<D: Opens>(rt: &impl Abort, alloc: Global) -> Hub<D>
+    ensures { result.attached ≡ [] }
 {
-    let catalog = Catalog::of(alloc, built_in(alloc)?)?;
-    Ok(Hub::new(alloc, D::open(alloc, catalog)?))
+    let schema = built_in(alloc).expect(rt, "memory is there");
+    let catalog = Catalog::of(alloc, schema).expect(rt, "memory is there");
+    let database = D::open(alloc, catalog).expect(rt, "memory is there");
+    Hub::new(alloc, database)
 }
 
 /// No session is open.
@@ -53,17 +55,17 @@ pub(super) fn assert_idle<D: Sessions>(rt: &impl Abort, database: &D) {
 }
 
 /// Connection 1 comes before any other.
-pub(super) fn attach_first(rt: &impl Abort, hub: &mut Hub<Plain>)
+pub(super) fn attach_first<D: Opens>(rt: &impl Abort, hub: &mut Hub<D>)
     requires { hub.old.attached ≡ [] }
     ensures { IsSome (rest_at 1 hub.new.attached) }
 {
-    assert_eq!(rt; hub.attach(1), Ok(()));
+    hub.attach(1).expect(rt, "connection 1 is attached");
 }
 
 /// A connection that comes is answered so.
-pub(super) fn assert_attach(
+pub(super) fn assert_attach<D: Opens>(
     rt: &impl Abort,
-    hub: &mut Hub<Plain>,
+    hub: &mut Hub<D>,
     conn: u64,
     want: Result<(), HubFault>,
 ) {
