@@ -189,6 +189,7 @@ impl<D: Sessions + Drop, L: Log + Drop> Ledger<D, L> {
         ensures hub { hub_of self.new ≡ hub_of self.old }
         ensures appended { Keeps (L.appended (log_of self.old)) (L.appended (log_of self.new)) }
         ensures journal { OnErr result (result ≡ Err LedgerFault.Journal) }
+        ensures failed { OnErr result (L.has_failed (log_of self.new) ≡ true) }
         ensures makes_stay { L.makes_stay (log_of self.new) ≡ L.makes_stay (log_of self.old) }
         ensures settled { IsSettled L.appended L.synced self.new }
     {
