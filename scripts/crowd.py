@@ -200,7 +200,7 @@ def narrow():
     """This process gets a network of its own, of which a socket keeps 16 KiB that aren't sent, as on a slow line; one that keeps megabytes takes
     all that waits as soon as there is room."""
     if ctypes.CDLL(None, use_errno=True).unshare(NEW_NETWORK):
-        raise OSError(ctypes.get_errno(), "a network of its own needs root")
+        raise OSError(ctypes.get_errno(), "no network of its own can be made")
     with socket.socket(socket.AF_INET, socket.SOCK_DGRAM) as any_socket:
         fcntl.ioctl(any_socket, SET_FLAGS, struct.pack("16sH14x", b"lo", IS_UP))
     with open("/proc/sys/net/ipv4/tcp_wmem", "w", encoding="ascii") as file:
@@ -236,8 +236,11 @@ def slow_one(path, replies):
 
 def slow(path, options, folder):
     replies = 350 if options.short else 3500
-    with ProcessPoolExecutor(1) as own:
-        rise, size = own.submit(slow_one, path, replies).result()
+    try:
+        with ProcessPoolExecutor(1) as own:
+            rise, size = own.submit(slow_one, path, replies).result()
+    except PermissionError:
+        return "left out: a network of its own needs root"
     most, sent = most_rise(size), replies * size // 1_000_000
     if rise > most:
         raise Differs(f"beside a client that reads slowly the server's memory rises by {rise} kB while it is sent {sent} MB, and {most} kB are the most")
