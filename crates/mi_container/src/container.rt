@@ -36,8 +36,8 @@ use std::alloc::{AllocError, Global};
 /// the data say. `secrets` has the secret of each index that hashes keys: what it chooses, the buckets, is seen in no answer.
 /// No call changes them.
 ///
-/// Calls that compare keys count each comparison on `steps`. In a table whose size has b binary digits a look-up makes at
-/// most 2 b + 1.
+/// A call that takes `steps` counts each comparison of keys on them; `find`, `count`, `conflict`, `first_of` and `next_of`
+/// compare keys and count nothing. In a table whose size has b binary digits a look-up that is counted makes at most 2 b + 1.
 pub trait Container: Drop {
     ghost shape: { Self → Shape };
 
@@ -56,8 +56,8 @@ pub trait Container: Drop {
     fn keeps_nodes(&self)
         ensures { HoldsNodes (held self.now) (plain self.now) };
 
-    /// A container without rows. Each hashed index hashes keys under the secret: who doesn't know it can't aim keys at one
-    /// bucket. What is answered is the same for every secret.
+    /// A container without rows. Each hashed index hashes keys under the secret: who doesn't know it, and can't measure single
+    /// look-ups, has no known way to aim keys at one bucket, which isn't proved. What is answered is the same for every secret.
     fn new(alloc: Global, schema: Schema, secret: u64) -> Result<Self, AllocError>
         ensures shape { IfOk result (λ made. shape made ≡ schema) }
         ensures plain { IfOk result (λ made. plain made ≡ opened_data schema) }
@@ -157,7 +157,7 @@ pub trait Container: Drop {
         ensures shape { shape self.new ≡ shape self.old }
         ensures secrets { secrets self.new ≡ secrets self.old };
 
-    /// Frees the node that an inverse keeps, if any. Takes no memory.
+    /// Gives the node that an inverse keeps back to the pool, if any: its place is used again. Takes no memory.
     fn settle(&mut self, inverse: Inverse)
         requires { KeptBy inverse (plain self.old) }
         ensures plain { plain self.new ≡ settled inverse (plain self.old) }
@@ -186,7 +186,7 @@ pub trait Container: Drop {
         ensures steps { (b : ℕ) → size_of (as_table (plain self.now)) < 2 ^ b → steps.new.count ≤ steps.old.count + (2 * b + 1) };
 
     /// The first unique index, but for the index `id`, that refuses a record, and the row for which it does. The row of
-    /// `except` isn't counted. One look-up for each unique index. Takes no memory.
+    /// `except` isn't counted. Takes no memory.
     fn conflict(&self, row: &Record, except: Option<u64>) -> Option<(usize, u64)>
         ensures { result ≡ meaning.conflict (shape self.now) (as_table (plain self.now)) row.now except };
 

@@ -135,8 +135,8 @@ impl<C: Container> Linked<C> {
     ghost use Rattle.mi_model.specs.Database.{opened_database, schema_of, table_of as table_at};
 
     /// The database that a catalog opens with: no rows, no open session, the first counters and the first revision. Each
-    /// hashed index of each table hashes keys under the secret: who doesn't know it can't aim keys at one bucket. What is
-    /// answered is the same for every secret.
+    /// hashed index of each table hashes keys under the secret: who doesn't know it, and can't measure single look-ups, has no
+    /// known way to aim keys at one bucket, which isn't proved. What is answered is the same for every secret.
     pub fn new(alloc: Global, catalog: Catalog, secret: u64) -> Result<Linked<C>, AllocError>
         ensures held { IfOk result (λ d. d ≡ opened_linked d.changes d.starts secret catalog) }
         ensures state { IfOk result (λ d. meaning d ≡ opened_database catalog) }

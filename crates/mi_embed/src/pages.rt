@@ -26,7 +26,9 @@ use std::alloc::Global;
 /// values of one.
 #[derive(Clone, Copy)]
 pub struct End<'a> {
+    /// Which of the three, as above.
     pub kind: u32,
+    /// The key. Of kind 0 it isn't looked at.
     pub key: &'a [Cell],
 }
 

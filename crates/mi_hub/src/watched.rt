@@ -18,6 +18,7 @@ pub struct Watched<T> {
 impl<T> Watched<T> {
     ghost use Rattle.mi_hub.specs.Watching.{watched, has_failed, is_flushed};
 
+    /// A reader or a writer that hasn't failed, with nothing that waits for a flush.
     pub fn new(inner: T) -> Watched<T>
         ensures inner { watched result ≡ inner }
         ensures sound { has_failed result ≡ false }
@@ -30,6 +31,7 @@ impl<T> Watched<T> {
         }
     }
 
+    /// The reader or the writer itself.
     pub fn inner(&self) -> &T
         ensures { result.now ≡ watched self.now }
     {

@@ -22,7 +22,9 @@ use std::alloc::{AllocError, Global};
 /// The nodes of one table, and how its indexes stand over them.
 #[derive(Drop)]
 pub struct Nodes {
+    /// The nodes, each with its record, in chunks of memory.
     pub pool: Pool<Stored>,
+    /// How each index of the schema, in its order, stands over them.
     pub structures: Structures,
 }
 

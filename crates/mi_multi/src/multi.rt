@@ -138,7 +138,7 @@ impl MultiIndex {
         self.ids.revive(row.id);
     }
 
-    /// Frees the node that an erased row kept. Takes no memory.
+    /// Gives the node that an erased row kept back to the pool. Takes no memory.
     pub(crate) fn settle_erased(&mut self, row: RowRef)
         requires { KeptBy (Erased (row_seen row) None) self.old.plain }
         ensures plain { self.new.plain ≡ settled (Erased (row_seen row) None) self.old.plain }

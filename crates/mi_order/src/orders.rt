@@ -15,7 +15,9 @@ use std::cmp::Ordering;
 /// The order of an ordered or ranked index, and its tags: `types` are those of the first parts' columns.
 #[derive(Drop)]
 pub struct ByKey {
+    /// The columns of the index's keys, and the direction of each.
     pub parts: Parts,
+    /// The types of the first parts' columns.
     pub types: LeadTypes,
 }
 

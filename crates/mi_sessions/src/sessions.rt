@@ -22,9 +22,11 @@ use std::alloc::Global;
 ///
 /// The tables are named by their number in the catalog. A refused call changes nothing, but for a modify that loses its record
 /// (`Lost`). Where a growth is refused a call that can answer `Memory` does. Of the calls that read `walk` alone takes memory.
+/// `Memory` stands last where refusals have an order, but a database may ask for memory first: it may stand in the place of any
+/// other answer, and then nothing has changed.
 ///
-/// Calls that compare keys count each comparison on `steps`. `bound` says how many one look-up in a table of so many rows
-/// makes at most, if the database promises it.
+/// A call that takes `steps` counts each comparison of keys on them; `first_of` and `next_of` compare keys and count nothing.
+/// `bound` says how many one look-up in a table of so many rows makes at most, if the database promises it.
 pub trait Sessions {
     ghost state: { Self → Database };
 
