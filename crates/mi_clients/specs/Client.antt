@@ -2,7 +2,7 @@
 use Rattle.std.specs.Prelude.{◌≡◌, ◌⊎◌, ◌≤◌, ◌<◌, ℕ, List, [], ◌∷◌, ◌++◌, length, IsTrue, IsFalse, Option}
 use Rattle.std.specs.Io.KnownBytes.{Appends, Consumes}
 use Rattle.mi_ledger.specs.HeldReplies.{bytes_of}
-use Rattle.mi_clients.specs.Output.{unsent}
+use Rattle.mi_clients.specs.Output.{unsent, HoldsNothing}
 use Rattle.mi_clients.specs.Input.{waiting}
 use Rattle.mi_clients.specs.Lines.{SameLines, Ends}
 use Rattle.mi_clients.specs.Steps.{Step, asks, given_to}
@@ -88,10 +88,10 @@ AsksWhatCame remaining taken old new =
 abbrev pub IsAsFar : {S : Type 0} → Client S → Client S → Type 0
 IsAsFar old new = (new.phase ≡ Broken) ⊎ (new.phase ≡ old.phase)
 
--- no byte of it waits that its stream may take: it is broken, or its stream takes none now, or none waits
+-- no byte of it waits that its stream may take: it is broken, or its stream takes none now, or none waits and the memory of all is let go
 abbrev pub HasSent : {S : Type 0} → Client S → Type 0
-HasSent c = (c.phase ≡ Broken) ⊎ (IsFalse c.may_write ⊎ (unsent c.output ≡ []))
+HasSent c = (c.phase ≡ Broken) ⊎ (IsFalse c.may_write ⊎ HoldsNothing c.output)
 
 -- the same, and no reply of it is held
 abbrev pub IsSent : {S : Type 0} → Client S → Type 0
-IsSent c = (c.phase ≡ Broken) ⊎ ((bytes_of c.held ≡ []) × (IsFalse c.may_write ⊎ (unsent c.output ≡ [])))
+IsSent c = (c.phase ≡ Broken) ⊎ ((bytes_of c.held ≡ []) × (IsFalse c.may_write ⊎ HoldsNothing c.output))

@@ -1,5 +1,5 @@
 //! The lines of one connection, asked of the ledger. It reads and writes no stream.
-ghost use Rattle.std.specs.Prelude.{◌≡◌, ◌⊎◌, ◌<◌, ◌++◌, ℕ, List, [], ◌∷◌, Some, true, false, length, IsTrue, IsFalse, OnOk, OnErr, IfOk};
+ghost use Rattle.std.specs.Prelude.{◌≡◌, ◌⊎◌, ◌<◌, ◌++◌, ℕ, List, [], ◌∷◌, Some, Err, true, false, length, IsTrue, IsFalse, OnOk, OnErr, IfOk};
 ghost use Rattle.std.specs.Io.KnownBytes.{Keeps};
 ghost use Rattle.mi_commands.specs.Holder.{held_by, released};
 ghost use Rattle.mi_hub.specs.Connections.{rest_at, others};
@@ -32,7 +32,7 @@ fn hand_out<S>(client: &mut Client<S>, bytes: Vec<u8>)
     ensures has_lines { client.new.has_lines ≡ client.old.has_lines }
     ensures same { client.new ≡ record client.old { input = client.new.input; output = client.new.output; phase = client.new.phase; has_lines = client.new.has_lines; lines = client.new.lines; all_asked = client.new.all_asked } }
 {
-    match client.output.add(bytes) {
+    match client.output.add(client.alloc, bytes) {
         Ok(()) => {}
         Err(_error) => client.phase = Phase::Broken,
     }
@@ -61,6 +61,7 @@ pub fn release<D: Sessions + Drop, L: Log + Drop, S>(
     ensures unsent { OnErr result (client.new.output ≡ client.old.output) }
     ensures hub { hub_of ledger.new ≡ hub_of ledger.old }
     ensures appended { Keeps (L.appended (log_of ledger.old)) (L.appended (log_of ledger.new)) }
+    ensures failed { OnErr result ((result ≡ Err LedgerFault.Journal) × (L.has_failed (log_of ledger.new) ≡ true)) }
     ensures settled { IsSettled L.appended L.synced ledger.new }
 {
     if client.held.is_empty() {
@@ -85,6 +86,7 @@ fn release_each<D: Sessions + Drop, L: Log + Drop, S>(
     ensures input { OnOk result (client.new.input ≡ client.old.input) }
     ensures hub { hub_of ledger.new ≡ hub_of ledger.old }
     ensures appended { Keeps (L.appended (log_of ledger.old)) (L.appended (log_of ledger.new)) }
+    ensures failed { OnErr result ((result ≡ Err LedgerFault.Journal) × (L.has_failed (log_of ledger.new) ≡ true)) }
     ensures settled { IsSettled L.appended L.synced ledger.new }
 {
     if each {
@@ -108,6 +110,7 @@ fn ask_line<D: Sessions + Drop, L: Log + Drop, S>(
     ensures none { IfOk result (λ found. found ≡ false → (client.new ≡ client.old) × (ledger.new ≡ ledger.old) × (ended (waiting client.old.input) ≡ [])) }
     ensures same { OnOk result ((client.new.conn ≡ client.old.conn) × (client.new.phase ≡ client.old.phase) × (client.new.stream ≡ client.old.stream)) }
     ensures attached { OnOk result ((hub_of ledger.new).attached ≡ (hub_of ledger.old).attached) }
+    ensures failed { result ≡ Err LedgerFault.Journal → L.has_failed (log_of ledger.new) ≡ true }
     ensures settled { IsSettled L.appended L.synced ledger.old → IsSettled L.appended L.synced ledger.new }
 {
     let Some(line) = client.input.line() else {
@@ -136,6 +139,7 @@ pub fn ask_lines<D: Sessions + Drop, L: Log + Drop, S>(
     ensures all { OnOk result (IsAsked client.new) }
     ensures phase { OnOk result (IsAsFar client.old client.new) }
     ensures attached { OnOk result ((hub_of ledger.new).attached ≡ (hub_of ledger.old).attached) }
+    ensures failed { result ≡ Err LedgerFault.Journal → L.has_failed (log_of ledger.new) ≡ true }
     ensures settled { OnOk result (IsSettled L.appended L.synced ledger.new) }
 {
     'lines: while client.may_ask() {
@@ -163,6 +167,7 @@ pub fn undo_all<D: Sessions + Drop, L: Log + Drop>(
     ensures still { ¬ (holder_conn (hub_of ledger.old).held.holder ≡ Some conn) → ledger.new ≡ ledger.old }
     ensures makes_stay { L.makes_stay (log_of ledger.new) ≡ L.makes_stay (log_of ledger.old) }
     ensures attached { OnOk result ((hub_of ledger.new).attached ≡ (hub_of ledger.old).attached) }
+    ensures failed { result ≡ Err LedgerFault.Journal → L.has_failed (log_of ledger.new) ≡ true }
     ensures settled { IsSettled L.appended L.synced ledger.old → IsSettled L.appended L.synced ledger.new }
 {
     let mut unheard = HeldReplies::new(alloc);
@@ -191,6 +196,7 @@ pub fn settle<D: Sessions + Drop, L: Log + Drop, S>(
         → (client.new.phase ≡ phases.Asked) × ((hub_of ledger.new).held ≡ released client.old.conn (hub_of ledger.old).held)) }
     ensures input { OnOk result (client.new.input ≡ client.old.input) }
     ensures attached { OnOk result ((hub_of ledger.new).attached ≡ (hub_of ledger.old).attached) }
+    ensures failed { result ≡ Err LedgerFault.Journal → L.has_failed (log_of ledger.new) ≡ true }
     ensures settled { IsSettled L.appended L.synced ledger.old → IsSettled L.appended L.synced ledger.new }
 {
     if client.phase == Phase::Ended && !client.has_lines {
@@ -214,6 +220,7 @@ pub fn part<D: Sessions + Drop, L: Log + Drop>(
     ensures still { OnOk result (¬ (holder_conn (hub_of ledger.old).held.holder ≡ Some conn) → (hub_of ledger.new).held ≡ (hub_of ledger.old).held) }
     ensures attached { OnOk result ((hub_of ledger.new).attached ≡ others conn (hub_of ledger.old).attached) }
     ensures makes_stay { L.makes_stay (log_of ledger.new) ≡ L.makes_stay (log_of ledger.old) }
+    ensures failed { result ≡ Err LedgerFault.Journal → L.has_failed (log_of ledger.new) ≡ true }
     ensures settled { IsSettled L.appended L.synced ledger.old → IsSettled L.appended L.synced ledger.new }
 {
     undo_all(alloc, ledger, conn)?;

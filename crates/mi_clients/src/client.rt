@@ -167,7 +167,7 @@ impl<S: Duplex> Client<S> {
         match self.stream.read(buffer) {
             Ok(0) => self.finish(),
             Ok(count) => {
-                self.is_drained(count < buffer.len());
+                self.note_short_read(count < buffer.len());
                 self.take(&buffer[..count]);
             }
             Err(error) => self.fail(error.kind()),
@@ -175,7 +175,7 @@ impl<S: Duplex> Client<S> {
     }
 
     /// A piece was read, and less than there was room for: then no more is there now, unless the peer has closed.
-    fn is_drained(&mut self, short: bool)
+    fn note_short_read(&mut self, short: bool)
         ensures { self.new ≡ record self.old { may_read = self.new.may_read } }
     {
         if short && !self.is_closing {
@@ -222,7 +222,7 @@ impl<S: Duplex> Client<S> {
         }
     }
 
-    /// Sends what was handed out, as much as its stream takes now. Each byte is sent or owed still.
+    /// Sends what was handed out, as much as its stream takes now. Each byte is sent or owed still; once all is sent its memory is let go.
     pub(crate) fn send(&mut self)
         ensures sent { Sends S.contents self.old.stream self.new.stream (owed self.old) (owed self.new) }
         ensures all { HasSent self.new }
@@ -236,7 +236,7 @@ impl<S: Duplex> Client<S> {
             return;
         }
         match send_out(&mut self.stream, &mut self.output) {
-            Sending::All => {}
+            Sending::All => self.output = Output::new(self.alloc),
             Sending::Blocked => self.may_write = false,
             Sending::Failed => self.phase = Phase::Broken,
         }

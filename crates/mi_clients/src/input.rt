@@ -19,7 +19,7 @@ pub struct Input {
 }
 
 impl Input {
-    ghost use Rattle.mi_clients.specs.Input.{waiting};
+    ghost use Rattle.mi_clients.specs.Input.{waiting, kept};
 
     /// Nothing was sent yet.
     pub fn new(alloc: Global) -> Input
@@ -61,6 +61,7 @@ impl Input {
     /// What was asked is let go.
     fn settle(&mut self)
         ensures waiting { waiting self.new ≡ waiting self.old }
+        ensures let_go { kept self.new ≡ waiting self.new }
         ensures none { self.new.asked ≡ 0 }
     {
         let left = self.bytes.len() - self.asked;
@@ -69,11 +70,12 @@ impl Input {
         self.asked = 0;
     }
 
-    /// A piece comes. An error leaves what waits as it is.
+    /// A piece comes, and what was asked is let go. An error leaves what waits as it is.
     pub fn fill(&mut self, piece: &[u8]) -> Result<(), AllocError>
         ensures ok { OnOk result (SameLines (waiting self.old ++ piece.now) (waiting self.new)) }
         ensures kept { OnOk result (IsFilled (waiting self.old) piece.now (waiting self.new)) }
         ensures err { OnErr result (waiting self.new ≡ waiting self.old) }
+        ensures let_go { kept self.new ≡ waiting self.new }
     {
         self.settle();
         let kept = kept_of(self.waiting(), piece);

@@ -1,5 +1,5 @@
 //! The attached connections in a row, each step over all of them.
-ghost use Rattle.std.specs.Prelude.{◌≡◌, ◌⊎◌, ◌↔◌, ◌++◌, ◌∷◌, List, [], Some, IsTrue, OnOk};
+ghost use Rattle.std.specs.Prelude.{◌≡◌, ◌⊎◌, ◌↔◌, ◌++◌, ◌∷◌, List, [], Some, Err, true, IsTrue, OnOk, OnErr};
 ghost use Rattle.std.specs.List.{All, Any};
 ghost use Rattle.std.specs.Io.KnownBytes.{Keeps};
 ghost use Rattle.mi_ledger.specs.Ledger.{hub_of, log_of, IsSettled};
@@ -35,6 +35,7 @@ fn serve<D: Sessions + Drop, L: Log + Drop, S: Duplex>(
     ensures opened { OnOk result (client.new.phase ≡ phases.Open → client.old.phase ≡ phases.Open) }
     ensures asked { OnOk result (IsAsked client.new) }
     ensures attached { OnOk result ((hub_of ledger.new).attached ≡ (hub_of ledger.old).attached) }
+    ensures failed { result ≡ Err LedgerFault.Journal → L.has_failed (log_of ledger.new) ≡ true }
     ensures settled { OnOk result (IsSettled L.appended L.synced ledger.new) }
 {
     client.read(buffer);
@@ -56,6 +57,7 @@ pub fn ask_all<D: Sessions + Drop, L: Log + Drop, S: Duplex>(
         × OpenOnlyAsk steps row.new.items) }
     ensures asked { OnOk result (All IsAsked row.new.items) }
     ensures attends { OnOk result (Attends (ids row.new.items) (hub_of ledger.new).attached) }
+    ensures failed { result ≡ Err LedgerFault.Journal → L.has_failed (log_of ledger.new) ≡ true }
     ensures settled { OnOk result (IsSettled L.appended L.synced ledger.new) }
 {
     for client in row.iter_mut() {
@@ -78,6 +80,7 @@ pub fn send_all<D: Sessions + Drop, L: Log + Drop, S: Duplex>(
     ensures hub { OnOk result (hub_of ledger.new ≡ hub_of ledger.old) }
     ensures appended { OnOk result (Keeps (L.appended (log_of ledger.old)) (L.appended (log_of ledger.new))) }
     ensures attends { OnOk result (Attends (ids row.new.items) (hub_of ledger.new).attached) }
+    ensures failed { OnErr result ((result ≡ Err LedgerFault.Journal) × (L.has_failed (log_of ledger.new) ≡ true)) }
     ensures settled { OnOk result (IsSettled L.appended L.synced ledger.new) }
 {
     for client in row.iter_mut() {
@@ -100,6 +103,7 @@ pub fn let_go<D: Sessions + Drop, L: Log + Drop, S: Drop>(
         × OpenOnlyAsk steps row.new.items) }
     ensures stay { OnOk result (NoneIsOver row.new.items) }
     ensures attends { OnOk result (Attends (ids row.new.items) (hub_of ledger.new).attached) }
+    ensures failed { result ≡ Err LedgerFault.Journal → L.has_failed (log_of ledger.new) ≡ true }
     ensures settled { OnOk result (IsSettled L.appended L.synced ledger.new) }
 {
     let mut at = 0;
@@ -116,7 +120,8 @@ pub fn let_go<D: Sessions + Drop, L: Log + Drop, S: Drop>(
 
 /// A connection stands behind the others.
 fn seat<S: Drop>(row: &mut Vec<Client<S>>, client: Client<S>) -> Result<(), LedgerFault>
-    ensures { OnOk result (row.new.items ≡ row.old.items ++ client ∷ []) }
+    ensures seated { OnOk result (row.new.items ≡ row.old.items ++ client ∷ []) }
+    ensures memory { OnErr result (result ≡ Err LedgerFault.Memory) }
 {
     match row.push(client) {
         Ok(()) => Ok(()),
@@ -143,6 +148,7 @@ pub fn serve_all<D: Sessions + Drop, L: Log + Drop, S: Duplex + Drop>(
     ensures sent { OnOk result (All IsSent row.new.items) }
     ensures stay { OnOk result (NoneIsOver row.new.items) }
     ensures attends { OnOk result (Attends (ids row.new.items) (hub_of ledger.new).attached) }
+    ensures failed { result ≡ Err LedgerFault.Journal → L.has_failed (log_of ledger.new) ≡ true }
     ensures settled { OnOk result (IsSettled L.appended L.synced ledger.new) }
 {
     ask_all(ledger, row, buffer, each)?;
@@ -166,6 +172,7 @@ pub fn admit<D: Sessions + Drop, L: Log + Drop, S: Drop>(
     ensures row { OnOk result ((row.new.items ≡ row.old.items)
         ⊎ ((client : Client S) × (row.new.items ≡ row.old.items ++ client ∷ []) × (client.conn ≡ conn) × (client.stream ≡ stream) × (owed client ≡ []))) }
     ensures attends { OnOk result (Attends (ids row.new.items) (hub_of ledger.new).attached) }
+    ensures memory { OnErr result (result ≡ Err LedgerFault.Memory) }
     ensures settled { OnOk result (IsSettled L.appended L.synced ledger.new) }
 {
     match ledger.attach(conn) {

@@ -1,7 +1,7 @@
 //! The journal's file: it is locked for this process alone, its name is made to stay, and a torn end is cut off it. It reads no journal.
 use crate::failure::Failure;
 use std::fs;
-use std::fs::{File, OpenOptions};
+use std::fs::{File, OpenOptions, TryLockError};
 use std::io::ErrorKind;
 use std::os::unix::fs::MetadataExt;
 use std::path::Path;
@@ -32,6 +32,15 @@ fn is_named<R: Files<File = File>>(rt: &R, path: &str, file: &File) -> Result<bo
     }
 }
 
+/// Locks a file for this process alone. `JournalLocked` where another has it, `JournalFile` where it can't be locked.
+fn lock(file: &File) -> Result<(), Failure> {
+    match file.try_lock() {
+        Ok(()) => Ok(()),
+        Err(TryLockError::WouldBlock) => Err(Failure::JournalLocked),
+        Err(TryLockError::Error(_error)) => Err(Failure::JournalFile),
+    }
+}
+
 /// The file of a journal, to be appended to by this process alone. `JournalLocked` where another has it.
 ///
 /// Who makes a journal shorter puts another file in its place, and has the old one locked until then. Where that was done between the open
@@ -39,9 +48,7 @@ fn is_named<R: Files<File = File>>(rt: &R, path: &str, file: &File) -> Result<bo
 pub fn claimed<R: Files<File = File>>(rt: &R, path: &str) -> Result<File, Failure> {
     for _try in 0..MOST_TRIES {
         let file = to_append(rt, path)?;
-        if file.try_lock().is_err() {
-            return Err(Failure::JournalLocked);
-        }
+        lock(&file)?;
         if is_named(rt, path, &file)? {
             return Ok(file);
         }

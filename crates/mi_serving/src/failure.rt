@@ -37,7 +37,7 @@ pub enum Failure {
 impl Failure {
     /// What a fault of the ledger is.
     pub fn of_ledger(fault: LedgerFault) -> Failure
-        ensures { (result ≡ Failure.Memory) ⊎ (result ≡ Failure.Journal) }
+        ensures { ((fault ≡ LedgerFault.Memory) × (result ≡ Failure.Memory)) ⊎ ((fault ≡ LedgerFault.Journal) × (result ≡ Failure.Journal)) }
     {
         match fault {
             LedgerFault::Memory => Failure::Memory,

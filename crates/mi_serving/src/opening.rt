@@ -1,11 +1,13 @@
 //! The journal at the start: what it has is asked again, a torn end of it is cut off, and it is opened to go on with, under a name that stays.
-ghost use Rattle.std.specs.Prelude.{◌≡◌, ◌++◌, ◌∷◌, [], ℕ, true, false, Ok, OnOk, IfOk, IfSome};
+ghost use Rattle.std.specs.Prelude.{◌≡◌, ◌++◌, ◌∷◌, List, [], ℕ, true, false, Ok, OnOk, IfOk, IfSome};
+ghost use Rattle.std.specs.Io.KnownBytes.{Keeps};
 ghost use Rattle.mi_log.specs.LogLines.{reader_of};
 ghost use Rattle.mi_replay.specs.Replayed.{replayer};
 ghost use Rattle.mi_log.specs.DeviceLog.{device_of};
 ghost use Rattle.mi_ledger.specs.Ledger.{hub_of, log_of};
 ghost use Rattle.mi_serving.specs.Device.{is_synced, is_staying};
 ghost use Rattle.mi_clients.specs.Row.{fresh};
+ghost use Rattle.mi_clients.specs.Steps.{Step, Makes, GivesNone};
 ghost use Rattle.mi_serving.specs.Recovery.{HasHeader, IsBeginning, IsReplayed, IsRecovered, IsWith};
 
 use crate::claim::{claimed, cut_off, keep_name};
@@ -184,6 +186,30 @@ fn continued(
     }
 }
 
+/// A hub goes on with its log: the sessions that the connection which replayed holds are undone, by lines that are appended, and all that
+/// is appended stays.
+fn resumed<D: Sessions + Drop, L: Log + Drop>(
+    alloc: Global,
+    hub: Hub<D>,
+    log: L,
+    found: Journaled,
+) -> Result<Ledger<D, L>, Failure>
+    requires { IsWith found hub.attached }
+    ensures makes { IfOk result (λ ledger. (steps : List Step) × GivesNone steps
+        × Makes steps hub (hub_of ledger) (L.appended log) (L.appended (log_of ledger))) }
+    ensures stay { IfOk result (λ ledger. Keeps (L.appended (log_of ledger)) (L.synced (log_of ledger))) }
+    ensures attached { IfOk result (λ ledger. (hub_of ledger).attached ≡ []) }
+    ensures makes_stay { IfOk result (λ ledger. L.makes_stay (log_of ledger) ≡ L.makes_stay log) }
+{
+    let mut ledger = Ledger::new(alloc, hub, log);
+    match found {
+        Journaled::Nothing => {}
+        Journaled::Journal(_torn) => part(alloc, &mut ledger, REPLAYER)?,
+    }
+    ledger.release(HeldReplies::new(alloc))?;
+    Ok(ledger)
+}
+
 /// A hub with no journal.
 pub fn without<D: Sessions + Drop>(alloc: Global, hub: Hub<D>) -> FileLedger<D>
     ensures hub { hub_of result ≡ hub }
@@ -214,11 +240,5 @@ pub fn opened<R: Files<File = File> + AllocGlobal, D: Sessions + Drop>(
     named(rt, path, keeping)?;
     let found = found(rt, &mut hub, path, header.as_bytes())?;
     let log = continued(file, keeping, found, header)?;
-    let mut ledger = Ledger::new(rt.alloc(), hub, log);
-    match found {
-        Journaled::Nothing => {}
-        Journaled::Journal(_torn) => part(rt.alloc(), &mut ledger, REPLAYER)?,
-    }
-    ledger.release(HeldReplies::new(rt.alloc()))?;
-    Ok(ledger)
+    resumed(rt.alloc(), hub, log, found)
 }

@@ -1,5 +1,5 @@
 //! The loop of the service: it waits until something is ready, and takes a turn.
-ghost use Rattle.std.specs.Prelude.{◌≡◌, List, [], None, Err, OnOk, OnErr};
+ghost use Rattle.std.specs.Prelude.{◌≡◌, List, [], None, Err, true, OnOk, OnErr};
 ghost use Rattle.mi_ledger.specs.Ledger.{hub_of, log_of, IsSettled};
 ghost use Rattle.mi_clients.specs.Steps.{Step, Makes, GivesNone};
 ghost use Rattle.mi_clients.specs.Row.{ids, Attends, Joins, NoneIsOver, Serves};
@@ -34,6 +34,7 @@ fn accept_one<D: Sessions + Drop, L: Log + Drop>(
     ensures comes { OnOk result ((steps : List Step) × GivesNone steps × Joins row.old.items row.new.items
         × Makes steps (hub_of ledger.old) (hub_of ledger.new) (L.appended (log_of ledger.old)) (L.appended (log_of ledger.new))) }
     ensures attends { OnOk result (Attends (ids row.new.items) (hub_of ledger.new).attached) }
+    ensures memory { OnErr result (result ≡ Err LedgerFault.Memory) }
     ensures settled { OnOk result (IsSettled L.appended L.synced ledger.new) }
 {
     let conn = last.saturating_add(1);
@@ -59,6 +60,7 @@ fn accept_all<D: Sessions + Drop, L: Log + Drop>(
     ensures comes { OnOk result ((steps : List Step) × GivesNone steps × Joins row.old.items row.new.items
         × Makes steps (hub_of ledger.old) (hub_of ledger.new) (L.appended (log_of ledger.old)) (L.appended (log_of ledger.new))) }
     ensures attends { OnOk result (Attends (ids row.new.items) (hub_of ledger.new).attached) }
+    ensures memory { OnErr result (result ≡ Err LedgerFault.Memory) }
     ensures settled { OnOk result (IsSettled L.appended L.synced ledger.new) }
 {
     'places: for _place in 0..MAX_CONNECTIONS {
@@ -92,6 +94,7 @@ pub fn take_turn<D: Sessions + Drop, L: Log + Drop>(
         × Makes steps (hub_of ledger.old) (hub_of ledger.new) (L.appended (log_of ledger.old)) (L.appended (log_of ledger.new))) }
     ensures stay { OnOk result (NoneIsOver row.new.items) }
     ensures attends { OnOk result (Attends (ids row.new.items) (hub_of ledger.new).attached) }
+    ensures failed { result ≡ Err LedgerFault.Journal → L.has_failed (log_of ledger.new) ≡ true }
     ensures settled { OnOk result (IsSettled L.appended L.synced ledger.new) }
 {
     accept_all(alloc, ledger, door, row, last)?;
@@ -121,6 +124,7 @@ pub fn serve<D: Sessions + Drop, L: Log + Drop>(
     requires settled { IsSettled L.appended L.synced ledger.old }
     ensures turns { result ≡ Failure.Turns
         → Goes (hub_of ledger.old) (hub_of ledger.new) (L.appended (log_of ledger.old)) (L.appended (log_of ledger.new)) }
+    ensures failed { result ≡ Failure.Journal → L.has_failed (log_of ledger.new) ≡ true }
 {
     let Ok(mut row) = Vec::with_capacity(alloc, MAX_CONNECTIONS) else {
         return Failure::Memory;

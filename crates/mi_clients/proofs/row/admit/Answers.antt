@@ -22,18 +22,18 @@ returns-in-Ok-clause-comes g c =
       comes_none_given c.args.conn,
       subst (Joins row) (sym items) (joins_one row c.new.result (c.new.ensures.none.1, new)),
       comes_makes c.args.conn (hub_of c.args.ledger.now) (hub_of c.attach.new.self) _ _ c.in-Ok.ensures.ok kept,
-    )) c.seat.ensures
+    )) c.seat.ensures.seated
 
 pub returns-in-Ok-clause-row : goal.returns-in-Ok-clause-row
 returns-in-Ok-clause-row g c =
-    on_ok_weaker c.seat.result (λ items. inr (c.new.result, items, c.new.ensures.conn, c.new.ensures.stream, c.new.ensures.none.1)) c.seat.ensures
+    on_ok_weaker c.seat.result (λ items. inr (c.new.result, items, c.new.ensures.conn, c.new.ensures.stream, c.new.ensures.none.1)) c.seat.ensures.seated
 
 pub returns-in-Ok-clause-attends : goal.returns-in-Ok-clause-attends
 returns-in-Ok-clause-attends g c =
     on_ok_weaker c.seat.result (λ items.
     subst (λ row. Attends (ids row) (hub_of c.attach.new.self).attached) (sym items)
     (attends_more c.args.row.now.items c.new.result c.args.conn (hub_of c.args.ledger.now) (hub_of c.attach.new.self)
-    c.requires.attends c.new.ensures.conn c.in-Ok.ensures.ok)) c.seat.ensures
+    c.requires.attends c.new.ensures.conn c.in-Ok.ensures.ok)) c.seat.ensures.seated
 
 pub returns-in-Err-clause-comes : goal.returns-in-Err-clause-comes
 returns-in-Err-clause-comes g c =

@@ -11,13 +11,13 @@ pub returns-in-Ok-clause-piece : goal.returns-in-Ok-clause-piece
 returns-in-Ok-clause-piece g c =
     let piece = take c.in-Ok.count c.read.new.buffer in
     let stream : c.take.new.self.stream ≡ c.read.new.self =
-    ap (λ (s : Client _). s.stream) c.take.ensures.same ∙ ap (λ (s : Client _). s.stream) c.is_drained.ensures in (
+    ap (λ (s : Client _). s.stream) c.take.ensures.same ∙ ap (λ (s : Client _). s.stream) c.note_short_read.ensures in (
       piece,
       subst (λ s. Consumes (g.S.Duplex.remaining c.args.self.now.stream) (g.S.Duplex.remaining s) piece) (sym stream) c.in-Ok.ensures.bytes.0,
       elim c.take.ensures.waits [
         | inl broken ↦ inl broken
         | inr same ↦ inr (inl
-            (subst (λ i. SameLines (waiting i ++ piece) (waiting c.take.new.self.input)) (ap (λ (s : Client _). s.input) c.is_drained.ensures) same))
+            (subst (λ i. SameLines (waiting i ++ piece) (waiting c.take.new.self.input)) (ap (λ (s : Client _). s.input) c.note_short_read.ensures) same))
       ],
     )
 

@@ -1,0 +1,35 @@
+-- Where there was a journal its sessions are undone; where there was none nothing is.
+use Rattle.std.proofs.Common.{[], subst, sym}
+use Rattle.std.proofs.KnownBytes.{Keeps-refl}
+use Rattle.mi_ledger.specs.Ledger.{hub_of, log_of}
+use Rattle.mi_clients.specs.Steps.{Makes}
+use Rattle.mi_clients.proofs.StepLemmas.{makes_none}
+use Rattle.mi_clients.proofs.ServedLemmas.{nothing_given}
+use Rattle.mi_serving.proofs.OpeningLemmas.{resumed_makes}
+use Rattle.mi_serving.proofs.opening.resumed.Goals.{in-Nothing, in-Journal+in_ok-part-in-Journal}
+use Rattle.mi_serving.proofs.opening.resumed.Goals as goal
+
+pub returns-clause-makes : goal.returns-clause-makes
+returns-clause-makes g c =
+    let appended = g.L.Log.appended in
+    let first = c.new-ledger.result in
+    let mid = c.match-found.ledger in
+    let last = c.release.new.self in elim c.match-found.branch [
+      | in-Nothing w ↦ (
+        [],
+        nothing_given,
+        resumed_makes appended [] c.args.hub (hub_of first) (hub_of mid) (hub_of last) c.args.log (log_of first) (log_of mid) (log_of last)
+            c.new-ledger.ensures.hub c.new-ledger.ensures.log
+            (subst (λ l. Makes [] (hub_of first) (hub_of l) (appended (log_of first)) (appended (log_of l))) (sym w.ledger-is)
+            (makes_none (hub_of first) _ _ (Keeps-refl _)))
+            c.release.ensures.hub c.release.ensures.appended,
+      )
+      | in-Journal+in_ok-part-in-Journal w ↦ let gone = w.in_ok-part-in-Journal.ensures.goes in (
+        gone.0,
+        gone.1,
+        resumed_makes appended gone.0 c.args.hub (hub_of first) (hub_of mid) (hub_of last) c.args.log (log_of first) (log_of mid) (log_of last)
+            c.new-ledger.ensures.hub c.new-ledger.ensures.log
+            (subst (λ l. Makes gone.0 (hub_of first) (hub_of l) (appended (log_of first)) (appended (log_of l))) (sym w.ledger-is) gone.2)
+            c.release.ensures.hub c.release.ensures.appended,
+      )
+    ]
