@@ -1,7 +1,7 @@
 #!/usr/bin/env python3
 """Reads journals: files of the lines that changed a database, in the order in which they were executed.
 
-    journal.py check FILE [--replay PROGRAM [--schema FILE]]    whether each line is whole and a command; with --replay, whether it is done
+    journal.py check FILE [--replay PROGRAM [--schema FILE]]    whether each line is whole and a command; with --replay, whether its reply is one of a change
     journal.py stat FILE                                        lines by command, sessions, sizes
     journal.py compact FILE [--to NEW]                          a shorter journal of the same database, in a new file that is then renamed
 
@@ -33,6 +33,8 @@ from reference import CHANGES, LONGEST_LINE, MOST_SESSIONS, Refusal, form, is_co
 
 FORMAT = 1
 SESSIONS = ("start", "undo", "squash", "commit", "undo_all", "push")
+# How the replies to lines that a journal has begin, but for that to a modify which lost its record.
+CHANGED = tuple(b'{"id":|{"ok":true}|{"erased":|{"ok":true,"revision":|{"committed":|{"ok":true,"undone":|{"ok":true,"pushed":'.split(b"|"))
 
 
 class Damaged(Exception):
@@ -207,9 +209,10 @@ def check(path, replay, schema):
         replay_check(path, replay, schema)
 
 
-def is_done(reply):
-    """Whether a line was done: it was accepted, or lost the record that it was to modify, which is a change too."""
-    return reply.endswith(b'"ok":true}\n') or b'"ok":true,' in reply[:-1] or b'"lost":true' in reply
+def may_be_change(reply):
+    """Whether a reply, with its newline, may be to a line that a journal has: one that changed something, or is answered as such a one."""
+    text = reply[:-1]
+    return text.startswith(CHANGED) or text.startswith(b'{"error":"unique"') and text.endswith(b'","lost":true,"ok":false}')
 
 
 def whole_lines(path, pipe):
@@ -231,13 +234,13 @@ def replay_check(path, program, schema):
         threading.Thread(target=whole_lines, args=(path, ran.stdin), daemon=True).start()
         for number, reply in enumerate(ran.stdout, 1):
             done += len(file.readline())
-            if number > 1 and not is_done(reply):
+            if number > 1 and not may_be_change(reply):
                 ran.kill()
-                raise Damaged(number, f"refused: {reply.decode(errors='replace').strip()}")
+                raise Damaged(number, f"no change: {reply.decode(errors='replace').strip()}")
             progress.at(done)
         if ran.wait():
             raise OSError(f"{program} has ended with status {ran.returncode}")
-    print(f"{path}: replayed, and no line is refused")
+    print(f"{path}: replayed, and each line is one of a journal")
 
 
 def stat(path):

@@ -316,15 +316,17 @@ class OverTheProgram(Files):
             for path in (self.path, short):
                 self.assertEqual(self.answers(catalog, path, show), want, (seed, path))
 
-    def test_a_refused_line_is_named(self):
+    def test_a_line_that_no_journal_has_is_named(self):
         words = ("check", self.path, "--replay", program.program())
         self.write([START, insert("a"), UNDO, insert("a"), insert("a")])
         status, said = self.ran(*words)
         self.assertEqual(status, 3)
-        self.assertIn('line 6: refused: {"error":"unique"', said)
-        lost = [insert("a"), insert("b"), line("modify", id=1, set={"owner": "a"}), line("size")]
+        self.assertIn('line 6: no change: {"error":"unique"', said)
+        lost = [insert("a"), insert("b"), line("modify", id=1, set={"owner": "a"}), line("erase_key", index="by_owner", key=["c"])]
         self.write(lost)
         self.assertEqual(self.ran(*words)[0], 0)
+        self.write([*lost, line("size")])
+        self.assertIn("line 6: no change: ", self.ran(*words)[1])
 
 
 class OverTheService(Files):
