@@ -7,7 +7,8 @@
    Each of these is owed by the caller, and no call tests it:
    - A handle comes from `weltiyo_open`, is used by the thread that opened it alone, in one call at a time, and not after `weltiyo_close`.
      A process may have many handles, each on a thread of its own.
-   - No pointer is null, also where its length is 0, and none points into what another argument of the call points to.
+   - No pointer is null, also where its length is 0, and what a call writes to overlaps no other argument of it. Keys, rows and texts that are
+     only read may be the same.
    - No call is made from a signal handler, or in the child of a fork of a process with threads.
    - A thread that calls has 256 KiB of stack left. */
 #ifndef WELTIYO_H
@@ -45,7 +46,7 @@ typedef enum weltiyo_status {
 } weltiyo_status;
 
 /* Opens the tables that a schema in TOML describes; where its length is 0, the built-in table `accounts`. `secret` is mixed into the hashes
-   of keys: take a random number where strangers choose keys, so that they can't aim them at one bucket. No answer depends on it.
+   of keys: take a random number where strangers choose keys, since who knows it can aim them at one bucket. No answer depends on it.
    WELTIYO_OK, and `*handle` is the database; else why it isn't opened, and `*handle` is null. */
 uint32_t weltiyo_open(const void *schema, size_t length, uint64_t secret, weltiyo_db **handle);
 
