@@ -160,8 +160,24 @@ class Database(Walks):
         self._ahead.append(made)
         try:
             yield made
+        except BaseException as error:
+            self._settle(made, error)
+            raise
         finally:
             self._ahead.remove(made)
+
+    def _settle(self, made: Union[Pipeline, LinesAhead], error: Optional[BaseException]) -> None:
+        """At the end of a block all that was sent ahead in it is answered; behind an interruption the connection ends instead."""
+        try:
+            if error is None or (isinstance(error, (Exception, GeneratorExit)) and self.is_open()):
+                made.flush()
+                return
+        except Exception:
+            raise  # (what breaks off has ended the connection)
+        except BaseException:
+            self.close()
+            raise
+        self.close()
 
     def _flush(self, but: Any = None) -> None:
         """Waits until all that was sent ahead is answered, but by this one."""
@@ -226,26 +242,13 @@ class _Sending:
     def __exit__(self, kind: Optional[Type[BaseException]], error: Optional[BaseException], _: Any) -> None:
         try:
             try:
-                self._settle(error)
+                self._db._settle(self._made, error)
             finally:
                 self._db._ahead.remove(self._made)
             if error is None:
                 self._made.end()
         finally:
             self._db._lock.__exit__(None, None, None)
-
-    def _settle(self, error: Optional[BaseException]) -> None:
-        """All that was called is answered; behind an interruption the connection ends instead."""
-        try:
-            if error is None or (isinstance(error, (Exception, GeneratorExit)) and self._db.is_open()):
-                self._made.flush()
-                return
-        except Exception:
-            raise  # (what breaks off has ended the connection)
-        except BaseException:
-            self._db.close()
-            raise
-        self._db.close()
 
 
 class _Unbroken:

@@ -55,29 +55,25 @@ class LinesAhead:
         self._advance(0)
 
     def replies(self, lines: Iterable[bytes]) -> Iterator[bytes]:
-        """The replies to these lines, in order. Closed early, it waits for those to what was sent."""
+        """The replies to these lines, in order. Where it's closed early, or the lines raise, what was sent is still to be answered:
+        see `flush`."""
         batch: List[bytes] = []
         size = 0
-        try:
-            for line in lines:
-                batch.append(line)
-                size += len(line)
-                if self._awaited + len(batch) < self._window and size < LARGEST_BATCH:
-                    continue
-                self._send(batch)
-                batch, size = [], 0
-                yield from self._given()
-                if self._awaited >= self._window:
-                    self._advance(self._window // 2)
-                    yield from self._given()
+        for line in lines:
+            batch.append(line)
+            size += len(line)
+            if self._awaited + len(batch) < self._window and size < LARGEST_BATCH:
+                continue
             self._send(batch)
-            while self._awaited or self._come:
+            batch, size = [], 0
+            yield from self._given()
+            if self._awaited >= self._window:
+                self._advance(self._window // 2)
                 yield from self._given()
-                self._advance(max(0, self._awaited - 1))
-        except (GeneratorExit, Exception) as error:
-            if not isinstance(error, ConnectionError):
-                self.flush()
-            raise
+        self._send(batch)
+        while self._awaited or self._come:
+            yield from self._given()
+            self._advance(max(0, self._awaited - 1))
 
     def _send(self, batch: List[bytes]) -> None:
         self._alone(self)

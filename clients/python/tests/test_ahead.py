@@ -5,7 +5,7 @@ import socket
 import threading
 import time
 import unittest
-from typing import Any, Callable
+from typing import Any, Callable, Iterator
 from unittest import mock
 
 import kit
@@ -109,6 +109,23 @@ class Ahead:
         with self.assertRaises(ValueError):
             list(self.db.ask_lines(['{"cmd":"size"}'], window=0))
         self.assertEqual(self.db.size(), 50)
+
+    def test_lines_that_raise(self) -> None:
+        """What was sent is answered, or the connection ends, so that no later call gets a reply to these lines."""
+        def lines(error: BaseException) -> Iterator[str]:
+            yield json.dumps({"cmd": "insert", "row": {"owner": "x" * 40_000, "balance": 0, "vip": False}})
+            raise error
+
+        for error in [KeyError(), ConnectionResetError()]:
+            with self.assertRaises(type(error)):
+                list(self.db.ask_lines(lines(error)))
+            self.assertEqual(self.db.size(), 0)
+        for error in [KeyboardInterrupt(), SystemExit()]:
+            with self.assertRaises(type(error)):
+                list(self.db.ask_lines(lines(error)))
+            with self.assertRaisesRegex(Ended, "the connection is closed"):
+                self.db.size()
+            self.db = self.again()
 
     def test_long_lines_and_long_replies(self) -> None:
         """A pipe has room for 64 KB; this sends two megabytes ahead, and gets more back."""
