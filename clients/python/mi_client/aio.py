@@ -10,7 +10,7 @@ import contextvars
 import os
 import socket
 import time
-from typing import TYPE_CHECKING, Any, AsyncIterator, Awaitable, Callable, Deque, Iterable, List, Optional, Sequence, TypeVar, Union
+from typing import TYPE_CHECKING, Any, AsyncIterator, Awaitable, Callable, Deque, Iterable, List, Optional, Sequence, Tuple, TypeVar, Union
 
 from mi_client import calls, plans
 from mi_client.calls import MOST_ROWS, Bound, Key, Request, Row
@@ -33,7 +33,8 @@ else:
     awaited = sent_by("send")
 
 CHUNK = 1 << 18
-_session: contextvars.ContextVar[Optional[object]] = contextvars.ContextVar("session", default=None)
+_within: contextvars.ContextVar[Tuple[object, ...]] = contextvars.ContextVar("within", default=())
+"""The blocks of sessions that a task is in, of all connections."""
 
 
 class AsyncDatabase:
@@ -52,9 +53,8 @@ class AsyncDatabase:
         self._dialect = Dialect(schema)
         self._window = asyncio.Semaphore(window)
         self._awaited: Deque[asyncio.Future[bytes]] = collections.deque()
-        self._block: Optional[object] = None
-        self._free = asyncio.Event()
-        self._free.set()
+        self._blocks: List[object] = []  # (of the open sessions, the innermost last)
+        self._ended = asyncio.Event()  # (a moment, at which those who wait for a block look again)
         self._closed_for = ""
         self._reading = asyncio.ensure_future(self._read())
 
@@ -151,38 +151,78 @@ class AsyncDatabase:
         self._writer.write(b"\n")
         await self._writer.drain()
 
-    async def _exchange(self, line: bytes) -> bytes:
-        while self._block is not None and _session.get() is not self._block:
-            await self._free.wait()
-        async with self._window:
-            if self._closed_for:
-                raise Ended(self._closed_for)
-            reply: asyncio.Future[bytes] = asyncio.get_running_loop().create_future()
-            self._awaited.append(reply)
-            self._writer.write(line)
-            with contextlib.suppress(ConnectionError):  # (the reader says why)
-                await self._writer.drain()
-            return await reply
+    async def _exchange(self, line: bytes, block: Optional[object] = None) -> bytes:
+        """The reply to a line. Where the line begins or ends a `block`, and the wait for its reply is interrupted, nobody knows
+        whether the session is open: then the connection ends."""
+        while True:
+            await self._turn(block)
+            async with self._window:
+                if self._waits(block):  # (a block has begun while the window was full)
+                    continue
+                if self._closed_for:
+                    raise Ended(self._closed_for)
+                reply: asyncio.Future[bytes] = asyncio.get_running_loop().create_future()
+                self._awaited.append(reply)
+                self._writer.write(line)
+                try:
+                    with contextlib.suppress(ConnectionError):  # (the reader says why)
+                        await self._writer.drain()
+                    return await reply
+                except BaseException:
+                    if block is not None:
+                        self._break_off("a session was interrupted where it begins or ends")
+                    raise
+
+    async def _turn(self, block: Optional[object] = None) -> None:
+        """Waits until no block is open but those that this task is in, and this one."""
+        while self._waits(block):
+            await self._ended.wait()
+
+    def _waits(self, block: Optional[object] = None) -> bool:
+        if not self._blocks or self._closed_for:
+            return False
+        innermost = self._blocks[-1]
+        return innermost is not block and innermost not in _within.get()
+
+    def _wake(self) -> None:
+        """Lets those who wait for a block look again."""
+        self._ended.set()
+        self._ended.clear()
+
+    def _break_off(self, why: str) -> None:
+        """Ends the connection at once. The server undoes the sessions that it holds, and what waits for replies gets Ended."""
+        if not self._closed_for:
+            self._closed_for = why
+            self._writer.transport.abort()
+            self._wake()
 
     async def _read(self) -> None:
+        """Gives the replies to those who wait for them, and Ended to those who get none."""
+        try:
+            with contextlib.suppress(OSError):
+                await self._give_replies()
+            why = await self._why()
+            self._closed_for = self._closed_for or why
+        finally:
+            self._closed_for = self._closed_for or "the connection is closed"
+            for reply in self._awaited:
+                if not reply.done():
+                    reply.set_exception(Ended(self._closed_for))
+            self._awaited.clear()
+            self._wake()
+
+    async def _give_replies(self) -> None:
         rest = b""
-        with contextlib.suppress(OSError):
-            while True:
-                data = await self._reader.read(CHUNK)
-                if not data:
-                    break
-                self._acknowledge()
-                *lines, rest = (rest + data).split(b"\n")
-                for it in lines:
-                    reply = self._awaited.popleft()
-                    if not reply.done():
-                        reply.set_result(it)
-        why = await self._why()
-        self._closed_for = self._closed_for or why
-        for reply in self._awaited:
-            if not reply.done():
-                reply.set_exception(Ended(self._closed_for))
-        self._awaited.clear()
+        while True:
+            data = await self._reader.read(CHUNK)
+            if not data:
+                return
+            self._acknowledge()
+            *lines, rest = (rest + data).split(b"\n")
+            for it in lines:
+                reply = self._awaited.popleft()
+                if not reply.done():
+                    reply.set_result(it)
 
     def _acknowledge(self) -> None:
         """The server's next reply may wait for this, which the system else puts off for 40 ms."""
@@ -201,34 +241,44 @@ class AsyncDatabase:
 
     @contextlib.asynccontextmanager
     async def session(self) -> AsyncIterator[int]:
-        """A session for a block, which gets its number: undone where the block raises, else squashed. The tasks that the block
-        makes ask within it; others that share the connection wait until it has ended."""
-        outer, mine = _session.get(), object()
-        while self._block is not None and outer is not self._block:
-            await self._free.wait()
-        before, self._block = self._block, mine
-        self._free.clear()
-        token = _session.set(mine)
+        """A session for a block, which gets its number: undone where the block raises, else squashed, as far as the connection
+        still holds it. The tasks that the block makes ask within it, and open blocks in it one after another; others that
+        share the connection wait until it has ended. Where it is cancelled while it begins or ends, the connection ends too,
+        so that the server undoes it."""
+        await self._turn()
+        mine = object()
+        self._blocks.append(mine)
         try:
-            number = await self.begin()
+            number = await self._step(mine, calls.begin())
+            _within.set((*_within.get(), mine))
             try:
                 yield number
             except BaseException:
                 if not self._closed_for:
-                    await self._end_session(number, self.undo)
+                    await self._end_session(mine, number, calls.undo)
                 raise
-            await self._end_session(number, self.squash)
+            await self._end_session(mine, number, calls.squash)
         finally:
-            _session.reset(token)
-            self._block = before
-            if before is None:
-                self._free.set()
+            self._blocks.remove(mine)
+            self._wake()
+            # (it may end in another context than it began in, as a generator does that was dropped)
+            _within.set(tuple(it for it in _within.get() if it is not mine))
 
-    async def _end_session(self, number: int, step: Callable[[], Awaitable[int]]) -> None:
-        now = await self.revision()
-        while now.revision >= number and now.depth > 0:
-            await step()
-            now = await self.revision()
+    async def _end_session(self, block: object, number: int, end: Callable[[], Request[int]]) -> None:
+        """Ends the session of this number and those above it, as far as the connection holds them: what was committed or pushed
+        in the block isn't its own any more. Where this fails the connection ends."""
+        try:
+            now = await self._step(block, calls.revision())
+            while now.held > 0 and now.revision >= number:
+                await self._step(block, end())
+                now = await self._step(block, calls.revision())
+        except BaseException:
+            self._break_off("a session was interrupted where it ends")
+            raise
+
+    async def _step(self, block: object, request: Request[T]) -> T:
+        """The answer to a request by which a block begins or ends."""
+        return self._dialect.read(request, await self._exchange(self._dialect.line(request), block))
 
     def walk_range(
         self,

@@ -1,8 +1,10 @@
 """The client for asyncio: the same names, many tasks on one connection, sessions, and ends."""
 import asyncio
+import contextlib
 import inspect
 import unittest
-from typing import Any
+from typing import Any, AsyncIterator
+from unittest import mock
 
 import kit
 from kit import ANN, BOB, program
@@ -101,6 +103,105 @@ class Calls:
             asked[4].cancel()
             await asyncio.gather(*asked, return_exceptions=True)
             self.assertEqual([(await db.get(n))["owner"] for n in range(10)], [str(n) for n in range(10)])
+
+        self.run_on(work)
+
+    def test_sessions_of_two_connections(self) -> None:
+        async def work(db: AsyncDatabase) -> None:
+            async with await self.opened() as other:
+                async with db.session(), other.session():
+                    await asyncio.gather(db.insert(ANN), other.insert(BOB))
+                self.assertEqual((await db.size(), await other.size()), (1, 1))
+
+        self.run_on(work)
+
+    def test_sessions_within_a_session_take_turns(self) -> None:
+        async def work(db: AsyncDatabase) -> None:
+            async def part(n: int) -> None:
+                with contextlib.suppress(KeyError):
+                    async with db.session():
+                        await db.insert({"owner": f"{n}", "balance": n, "vip": False})
+                        await asyncio.sleep(0.01)
+                        if n % 2:
+                            raise KeyError
+
+            async with db.session():
+                await asyncio.gather(*[part(n) for n in range(4)], db.insert(ANN))
+                self.assertEqual((await db.revision()).depth, 1)
+            self.assertEqual([it["owner"] async for it in db.walk_list("line")], ["0", "2", "ann"])
+
+        self.run_on(work)
+
+    def test_a_session_that_ends_in_another_task(self) -> None:
+        async def work(db: AsyncDatabase) -> None:
+            async def rows() -> AsyncIterator[int]:
+                async with db.session():
+                    yield await db.insert(ANN)
+
+            walk = rows()
+            self.assertEqual(await asyncio.ensure_future(walk.__anext__()), 0)
+            await walk.aclose()
+            self.assertEqual((await db.size(), await db.revision()), (0, (0, 0, 0)))
+
+        self.run_on(work)
+
+    def test_a_session_that_is_cancelled_where_it_begins_or_ends(self) -> None:
+        """Nobody knows then whether it is open, so the connection ends, also for those that wait."""
+        async def work(db: AsyncDatabase) -> None:
+            async def block() -> None:
+                async with db.session():
+                    await db.insert(ANN)
+                    if word == b"undo":
+                        raise KeyError
+
+            def write(line: bytes) -> None:
+                written(line)
+                if word in line:
+                    asyncio.get_running_loop().call_soon(task.cancel)
+
+            written, db._writer.write = db._writer.write, write
+            task = asyncio.ensure_future(block())
+            await asyncio.sleep(0)
+            behind = asyncio.ensure_future(db.insert(BOB))
+            with self.assertRaises(asyncio.CancelledError):
+                await task
+            for it in (behind, db.size(), db.begin()):
+                with self.assertRaisesRegex(Ended, "a session was interrupted where it begins or ends"):
+                    await it
+
+        for word in (b"start", b"revision", b"squash", b"undo"):
+            with self.subTest(word):
+                self.run_on(work)
+
+    def test_a_session_that_is_cancelled_ahead_of_its_turn(self) -> None:
+        async def work(db: AsyncDatabase) -> None:
+            async def block() -> None:
+                async with db.session():
+                    await asyncio.sleep(0.01)
+
+            first, second = asyncio.ensure_future(block()), asyncio.ensure_future(block())
+            await asyncio.sleep(0)
+            second.cancel()
+            await asyncio.gather(first, second, return_exceptions=True)
+            self.assertEqual(await db.insert(ANN), 0)
+
+        self.run_on(work)
+
+    def test_a_loop_that_ends(self) -> None:
+        """It cancels all tasks, also the one that reads replies."""
+        async def work(db: AsyncDatabase) -> None:
+            async def block() -> None:
+                async with db.session():
+                    begun.set()
+                    await asyncio.sleep(30)
+
+            begun = asyncio.Event()
+            task = asyncio.ensure_future(block())
+            await begun.wait()
+            for it in (task, db._reading):
+                it.cancel()
+            with self.assertRaises(Ended):
+                await task
 
         self.run_on(work)
 
