@@ -14,6 +14,7 @@ from typing import TYPE_CHECKING, Any, AsyncIterator, Awaitable, Callable, Deque
 
 from mi_client import calls, plans
 from mi_client.calls import MOST_ROWS, Bound, Key, Request, Row
+from mi_client.database import schema_of
 from mi_client.dialect import Dialect, sent_by
 from mi_client.errors import Ended, Refused
 from mi_client.pipeline import WINDOW
@@ -89,7 +90,7 @@ class AsyncDatabase:
         made = cls(process.stdout, process.stdin, process, None, window)
         try:
             await made.revision()
-            made._dialect.schema = Schema.read(schema) if schema is not None else Schema.built_in()
+            made._dialect.schema = schema_of(schema)
         except BaseException:
             await made.close()
             raise

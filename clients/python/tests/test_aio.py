@@ -221,6 +221,17 @@ class OverPipes(Calls, unittest.TestCase):
 
         self.run_on(work)
 
+    def test_a_schema_that_the_client_cannot_read(self) -> None:
+        async def work() -> None:
+            path = kit.written(self, 'table = "t"\ncolumn = [{ name = "n", type = "int" }]\n')
+            with mock.patch.object(kit.Schema, "read", side_effect=ValueError("line 1: what")):
+                with self.assertWarnsRegex(UserWarning, "the client can't read it: line 1: what"):
+                    db = await AsyncDatabase.start(program(), path)
+            async with db:
+                self.assertEqual((await db.size(), db.schema), (0, None))
+
+        asyncio.run(work())
+
 
 class OverLoopback(Calls, unittest.TestCase):
     async def opened(self) -> AsyncDatabase:
