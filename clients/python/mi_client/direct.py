@@ -67,8 +67,9 @@ class Calls:
     @contextlib.contextmanager
     def session(self) -> Iterator[int]:
         """A session for a block, which gets its number. Where the block raises, all of it is undone, and the exception goes
-        on; else it is squashed, with the sessions that the block left open above it. Other threads that share the connection
-        wait until the block has ended, so that what they do is never undone with it."""
+        on; else it is squashed, with the sessions that the block left open above it. What the block itself committed or pushed
+        stays as it is. Other threads that share the connection wait until the block has ended, so that what they do is never
+        undone with it."""
         with self.alone():
             number = self.begin()
             try:
@@ -80,8 +81,9 @@ class Calls:
             self._end_session(number, self.squash)
 
     def _end_session(self, number: int, step: Callable[[], int]) -> None:
-        """Ends the session of this number and those above it. One that was committed in the block has ended already."""
+        """Ends the session of this number and those above it, as far as the connection holds them: what was committed or pushed
+        in the block isn't its own any more."""
         now = self.revision()
-        while now.revision >= number and now.depth > 0:
+        while now.held > 0 and now.revision >= number:
             step()
             now = self.revision()

@@ -1,5 +1,6 @@
 """A service that the client starts: connections that come and go, and a journal that is there at the next start. The program is the one that
 MI_SERVICE names, else the built one, else the stand-in of the scripts' tests."""
+import asyncio
 import os
 import unittest
 
@@ -7,6 +8,7 @@ import kit
 from kit import ANN, BOB, TOP
 
 from mi_client import Ended, Refused, Server
+from mi_client.aio import AsyncDatabase
 
 BUILT = f"{TOP}/crates/mi_service/out/mi_service"
 SERVICE = os.environ.get("MI_SERVICE") or (BUILT if os.path.exists(BUILT) else f"{TOP}/scripts/tests/stand_in.py")
@@ -58,6 +60,38 @@ class Services(unittest.TestCase):
                 db.size()
         with self.started() as server, server.connect(10) as db:
             self.assertEqual((db.get(0)["owner"], db.revision()), ("ann", (0, 0, 0)))
+
+    def test_a_block_ends_what_its_connection_holds(self):
+        """What it committed isn't its own any more, and what another connection began or pushed meanwhile never was."""
+        with self.started() as server, server.connect(10) as db, server.connect(10) as other:
+            with db.session() as number:
+                db.insert(ANN)
+                db.commit(number)
+                other.begin()
+                other.insert(BOB)
+            self.assertEqual((other.revision(), other.undo()), ((2, 1, 1), 1))
+            with self.assertRaises(KeyError):
+                with db.session() as number:
+                    db.commit(number)
+                    other.begin()
+                    other.insert(BOB)
+                    other.push()
+                    raise KeyError
+            self.assertEqual((db.size(), db.revision(), db.undo_all()), (2, (3, 1, 0), 1))
+            with db.session():
+                db.push()
+                db.begin()
+            self.assertEqual((db.revision(), db.undo_all()), ((3, 1, 0), 1))
+
+            async def work():
+                async with await AsyncDatabase.connect(server.port) as beside:
+                    async with beside.session() as number:
+                        await beside.commit(number)
+                        other.begin()
+                        other.insert(BOB)
+
+            asyncio.run(asyncio.wait_for(work(), 30))
+            self.assertEqual((other.revision().held, other.size()), (1, 2))
 
     def test_a_schema(self):
         path = kit.written(self, 'table = "t"\ncolumn = [{ name = "n", type = "int" }]\n')
