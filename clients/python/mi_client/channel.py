@@ -10,7 +10,7 @@ import socket
 from typing import Callable, Deque, List, Optional
 
 LARGEST_READ = 1 << 16
-IN = select.POLLIN | select.POLLHUP | select.POLLERR
+IN = select.POLLIN | select.POLLHUP | select.POLLERR | select.POLLNVAL
 
 
 class Channel:
@@ -30,6 +30,7 @@ class Channel:
         self._rest: List[bytes] = []
         self._lines: Deque[bytes] = collections.deque()
         self._broken: Optional[OSError] = None
+        self.is_busy = False  # (whether bytes are exchanged, and not yet all of them: for its owner, who sets it)
         self._acknowledge: Optional[Callable[[], None]] = None
 
     @classmethod

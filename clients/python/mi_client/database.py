@@ -144,9 +144,10 @@ class Database(Walks):
     def pass_turn(self) -> None:
         """Sends an empty line, which has no reply. The server reads from its connections by turns and waits for each, so one
         that has nothing to ask lets the others go on by this."""
-        with self._lock, self._unbroken:
+        with self._lock:
             self._flush()
-            self._channel.write_all(b"\n")
+            with self._unbroken:
+                self._channel.write_all(b"\n")
 
     def pipeline(self, window: int = WINDOW) -> contextlib.AbstractContextManager[Pipeline]:
         """A block of calls that are sent ahead, each of which gives an `Answer`; at most `window` of them are awaited at a
@@ -253,20 +254,26 @@ class _Sending:
 
 class _Unbroken:
     """A block that exchanges bytes. Where it breaks off the connection is ended, since the reply to what was sent would be taken
-    for that of the next. Raises Ended."""
+    for that of the next. Raises Ended; and RuntimeError where this thread is in such a block of the connection already, as a
+    signal handler or a finalizer is that came in between: it would take the other's reply."""
 
-    __slots__ = ("_db",)
+    __slots__ = ("_db", "_channel")
 
     def __init__(self, db: Database) -> None:
-        self._db = weakref.proxy(db)
+        self._db, self._channel = weakref.proxy(db), db._channel
 
     def __enter__(self) -> None:
         if self._db._closed_for:
             raise Ended(self._db._closed_for)
+        if self._channel.is_busy:
+            raise RuntimeError("the connection is in the middle of a call: a signal handler or a finalizer can't make another one there")
+        self._channel.is_busy = True
 
     def __exit__(self, kind: Optional[Type[BaseException]], error: Optional[BaseException], _: Any) -> None:
+        self._channel.is_busy = False
         if isinstance(error, (OSError, EOFError)) and not isinstance(error, Ended):
-            raise Ended(self._db._why(error)) from error
+            # (a signal handler may have closed it meanwhile)
+            raise Ended(self._db._closed_for or self._db._why(error)) from error
         if error is not None:
             self._db.close()
 

@@ -90,8 +90,10 @@ class Embedded(Database):
 
     def pass_turn(self) -> None:
         """Nothing waits for a turn here."""
-        with self._lock, self._unbroken:
+        with self._lock:
             self._flush()
+            with self._unbroken:  # (which says where it is closed)
+                pass
 
 
 class _OneThread:
@@ -122,6 +124,8 @@ class _Engine:
         self._room = ctypes.create_string_buffer(USUAL)
         self._numbers: Iterator[int] = itertools.count(1)
         self._open = 0
+        self._gone: List[int] = []
+        self.is_busy = False
         status = calls.weltiyo_open(text, len(text), secrets.randbits(64), ctypes.byref(self._handle))
         if status == MEMORY:
             raise MemoryError("the schema's tables")
@@ -135,6 +139,7 @@ class _Engine:
 
     def ask(self, number: int, line: bytes) -> bytes:
         """The reply to a line, both without their newline."""
+        self._release()
         length = self._calls.weltiyo_ask(self._handle, number, line, len(line), self._room, USUAL)
         front = ctypes.string_at(self._room, min(length, USUAL))
         if length <= USUAL:
@@ -144,12 +149,20 @@ class _Engine:
         return front + rest.raw
 
     def detach(self, number: int) -> None:
-        """A connection goes away. In the child of a fork nothing is done: the handle is the parent's."""
-        self._open -= 1
-        if self._process == os.getpid():
-            self._calls.weltiyo_release(self._handle, number)
-            if not self._open:
-                self._close()
+        """A connection goes away: at once, or where a call is under way, ahead of the next one."""
+        self._gone.append(number)
+        if not self.is_busy:
+            self._release()
+
+    def _release(self) -> None:
+        """In the child of a fork nothing is done: the handle is the parent's."""
+        while self._gone:
+            number = self._gone.pop()
+            self._open -= 1
+            if self._process == os.getpid():
+                self._calls.weltiyo_release(self._handle, number)
+                if not self._open:
+                    self._close()
 
     def _close(self) -> None:
         handle, self._handle = self._handle, ctypes.c_void_p()
@@ -168,6 +181,15 @@ class _Lines(Channel):
         self.engine, self.home = engine, engine.home
         self._number: Optional[int] = engine.attach()
         self._come: Deque[bytes] = collections.deque()
+
+    @property
+    def is_busy(self) -> bool:
+        """Whether a call is under way, of this connection or of another one to the same tables."""
+        return self.engine.is_busy
+
+    @is_busy.setter
+    def is_busy(self, is_busy: bool) -> None:
+        self.engine.is_busy = is_busy
 
     def queued(self) -> int:
         return 0

@@ -73,6 +73,32 @@ class Several(unittest.TestCase):
         second.close()
         self.assertRaises(Ended, second.size)
 
+    def test_a_call_in_the_middle_of_another(self):
+        """As a signal handler or a finalizer makes it, on any connection to the same tables."""
+        said = []
+
+        class Interrupted:
+            def __getattr__(self, name):
+                return getattr(calls, name)
+
+            def weltiyo_ask(self, *words):
+                engine._calls = calls
+                for it in (db, other):
+                    try:
+                        it.size()
+                    except RuntimeError as error:
+                        said.append(str(error).partition(":")[0])
+                gone.close()
+                return calls.weltiyo_ask(*words)
+
+        with Embedded.open() as db, db.another() as other, db.another() as gone:
+            engine, calls = db._lines.engine, db._lines.engine._calls
+            gone.begin()
+            engine._calls = Interrupted()
+            self.assertEqual(db.revision().depth, 1)
+            self.assertEqual(said, ["the connection is in the middle of a call"] * 2)
+            self.assertEqual((db.revision().depth, other.size()), (0, 0))
+
     def test_databases_know_nothing_of_each_other(self):
         with Embedded.open() as one, Embedded.open(f"{kit.TOP}/examples/shop.toml") as two:
             one.insert(ANN)

@@ -1,14 +1,18 @@
 """Threads that share a connection, processes that mustn't, refusals that cross processes, and servers that nobody ends."""
 import concurrent.futures
+import contextlib
+import itertools
 import multiprocessing
 import os
 import pickle
 import signal
+import socket
 import subprocess
 import sys
 import threading
 import time
 import unittest
+from typing import Callable, Optional
 
 import kit
 from kit import ANN, BOB, program
@@ -88,6 +92,55 @@ class Threads(unittest.TestCase):
 
         gets = ['{"cmd":"get","id":%d}' % it for it in range(200)]
         self.in_threads(9, work)
+
+
+class Signals(unittest.TestCase):
+    """What a handler does while its thread waits for a reply. The listener answers 0, 1, 2 .., and raises the signal ahead of the first."""
+
+    def during_a_call(self, work: Callable[[Database], None], timeout: Optional[float] = 5, answers: bool = True) -> Database:
+        """A connection whose first call is interrupted by this work."""
+        listener = socket.create_server(("127.0.0.1", 0))
+        self.addCleanup(listener.close)
+
+        def serve() -> None:
+            stream, _ = listener.accept()
+            with stream, contextlib.suppress(ConnectionError):
+                for n in itertools.count():
+                    if not stream.recv(65_536):
+                        return
+                    if n == 0:
+                        signal.pthread_kill(threading.main_thread().ident, signal.SIGUSR1)
+                    if answers:
+                        stream.send(b'{"ok":true,"size":%d}\n' % n)
+
+        thread = threading.Thread(target=serve)
+        self.addCleanup(thread.join, 10)
+        thread.start()
+        db = Database.connect(listener.getsockname()[1], timeout)
+        self.addCleanup(db.close)
+        self.addCleanup(signal.signal, signal.SIGUSR1, signal.signal(signal.SIGUSR1, lambda *_: work(db)))
+        return db
+
+    def test_a_call_in_the_middle_of_another(self) -> None:
+        """It would take the reply of the other."""
+        said = []
+
+        def ask(db: Database) -> None:
+            for call in (db.size, db.pass_turn, lambda: list(db.ask_lines(['{"cmd":"size"}']))):
+                try:
+                    said.append(call())
+                except RuntimeError as error:
+                    said.append(str(error))
+
+        db = self.during_a_call(ask)
+        self.assertEqual([db.size() for _ in range(3)], [0, 1, 2])
+        self.assertEqual(said, ["the connection is in the middle of a call: a signal handler or a finalizer can't make another one there"] * 3)
+
+    def test_an_end_in_the_middle_of_a_call(self) -> None:
+        for timeout in (5, None):
+            db = self.during_a_call(Database.close, timeout, answers=False)
+            with self.assertRaisesRegex(Ended, "^the connection is closed$"):
+                db.size()
 
 
 class Processes(unittest.TestCase):
