@@ -102,10 +102,10 @@ class _OneThread:
     __slots__ = ("_thread",)
 
     def __init__(self) -> None:
-        self._thread = threading.get_ident()
+        self._thread = threading.current_thread()  # (not its number, which another one gets once it has ended)
 
     def is_here(self) -> bool:
-        return threading.get_ident() == self._thread
+        return threading.current_thread() is self._thread
 
     def __enter__(self) -> None:
         if not self.is_here():
@@ -147,6 +147,10 @@ class _Engine:
         rest = ctypes.create_string_buffer(length - USUAL)
         self._calls.weltiyo_reply(self._handle, USUAL, rest, len(rest))
         return front + rest.raw
+
+    def forget(self, number: int) -> None:
+        """A connection is gone, on whatever thread and in the middle of whatever call: it is released ahead of the next one."""
+        self._gone.append(number)
 
     def detach(self, number: int) -> None:
         """A connection goes away: at once, or where a call is under way, ahead of the next one."""
@@ -229,6 +233,10 @@ class _Lines(Channel):
         number, self._number = self._number, None
         if number is not None:
             self.engine.detach(number)
+
+    def __del__(self) -> None:
+        if self._number is not None:
+            self.engine.forget(self._number)
 
 
 def _text_of(schema: Optional[Path]) -> bytes:

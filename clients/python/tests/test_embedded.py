@@ -26,6 +26,12 @@ def library():
 needs_library = unittest.skipUnless(library(), "no library is built: `make lib` makes it")
 
 
+def on_a_thread(work):
+    thread = threading.Thread(target=work)
+    thread.start()
+    thread.join()
+
+
 @needs_library
 class InTheProcess(test_client.Commands, unittest.TestCase):
     def setUp(self):
@@ -72,6 +78,18 @@ class Several(unittest.TestCase):
         self.assertRaises(Ended, first.another)
         second.close()
         self.assertRaises(Ended, second.size)
+
+    def test_one_that_is_forgotten_holds_nothing(self):
+        with Embedded.open() as db:
+            gone = [db.another()]
+            for forget in (gone.clear, lambda: on_a_thread(gone.clear)):
+                gone[0].begin()
+                gone[0].insert(BOB)
+                self.assertRaises(Refused, db.insert, ANN)
+                forget()
+                gc.collect()
+                self.assertEqual((db.size(), db.revision()), (0, (0, 0, 0)))
+                gone.append(db.another())
 
     def test_a_call_in_the_middle_of_another(self):
         """As a signal handler or a finalizer makes it, on any connection to the same tables."""
@@ -137,6 +155,20 @@ class Home(unittest.TestCase):
             thread.join()
             self.assertEqual(said, ["a database in the process stays on the thread that opened it"] * 4)
             self.assertEqual(db.size(), 0)
+
+    def test_a_thread_with_the_number_of_one_that_has_ended(self):
+        opened, said = [], []
+
+        def work():
+            try:
+                opened[0].size()
+            except RuntimeError as error:
+                said.append(str(error))
+
+        on_a_thread(lambda: opened.append(Embedded.open()))
+        for _ in range(10):
+            on_a_thread(work)
+        self.assertEqual(said, ["a database in the process stays on the thread that opened it"] * 10)
 
     def test_a_child_leaves_it_to_its_parent(self):
         with Embedded.open() as db:
