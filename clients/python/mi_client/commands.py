@@ -81,5 +81,7 @@ REFUSALS = {
     "depth": ("1,024 sessions are open", "squash, undo or commit some"),
     "session": ("no session is open", "`start` opens one"),
     "memory": ("memory was refused, and nothing has changed", "undo, erase, or give the server more"),
+    "leader": ("this member of a ledger follows another one, and takes no changes; the reply names the leader, where it is known",
+               "ask that one; `connect_leader` of the Python client finds it"),
 }
-"""Each word of a refusal: when it comes, and what to do."""
+"""Each word of a refusal of a command: when it comes, and what to do. (A member of a ledger refuses a line of its own by another one.)"""

@@ -126,8 +126,9 @@ class Prompt:
         found = json.loads(reply)
         if not found["ok"]:
             word = found["error"]
+            about = REFUSALS.get(word)
             why = explain.why(self.db.schema, asked, word) if "cmd" in asked else ""
-            return f"{reply}\n{why or REFUSALS[word][0]} (help {word})"
+            return f"{reply}\n{why or about[0]} (help {word})" if about else reply
         return show.reply(reply, self.db.schema, asked.get("table"))
 
     def setting(self, words: List[str]) -> str:

@@ -119,6 +119,13 @@ class Showing(unittest.TestCase):
         self.assertRegex(prompt.answer("size") or "", r'^\{"ok":true,"size":1\}\n\([0-9.]+ ms\)$')
         self.assertIsNone(prompt.answer("quit"))
 
+    def test_refusals_of_a_member_of_a_ledger(self) -> None:
+        prompt = Prompt(kit.start(self), typed=False, tables=True, times=False)
+        follows = '{"error":"leader","leader":"127.0.0.1:8002","ok":false}'
+        self.assertEqual(prompt.shown('{"cmd":"undo"}', follows), f"{follows}\n{REFUSALS['leader'][0]} (help leader)")
+        for line in ('{"cmd":"checkpoint"}', "[]"):
+            self.assertEqual(prompt.shown(line, '{"error":"checkpoint","ok":false}'), '{"error":"checkpoint","ok":false}')
+
     def test_program(self) -> None:
         typed = "insert row={\"owner\":\"ann\",\"balance\":50,\"vip\":false}\nget id=0\nhelp size\nget 0\nundo 1\nquit\nsize\n"
         ran = kit.ran("--program", program(), typed=typed)
