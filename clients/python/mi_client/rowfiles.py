@@ -120,11 +120,14 @@ class CsvWriter:
         self._names = ["id", *(it.name for it in table.columns)]
         self._text = io.TextIOWrapper(file, encoding="utf-8", newline="", write_through=True)
         self._csv = csv.writer(self._text, lineterminator="\n")
+        self._quoted = csv.writer(self._text, lineterminator="\n", quoting=csv.QUOTE_ALL)
         self._csv.writerow(self._names)
 
     def write(self, row: Row) -> None:
         values = [row[it] for it in self._names]
-        self._csv.writerow([("true" if it else "false") if isinstance(it, bool) else it for it in values])
+        # (to readers a carriage return ends a line, and the writer quotes it only where its own lines end in one)
+        sheet = self._quoted if any(isinstance(it, str) and "\r" in it for it in values) else self._csv
+        sheet.writerow([("true" if it else "false") if isinstance(it, bool) else it for it in values])
 
     def end(self) -> None:
         """Leaves the file open for its owner."""

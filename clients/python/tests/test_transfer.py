@@ -117,6 +117,15 @@ class Files(unittest.TestCase):
                 file.write(text)
             self.run_tool("import", path, status=1, said=f"weltiyo import: {path}{words}\n")
 
+    def test_every_text_comes_back_from_csv(self) -> None:
+        texts = ["", "\r", "a\rb", "\r\n", "\n", "c\n", '"', ',"\r', ",", "'", " d ", ODD]
+        first, second, path = kit.start(self, TWO), kit.start(self, TWO), f"{self.folder}/texts.csv"
+        for it in texts:
+            first.insert({"name": it, "stock": -1, "sold": True})
+        transfer.export(first, Namespace(file=path, table="item", order="id", format=None))
+        transfer.load(second, Namespace(file=path, table="item", format=None, resume=False, keep_going=False))
+        self.assertEqual(list(second.walk_range("id")), list(first.walk_range("id")))
+
     def test_export(self) -> None:
         ran = kit.ran("export", "--table", "none", "--schema", self.schema)
         self.assertEqual((ran.returncode, ran.stderr), (1, "weltiyo export: table: there is no table none; tables are item, sale\n"))
