@@ -5,10 +5,11 @@ from __future__ import annotations
 import argparse
 import contextlib
 import itertools
+import json
 import sys
 from typing import Callable, Dict, Iterable, Iterator, List, NamedTuple, Optional
 
-from mi_client.calls import MOST_ROWS, Bound, Row
+from mi_client.calls import MOST_ROWS, Bound, Row, columns_of
 from mi_client.database import Database
 from mi_client.errors import Ended, NeedsSchema, Refused, TooManyEqual
 from mi_client.opening import add_server, opened
@@ -82,15 +83,33 @@ def load_rows(
 
 
 def behind_loaded(db: Database, items: Iterable[Item]) -> Iterator[Item]:
-    """The rows that aren't in yet, where each table holds just the first ones of the file."""
-    left: Dict[Optional[str], int] = {}
+    """The rows of the file behind those that are in, where the tables have the first ones of the file, in their order, but for
+    some that were left out. Raises ValueError, at the end of the file, where a table has another record."""
+    there: Dict[Optional[str], Iterator[Row]] = {}
+    next_ones: Dict[Optional[str], Optional[Row]] = {}
     for it in items:
-        if it.table not in left:
-            left[it.table] = db.size(it.table)
-        if left[it.table]:
-            left[it.table] -= 1
-        else:
+        if it.table not in there:
+            there[it.table] = rows_by_now(db, it.table)
+            next_ones[it.table] = next(there[it.table], None)
+        row = next_ones[it.table]
+        if row is None:
             yield it
+        elif text_of(columns_of(row)) == text_of(it.row):
+            next_ones[it.table] = next(there[it.table], None)
+    for table, row in next_ones.items():
+        if row is not None:
+            where = f" of {table}" if table else ""
+            raise ValueError(f"record {row['id']}{where} isn't among the rows of the file, in their order: there is nothing to go on with")
+
+
+def rows_by_now(db: Database, table: Optional[str]) -> Iterator[Row]:
+    """The rows that a table has by now, in the order in which they came."""
+    return itertools.islice(rows_in_order(db, table, "id"), db.size(table))
+
+
+def text_of(row: Row) -> str:
+    """Alike for equal rows alone (to Python 1 is True, and 1.0)."""
+    return json.dumps(row, sort_keys=True)
 
 
 def dumped_tables(db: Database, named: Optional[str]) -> List[Optional[str]]:
@@ -168,7 +187,7 @@ def reader_options(name: str, about: str) -> argparse.ArgumentParser:
     add_server(parser)
     parser.add_argument("--table", help="loads all rows into this table; else into the one that each names, or the first")
     parser.add_argument("--keep-going", action="store_true", help="leaves refused rows out and tells them, in place of stopping")
-    parser.add_argument("--resume", action="store_true", help="passes over as many rows of a table as it has already")
+    parser.add_argument("--resume", action="store_true", help="goes on behind the rows of the file that the tables have; those left out among them stay out")
     parser.add_argument("--dump", metavar="FILE", dest="then", help="dumps the tables to this file behind it")
     return parser
 

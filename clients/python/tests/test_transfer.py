@@ -3,7 +3,7 @@ import io
 import json
 import unittest
 from argparse import Namespace
-from typing import Any, List
+from typing import Any, Iterator, List
 
 import kit
 
@@ -70,6 +70,27 @@ class Files(unittest.TestCase):
         self.assertEqual((told, db.size("item"), db.revision()), ([(10, 9), (10, 19)], 20, (0, 0, 0)))
         done = load_rows(db, transfer.behind_loaded(db, items), keep_going=True, size=5)
         self.assertEqual((done.rows, done.other_ids, done.refused), (7, 2, ["f:25: row: stock is a float; int wanted"]))
+
+    def test_a_load_with_refused_rows_that_stops(self) -> None:
+        """What was left out stays out, and nothing comes in twice."""
+        path, db = f"{self.folder}/sales.jsonl", kit.start(self, TWO)
+        numbers = [0.5, 7, True, 7, 8, 1, 9]
+        self.lines(path, [{"row": {"item": it}, "table": "sale"} for it in numbers])
+
+        def interrupted() -> Iterator[Item]:
+            yield from (Item(f"f:{n}", "sale", None, {"item": it}, n) for n, it in enumerate(numbers[:5]))
+            raise KeyboardInterrupt
+
+        with self.assertRaises(KeyboardInterrupt):
+            load_rows(db, interrupted(), keep_going=True, size=4)
+        self.assertEqual([it["item"] for it in db.walk_range("id", table="sale")], [7, 7])
+        again = Namespace(file=path, format="jsonl", table=None, resume=True, keep_going=True)
+        for rows in [3, 0]:
+            self.assertEqual((transfer.load(db, again).rows, [it["item"] for it in db.walk_range("id", table="sale")]), (rows, [7, 7, 8, 1, 9]))
+        db.modify(3, set={"item": 2}, table="sale")
+        with self.assertRaisesRegex(ValueError, "^record 3 of sale isn't among the rows of the file, in their order"):
+            transfer.load(db, again)
+        self.assertEqual(db.size("sale"), 5)
 
     def test_a_dump_that_broke_off(self) -> None:
         db = kit.start(self, TWO)
