@@ -18,6 +18,7 @@ from mi_client.database import schema_of
 from mi_client.dialect import Dialect, sent_by
 from mi_client.errors import Ended, Refused
 from mi_client.pipeline import WINDOW
+from mi_client.places import Places
 from mi_client.plans import Batch, Plan, Window
 from mi_client.schema import Schema
 
@@ -52,7 +53,7 @@ class AsyncDatabase:
         """Use `connect` or `start`."""
         self._reader, self._writer, self._process = reader, writer, process
         self._dialect = Dialect(schema)
-        self._window = asyncio.Semaphore(window)
+        self._window = Places(window)
         self._awaited: Deque[asyncio.Future[bytes]] = collections.deque()
         self._blocks: List[object] = []  # (of the open sessions, the innermost last)
         self._ended = asyncio.Event()  # (a moment, at which those who wait for a block look again)

@@ -12,6 +12,7 @@ from kit import ANN, BOB, program
 from mi_client import Database, Ended, Refused, Server
 from mi_client.aio import AsyncDatabase
 from mi_client.pipeline import Pipeline
+from mi_client.places import Places
 
 
 class Names(unittest.TestCase):
@@ -29,6 +30,25 @@ class Names(unittest.TestCase):
         self.assertEqual(named(Pipeline), direct)
         self.assertEqual(list(direct["insert"].parameters), ["self", "row", "table", "before"])
         self.assertIn("Adds a record", Database.insert.__doc__ or "")
+
+
+class Waits(unittest.TestCase):
+    def test_a_place_is_not_lost(self) -> None:
+        async def work() -> None:
+            places = Places(1)
+
+            async def take() -> None:
+                async with places:
+                    pass
+
+            async with places:
+                waits = asyncio.ensure_future(take())
+                await asyncio.sleep(0)
+            waits.cancel()  # (it has got the place, and hasn't gone on yet)
+            await asyncio.gather(waits, return_exceptions=True)
+            await asyncio.wait_for(take(), 5)
+
+        asyncio.run(work())
 
 
 class Calls:
