@@ -1,7 +1,7 @@
 /**
- * A client of the table server mi_server, in one file, for Node 16 or later without other packages. It asks a server of its own over
- * pipes, or one that listens, over a socket. Each command is a call that answers a promise; calls that aren't waited for are sent ahead,
- * and are answered in their order.
+ * A client of the table server mi_server, in one file, for Node 16 or later, tested by 18 and later; without other packages. It asks a
+ * server of its own over pipes, or one that listens, over a socket. Each command is a call that answers a promise; calls that aren't
+ * waited for are sent ahead, and are answered in their order.
  *
  *     const { Database, Refused } = require("./weltiyo.js");
  *     const db = await Database.start("mi_server", { schema: "shop.toml" });     // or await Database.connect(8000)
