@@ -152,7 +152,24 @@ test("walks go on page by page", () =>
     assert.deepEqual(await walked(db.walkRange("by_balance", ["balance"], { page: 4, reverse: true })), await whole("by_balance", true));
     assert.deepEqual(await walked(db.walkRange("id", ["id"], { page: 7, lower: { gt: [3] } })), (await whole("id", false)).slice(4));
     assert.deepEqual(await walked(db.walkList("line", { page: 6 })), (await db.list("line")).rows.map((it) => it.id));
+    // (one key has as many rows as a page, and then each row of a unique index is a page)
+    for (const reverse of [false, true]) {
+      assert.deepEqual(await walked(db.walkRange("by_balance", ["balance"], { page: 3, reverse })), await whole("by_balance", reverse));
+      assert.deepEqual(await walked(db.walkRange("id", ["id"], { page: 1, reverse })), await whole("id", reverse));
+    }
     await assert.rejects(walked(db.walkRange("by_balance", ["balance"], { page: 2 })), TooManyEqual);
+  }));
+
+test("a walk sees a row again that is put ahead of it meanwhile", () =>
+  withDatabase(async (db) => {
+    await db.insert(account("ann", 1));
+    await db.insert(account("bob", 5));
+    const ids = [];
+    for await (const row of db.walkRange("by_balance", ["balance"], { page: 1 })) {
+      if (ids.length === 0) await db.modify(row.id, { set: { balance: 3 } });
+      ids.push(row.id);
+    }
+    assert.deepEqual(ids, [0, 0, 1]);
   }));
 
 test("several tables", () =>

@@ -434,18 +434,17 @@ class Database {
   }
 
   /** The rows of a range, one page after another. `columns` are the parts of the index's key, as the schema has them (a `-` before a name
-   * is passed over). The next page begins at the key of the last row, and the rows of that key which came already are passed over: so a
-   * walk ends with `TooManyEqual` where more rows have one key than a page has. */
+   * is passed over). The next page begins at the key of the last row, and the rows of that key which came already are passed over; where a
+   * page has no others, it begins behind that key. So a walk ends with `TooManyEqual` where more rows have one key than a page has. */
   async *walkRange(index, columns, { lower, upper, reverse = false, page = MOST_ROWS, table } = {}) {
     const names = columns.map((it) => it.replace(/^-/, ""));
-    const side = reverse ? "upper" : "lower", including = reverse ? "le" : "ge";
+    const [side, including, beyond] = reverse ? ["upper", "le", "lt"] : ["lower", "ge", "gt"];
     const bounds = { lower, upper };
     let last = null, given = new Set();
     for (let more = true; more; ) {
       const answer = await this.range(index, { ...bounds, reverse, limit: page, table });
       const rows = answer.rows.filter((it) => !given.has(it.id));
       more = answer.more;
-      if (more && rows.length === 0) throw new TooManyEqual(`more than ${page} records of ${index} have the key ${encode(last)}`);
       for (const row of rows) {
         const key = names.map((name) => row[name]);
         if (last === null || key.some((it, n) => it !== last[n])) given = new Set();
@@ -453,8 +452,17 @@ class Database {
         given.add(row.id);
         yield row;
       }
-      bounds[side] = { [including]: last };
+      if (more && rows.length === 0) {
+        await this._fitsPage(index, last, page, table);
+        given = new Set(); // (behind the key each row is a new one)
+      }
+      bounds[side] = { [given.size ? including : beyond]: last };
     }
+  }
+
+  /** Rejects with `TooManyEqual` where more rows have a key than a page has. */
+  async _fitsPage(index, key, page, table) {
+    if ((await this.count(index, key, { table })) > page) throw new TooManyEqual(`more than ${page} records of ${index} have the key ${encode(key)}`);
   }
 }
 
