@@ -23,6 +23,19 @@ async function withServer(call, options) {
   }
 }
 
+/** Two connections of a server that reads from them by turns, which are passed on meanwhile. */
+function withTwo(call) {
+  return withServer(async (server) => {
+    const both = [await server.connect(), await server.connect()];
+    const passing = setInterval(() => both.forEach((it) => it.passTurn()), 1);
+    try {
+      await call(...both);
+    } finally {
+      clearInterval(passing);
+    }
+  }, { clients: 2 });
+}
+
 async function withDatabase(call, options) {
   const db = await Database.start(PROGRAM, options);
   try {
@@ -98,6 +111,35 @@ test("a session is squashed at its end, and undone where its block throws", () =
     );
     assert.equal(await db.size(), 2);
     assert.equal(await db.session(async () => "an answer"), "an answer");
+  }));
+
+test("a block ends no sessions but those that its connection holds", () =>
+  withTwo(async (one, two) => {
+    await one.session(async (number) => {
+      await one.insert(account("ann"));
+      await one.commit(number);
+      assert.equal(await two.start(), 2);
+      await two.insert(account("bob"));
+    });
+    assert.deepEqual(await two.revision(), { revision: 2, depth: 1, held: 1 });
+    await two.squash();
+    const thrown = new Error("out of the block");
+    await assert.rejects(
+      one.session(async (number) => {
+        await one.commit(number);
+        await two.start();
+        await two.insert(account("cid"));
+        await two.push();
+        throw thrown;
+      }),
+      thrown
+    );
+    assert.deepEqual([await two.size(), await two.undoAll()], [3, 1]);
+    await one.session(async () => {
+      await one.insert(account("dan"));
+      await one.push();
+    });
+    assert.deepEqual([await two.size(), await two.undo(), await two.size()], [3, 2, 2]);
   }));
 
 test("calls that aren't waited for are sent ahead, and answered in their order", () =>

@@ -362,8 +362,10 @@ class Database {
     return answer;
   }
 
+  /** Ends the session of a number and those above it, while this connection holds them: what was committed or pushed meanwhile is none of
+   * them, and no more is what another connection started since. */
   async _endSession(number, step) {
-    for (let now = await this.revision(); now.revision >= number && now.depth > 0; now = await this.revision()) await step();
+    for (let now = await this.revision(); now.held > 0 && now.revision >= number; now = await this.revision()) await step();
   }
 
   // Look-ups
