@@ -52,6 +52,10 @@ function account(owner, balance = 1, vip = true) {
 const refused = (word, more = {}) => (error) =>
   error instanceof Refused && error.word === word && Object.entries(more).every(([name, it]) => error[name] === it);
 
+const later = (milliseconds) => new Promise((resolve) => setTimeout(resolve, milliseconds));
+
+const owners = async (db) => (await db.list("line")).rows.map((it) => it.owner);
+
 test("each command is a call", () =>
   withDatabase(async (db) => {
     assert.equal(await db.insert(account("ann", 50, false)), 0);
@@ -111,6 +115,91 @@ test("a session is squashed at its end, and undone where its block throws", () =
     );
     assert.equal(await db.size(), 2);
     assert.equal(await db.session(async () => "an answer"), "an answer");
+  }));
+
+test("blocks of one connection wait for each other, and calls from elsewhere wait for them", () =>
+  withDatabase(async (db) => {
+    const thrown = new Error("out of the block");
+    const block = (owner, milliseconds, error) =>
+      db.session(async () => {
+        await db.insert(account(owner));
+        await later(milliseconds);
+        if (error) throw error;
+      });
+    const one = await Promise.allSettled([block("ann", 20, thrown), block("bob", 0), db.insert(account("cid"))]);
+    assert.deepEqual(one.map((it) => it.status), ["rejected", "fulfilled", "fulfilled"]);
+    assert.deepEqual(await owners(db), ["bob", "cid"]);
+    const two = await Promise.allSettled([block("dan", 0), block("eve", 20, thrown)]);
+    assert.deepEqual(two.map((it) => it.status), ["fulfilled", "rejected"]);
+    assert.deepEqual(await owners(db), ["bob", "cid", "dan"]);
+  }));
+
+test("blocks in a block nest, and come one after another", () =>
+  withDatabase(async (db) => {
+    const thrown = new Error("out of the block");
+    await db.session(async () => {
+      const blocks = ["ann", "bob", "cid"].map((owner) =>
+        db.session(async (number) => {
+          assert.equal(number, 2);
+          await db.insert(account(owner));
+          await later(5);
+          if (owner === "bob") throw thrown;
+          await db.session(() => db.insert(account(`${owner} and more`)));
+        })
+      );
+      const behind = db.insert(account("dan")); // (of the outer block)
+      const ended = await Promise.allSettled(blocks);
+      assert.deepEqual(ended.map((it) => it.status), ["fulfilled", "rejected", "fulfilled"]);
+      await behind;
+    });
+    assert.deepEqual(await owners(db), ["ann", "ann and more", "cid", "cid and more", "dan"]);
+  }));
+
+test("a block ends behind those in it, and what is asked later is no part of it", () =>
+  withDatabase(async (db) => {
+    const thrown = new Error("out of the block");
+    let inner, behind;
+    await assert.rejects(
+      db.session(async () => {
+        await db.insert(account("ann"));
+        inner = db.session(() => later(5).then(() => db.insert(account("bob"))));
+        behind = later(20).then(() => db.session(() => db.insert(account("cid"))));
+        throw thrown;
+      }),
+      thrown
+    );
+    await inner;
+    await assert.rejects(db.session(() => later(40).then(() => Promise.reject(thrown))), thrown); // (open when that is asked)
+    await behind;
+    assert.deepEqual([await owners(db), (await db.revision()).depth], [["cid"], 0]);
+  }));
+
+test("blocks of several connections nest in each other", () =>
+  withDatabase((one) =>
+    withDatabase(async (two) => {
+      await one.session(async () => {
+        await two.session(async () => {
+          await one.session(() => one.insert(account("ann")));
+          await two.insert(account("bob"));
+        });
+        await two.insert(account("cid"));
+      });
+      assert.deepEqual([await owners(one), await owners(two)], [["ann"], ["bob", "cid"]]);
+    })
+  ));
+
+test("what waits for a block is rejected where the connection ends", () =>
+  withServer(async (server) => {
+    const db = await server.connect();
+    let over, block;
+    await new Promise((begun) => {
+      block = db.session(() => new Promise((resolve) => begun((over = resolve))));
+    });
+    const waiting = Promise.allSettled([db.size(), db.ready(), db.session(assert.fail)]);
+    await server.kill();
+    for (const it of await waiting) assert.ok(it.status === "rejected" && it.reason instanceof Ended, it.status);
+    over();
+    await assert.rejects(block, Ended);
   }));
 
 test("a block ends no sessions but those that its connection holds", () =>

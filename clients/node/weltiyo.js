@@ -13,6 +13,7 @@
  */
 "use strict";
 
+const { AsyncLocalStorage } = require("node:async_hooks");
 const net = require("node:net");
 const { spawn } = require("node:child_process");
 
@@ -91,6 +92,13 @@ function columnsOf(row) {
   return columns;
 }
 
+/** The reply of this text. Throws `Refused`. */
+function accepted(text) {
+  const reply = decode(text);
+  if (!reply.ok) throw new Refused(reply);
+  return reply;
+}
+
 // Connections
 
 /** Lines out, and their replies in the same order. */
@@ -105,6 +113,7 @@ class Channel {
     this.ended = null;
     this.readiness = [];
     this.idleness = [];
+    this.outside = new Block(this, null);
     reading.on("data", (bytes) => this.take(bytes));
     reading.on("error", (error) => this.end(error.message));
     reading.on("close", () => this.end());
@@ -185,6 +194,58 @@ class Channel {
     this.ended = new Ended(why);
     for (const it of [...this.awaited.splice(0), ...this.waiting.splice(0), ...this.readiness.splice(0)]) it.reject(this.ended);
     for (const resolve of this.idleness.splice(0)) resolve();
+    this.outside.goOn();
+  }
+}
+
+// Blocks
+
+/** By connection the block in which a call is made, where it is made in one. */
+const within = new AsyncLocalStorage();
+
+/** A session for a block, or what is outside of all blocks of a connection. One block within it is open at a time, since sessions end in
+ * the order opposite to that in which they began. What is asked of it meanwhile waits in its order, and so doesn't fall into that one. */
+class Block {
+  constructor(channel, outer) {
+    this.channel = channel;
+    this.outer = outer;
+    this.inner = null; // the open block within
+    this.waiting = []; // for its end
+    this.isOver = false; // what is asked of it then is asked of the outer one
+  }
+
+  /** What a call answers that is made once no block within is open; where the connection is at its end, at once. */
+  when(call) {
+    if (this.isOver) return this.outer.when(call);
+    if (this.isFree) return call(this);
+    return new Promise((resolve) => this.waiting.push(() => resolve(this.when(call))));
+  }
+
+  get isFree() {
+    return !this.inner || this.channel.ended !== null;
+  }
+
+  /** Opens a block within, which none is. */
+  open() {
+    return (this.inner = new Block(this.channel, this));
+  }
+
+  /** Promises that the blocks within have ended. Nothing more falls into this one. */
+  end() {
+    return this.when(() => (this.isOver = true));
+  }
+
+  /** The session has ended, and the outer block goes on. */
+  leave() {
+    this.isOver = true;
+    this.outer.inner = null;
+    this.outer.goOn();
+  }
+
+  /** Makes the calls that wait, until one of them opens a block; those of the blocks within first. */
+  goOn() {
+    this.inner?.goOn();
+    while (this.waiting.length && this.isFree) this.waiting.shift()();
   }
 }
 
@@ -238,7 +299,8 @@ class Database {
     });
   }
 
-  /** Ends the connection once all that was asked is answered, and promises the status of a server of its own. */
+  /** Ends the connection once all that was sent is answered, and promises the status of a server of its own. What waits for the end of a
+   * block then is rejected with `Ended`. */
   async close() {
     await this._channel.idle();
     return this._closing();
@@ -246,10 +308,21 @@ class Database {
 
   // Lines
 
+  /** The block in which the caller is. */
+  get _block() {
+    const blocks = within.getStore();
+    return (blocks && blocks.get(this)) || this._channel.outside;
+  }
+
+  /** Promises the reply to a line, which is sent once no block within the caller's is open. */
+  _exchange(line) {
+    return this._block.when(() => this._channel.ask(line));
+  }
+
   /** The reply to one line, both without their newlines. The line has a command: an empty one would have no reply. */
   askLine(line) {
     if (line.includes("\n") || !line.replace(/\r+$/, "")) return Promise.reject(new TypeError("a line has one command and no newline"));
-    return this._channel.ask(line);
+    return this._exchange(line);
   }
 
   /** Sends an empty line, which has no reply. The server reads from its connections by turns and waits for each, so one that has nothing
@@ -260,14 +333,12 @@ class Database {
 
   /** Promises that another line would be sent at once. A loop that sends much ahead awaits this, so that lines don't pile up here. */
   ready() {
-    return this._channel.ready();
+    return this._block.when(() => this._channel.ready());
   }
 
   /** The accepted reply to a command with these members; one that is undefined or null is left out. Rejects with `Refused`. */
   async ask(cmd, members = {}) {
-    const reply = decode(await this._channel.ask(lineOf(cmd, members)));
-    if (!reply.ok) throw new Refused(reply);
-    return reply;
+    return accepted(await this._exchange(lineOf(cmd, members)));
   }
 
   // Changes
@@ -347,25 +418,47 @@ class Database {
   }
 
   /** A session for a block, which gets its number. Where the block throws all of it is undone, and the error goes on; else it is squashed,
-   * with the sessions that the block left open above it. Answers what the block does. Other calls of this connection that are made
-   * meanwhile fall into the session too. */
+   * with the sessions that the block left open above it. Answers what the block does.
+   *
+   * What is called in the block, and in what that calls, falls into the session (Node's `AsyncLocalStorage` tells). Blocks in it nest, and
+   * come one after another. Other calls and blocks of this connection wait until it has ended; so a block must not wait for one of them. */
   async session(block) {
-    const number = await this.start();
+    const mine = await this._block.when((outer) => outer.open());
+    try {
+      return await this._carriedOut(block, mine);
+    } finally {
+      mine.leave();
+    }
+  }
+
+  async _carriedOut(block, mine) {
+    const { revision: number } = await this._askAtOnce("start");
     let answer;
     try {
-      answer = await block(number);
+      answer = await within.run(new Map(within.getStore()).set(this, mine), block, number);
     } catch (error) {
-      if (!this._channel.ended) await this._endSession(number, () => this.undo());
+      await mine.end();
+      if (!this._channel.ended) await this._endSession(number, "undo");
       throw error;
     }
-    await this._endSession(number, () => this.squash());
+    await mine.end();
+    await this._endSession(number, "squash");
     return answer;
   }
 
   /** Ends the session of a number and those above it, while this connection holds them: what was committed or pushed meanwhile is none of
    * them, and no more is what another connection started since. */
   async _endSession(number, step) {
-    for (let now = await this.revision(); now.held > 0 && now.revision >= number; now = await this.revision()) await step();
+    for (;;) {
+      const { revision, held } = await this._askAtOnce("revision");
+      if (held === 0 || revision < number) return;
+      await this._askAtOnce(step);
+    }
+  }
+
+  /** The accepted reply to a command of a block that begins or ends: nothing else is asked meanwhile. */
+  async _askAtOnce(cmd) {
+    return accepted(await this._channel.ask(lineOf(cmd)));
   }
 
   // Look-ups
