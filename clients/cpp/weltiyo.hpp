@@ -614,11 +614,19 @@ public:
             weltiyo_undo(db_->handle(), Database::own);
     }
 
+    // A session is squashed, undone or pushed once: a further call does nothing, nor does one of a session that was moved from.
+
     // What was done is left to the session below, or stays where there is none. Throws Refused.
-    void squash() { std::exchange(db_, nullptr)->squash(); }
+    void squash() {
+        if (Database *db = std::exchange(db_, nullptr))
+            db->squash();
+    }
 
     // All of it is undone now. Throws Refused.
-    void undo() { std::exchange(db_, nullptr)->undo(); }
+    void undo() {
+        if (Database *db = std::exchange(db_, nullptr))
+            db->undo();
+    }
 
     // The session stays open behind the block; the database's undo, squash and commit end it.
     void push() noexcept { db_ = nullptr; }

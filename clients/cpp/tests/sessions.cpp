@@ -13,6 +13,7 @@ using weltiyo::Page;
 using weltiyo::Place;
 using weltiyo::Refused;
 using weltiyo::Row;
+using weltiyo::Session;
 using weltiyo::Upper;
 
 static void expect(bool holds, int line, const char *what) {
@@ -89,6 +90,18 @@ static void pushed() {
     moved.push();
     db.release(Database::own);
     EXPECT(size(db) == R"({"ok":true,"size":1})");
+}
+
+// A session that was ended, pushed or moved from does nothing more.
+template <class End> static void disarmed(End end) {
+    Database db("", 6);
+    auto outer = db.start_undo_session(), session = db.start_undo_session();
+    end(session);
+    const auto revision = db.revision();
+    session.squash();
+    session.undo();
+    session.push();
+    EXPECT(db.revision() == revision);
 }
 
 static void opening() {
@@ -266,6 +279,10 @@ static void pages_of_texts() {
 int main() {
     blocks();
     pushed();
+    disarmed([](Session &it) { it.squash(); });
+    disarmed([](Session &it) { it.undo(); });
+    disarmed([](Session &it) { it.push(); });
+    disarmed([](Session &it) { Session moved(std::move(it)); });
     values();
     changes();
     look_ups();
