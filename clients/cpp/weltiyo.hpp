@@ -596,7 +596,7 @@ private:
 };
 
 // A session of a block, of the connection `Database::own`. Sessions end in the order opposite to that in which they began, and before their
-// database does.
+// database does. It ends the newest session, as chainbase's does: so what it began isn't to be ended by a line, or by a call of the database.
 class Session {
 public:
     explicit Session(Database &db) : db_(&db) {

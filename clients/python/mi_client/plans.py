@@ -67,8 +67,10 @@ def walk_range(
             yield row
         if not found.more:
             return
-        if not new and (yield from one(calls.count(index, last, table))) > len(given):
-            yield from _equals_behind(schema, index, names, last, given, newest, reverse, page, table)
+        if not new:
+            if (yield from one(calls.count(index, last, table))) > len(given):
+                yield from _equals_behind(schema, index, names, last, given, newest, reverse, page, table)
+            given = set()  # (behind the key each row is a new one, also one that was moved there)
         bounds[side] = {including if new else beyond: last}
 
 

@@ -56,6 +56,12 @@ class Walks(unittest.TestCase):
         self.db.erase(given[-1])
         self.assertEqual(given + [it["id"] for it in walk], self.ids)
 
+    def test_the_row_that_was_given_last_is_put_ahead(self) -> None:
+        walk = self.db.walk_range("by_score", lower={"ge": [10]}, page=1)
+        given = next(walk)["id"]
+        self.db.modify(given, add={"score": -1})
+        self.assertEqual([given] + [it["id"] for it in walk], [10, 10, 8, 6, 4, 2, 0])
+
     def test_an_ordered_index_says_which_would_do(self) -> None:
         with self.assertRaisesRegex(TooManyEqual, "by_score is ranked by the same columns"):
             list(self.db.walk_range("scores", page=10))

@@ -551,7 +551,7 @@ impl Session<'_> {
 impl Drop for Session<'_> {
     fn drop(&mut self) {
         if !self.is_over {
-            // (it takes no memory, so it isn't refused; where the session was ended by a line of the caller's, there is nothing to undo)
+            // (it takes no memory, so it isn't refused; where a line of the caller's has ended the session, the one below is undone, if one is open)
             let _ = self.db.undo();
         }
     }
