@@ -1,7 +1,7 @@
 #!/usr/bin/env python3
 """A service with all its places taken by clients that come and go, most of which say nothing or don't read.
 
-    crowd.py [--part comers|deaf|slow|place] [--connections N] [--short] [--seed N] [--program FILE]
+    crowd.py [--part comers|deaf|slow|sated|place] [--connections N] [--short] [--seed N] [--program FILE]
 
 Without --part all run, one behind another.
 
@@ -12,6 +12,7 @@ Without --part all run, one behind another.
              client, and the server's memory rises by no more than the bound of what is unsent, one page, and some
     slow     one client asks ahead over a slow line (root makes it: a network of its own, whose sockets keep little) and reads bit by bit, so
              that something is always unsent: each reply comes whole, and the server's memory rises by no more than that, however much was sent
+    sated    64 clients read a page of a megabyte each, and then say nothing: behind the last the server's memory is back
     place    64 silent clients are attached; the 65th and others wait, and are served as places become free
 
 Where nobody asks, the server takes no processor time, in `deaf` and `place`."""
@@ -247,6 +248,25 @@ def slow(path, options, folder):
     return f"{replies} replies of {size // 1024} kB are asked ahead and read in bits: each comes whole; memory rises by {rise} kB while {sent} MB are sent"
 
 
+# Those that have all
+
+
+def sated(path, options, folder):
+    with Service(path) as running, contextlib.ExitStack() as opened:
+        streams = [opened.enter_context(running.connect()) for _ in range(MOST)]
+        fill(streams[0])
+        page = len(service.asked(streams[0], PAGE))
+        before = running.memory()
+        for it in streams[1:]:
+            service.asked(it, PAGE)
+        rise = running.memory() - before
+    most = most_rise(page)
+    said = f"{MOST} clients that have read a page of {page // 1024} kB each stay: memory rises by {rise} kB"
+    if rise > most:
+        raise Differs(f"{said}, and {most} kB are the most")
+    return said
+
+
 # Places
 
 
@@ -287,7 +307,7 @@ def place(path, options, folder):
     return f"{MOST} silent clients are attached, {len(waiting)} wait, and each is served as a place becomes free"
 
 
-PARTS = {"comers": comers, "deaf": deaf, "slow": slow, "place": place}
+PARTS = {"comers": comers, "deaf": deaf, "slow": slow, "sated": sated, "place": place}
 
 
 def main(given=None):

@@ -48,7 +48,7 @@ ERRORS = {
     "fdatasync": ["EIO"], "fsync": ["EIO", "EINVAL"], "ftruncate": ["EIO"], "ftruncate64": ["EIO"], "open": ["EACCES"], "open64": ["EACCES"],
     "openat": ["EACCES"], "accept": ["EMFILE", "ECONNABORTED"], "accept4": ["EMFILE", "ECONNABORTED"], "epoll_wait": ["EINTR", "EBADF"],
     "epoll_ctl": ["ENOSPC"], "epoll_create1": ["EMFILE"], "socket": ["EMFILE"], "bind": ["EADDRINUSE"], "listen": ["EADDRINUSE"],
-    "flock": ["EWOULDBLOCK", "EINTR"], "setsockopt": ["ENOMEM"], "shutdown": ["ENOTCONN"], "getsockname": ["ENOBUFS"],
+    "flock": ["EWOULDBLOCK", "EINTR", "ENOLCK"], "setsockopt": ["ENOMEM"], "shutdown": ["ENOTCONN"], "getsockname": ["ENOBUFS"],
 }
 """With which errors each call is refused; one that isn't here, with EIO. No error: half of a write. A socket isn't said to be unready (EAGAIN) where
 it is ready: the service asks the system once when a socket becomes ready, and the system never says so of one that is."""
