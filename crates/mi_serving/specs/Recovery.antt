@@ -1,11 +1,15 @@
 -- What a journal's bytes leave when they are asked again: of "{\"journal\":1, ..}⏎start⏎st" the line "start" is replayed, and "st" is torn.
-use Rattle.std.specs.Prelude.{◌≡◌, ⊤, ℕ, List, [], ◌∷◌, ◌++◌, length, Option, Some, None}
+use Rattle.std.specs.Prelude.{◌≡◌, ⊤, ℕ, List, [], ◌∷◌, ◌++◌, length, Bool, true, false, Option, Some, None}
 use Rattle.mi_commands.specs.Holder.{HeldDatabase}
 use Rattle.mi_hub.specs.Ended.{after_newlines}
 use Rattle.mi_hub.specs.Lines.{lines_of}
 use Rattle.mi_hub.specs.declared.connection.Connection.{Connection}
 use Rattle.mi_replay.specs.Replayed.{replayer, replayed}
 use Rattle.mi_clients.specs.Row.{fresh}
+use Rattle.mi_ledger.specs.declared.replaying.ReplayFault.{ReplayFault}
+use Rattle.mi_ledger.specs.declared.replaying.ReplayFault.TheVariants as replay
+use Rattle.mi_serving.specs.declared.failure.Failure.{Failure}
+use Rattle.mi_serving.specs.declared.failure.Failure.TheVariants as failure
 use Rattle.mi_serving.specs.declared.opening.Journaled.{Journaled}
 use Rattle.mi_serving.specs.declared.opening.Journaled.TheVariants.{Nothing, Journal}
 
@@ -34,3 +38,25 @@ IsRecovered header bytes (Journal torn) old new =
 abbrev pub IsWith : Journaled → List Connection → Type 0
 IsWith Nothing attached = attached ≡ []
 IsWith (Journal torn) attached = attached ≡ fresh replayer ∷ []
+
+-- whether a replay may end by this failure: what can't be read, isn't a journal of this schema, or lacks memory or turns
+abbrev pub ends_replay : Failure → Bool
+ends_replay failure.JournalFile = true
+ends_replay failure.JournalSchema = true
+ends_replay (failure.JournalLine line) = true
+ends_replay failure.Memory = true
+ends_replay failure.Turns = true
+ends_replay failure.SchemaFile = false
+ends_replay (failure.Schema fault) = false
+ends_replay failure.JournalLocked = false
+ends_replay failure.Journal = false
+ends_replay failure.Output = false
+ends_replay failure.Listen = false
+ends_replay failure.Poll = false
+
+-- what a service says of a fault of its replay
+abbrev pub told_as : ReplayFault → Failure
+told_as replay.Read = failure.JournalFile
+told_as (replay.Damaged line) = failure.JournalLine line
+told_as replay.Memory = failure.Memory
+told_as replay.Turns = failure.Turns

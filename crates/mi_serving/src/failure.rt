@@ -1,5 +1,6 @@
 //! Why the service ends: the line on standard error and the exit status.
-ghost use Rattle.std.specs.Prelude.{◌≡◌, ◌⊎◌};
+ghost use Rattle.std.specs.Prelude.{◌≡◌, ◌⊎◌, true};
+ghost use Rattle.mi_serving.specs.Recovery.{ends_replay, told_as};
 
 use mi_ledger::{LedgerFault, ReplayFault};
 use mi_schema::SchemaFault;
@@ -46,7 +47,10 @@ impl Failure {
     }
 
     /// What a fault of the replay is.
-    pub fn of_replay(fault: ReplayFault) -> Failure {
+    pub fn of_replay(fault: ReplayFault) -> Failure
+        ensures is { result ≡ told_as fault }
+        ensures kind { ends_replay result ≡ true }
+    {
         match fault {
             ReplayFault::Read => Failure::JournalFile,
             ReplayFault::Damaged(line) => Failure::JournalLine(line),

@@ -1,5 +1,5 @@
 //! The journal at the start: what it has is asked again, a torn end of it is cut off, and it is opened to go on with, under a name that stays.
-ghost use Rattle.std.specs.Prelude.{◌≡◌, ◌++◌, ◌∷◌, List, [], ℕ, true, false, Ok, OnOk, IfOk, IfSome};
+ghost use Rattle.std.specs.Prelude.{◌≡◌, ◌++◌, ◌∷◌, List, [], ℕ, true, false, Ok, OnOk, IfOk, IfErr, IfSome};
 ghost use Rattle.std.specs.Io.KnownBytes.{Keeps};
 ghost use Rattle.mi_log.specs.LogLines.{reader_of};
 ghost use Rattle.mi_replay.specs.Replayed.{replayer};
@@ -8,7 +8,7 @@ ghost use Rattle.mi_ledger.specs.Ledger.{hub_of, log_of};
 ghost use Rattle.mi_serving.specs.Device.{is_synced, is_staying};
 ghost use Rattle.mi_clients.specs.Row.{fresh};
 ghost use Rattle.mi_clients.specs.Steps.{Step, Makes, GivesNone};
-ghost use Rattle.mi_serving.specs.Recovery.{HasHeader, IsBeginning, IsReplayed, IsRecovered, IsWith};
+ghost use Rattle.mi_serving.specs.Recovery.{HasHeader, IsBeginning, IsReplayed, IsRecovered, IsWith, ends_replay};
 
 use crate::claim::{claimed, cut_off, keep_name};
 use crate::device::{JournalDevice, Keeping};
@@ -46,7 +46,8 @@ pub enum Journaled {
 
 /// Whether a first line, with its newline, is the header, which it is to be.
 fn check_heading(line: &[u8], header: &[u8]) -> Result<(), Failure>
-    ensures { OnOk result ((newline : ℕ) × (line.now ≡ header.now ++ newline ∷ [])) }
+    ensures wanted { OnOk result ((newline : ℕ) × (line.now ≡ header.now ++ newline ∷ [])) }
+    ensures fails { IfErr result (λ failure. ends_replay failure ≡ true) }
 {
     let Some((_newline, text)) = line.split_last() else {
         return Err(Failure::JournalLine(1));
@@ -73,6 +74,7 @@ fn is_beginning(header: &[u8], bytes: &[u8]) -> bool
 fn read_heading<R: BufRead>(lines: &mut LogLines<R>, header: &[u8]) -> Result<bool, Failure>
     ensures found { result ≡ Ok true → HasHeader header.now (R.remaining (reader_of lines.old)) (R.remaining (reader_of lines.new)) }
     ensures none { result ≡ Ok false → IfSome (R.remaining (reader_of lines.old)) (IsBeginning header.now) }
+    ensures fails { IfErr result (λ failure. ends_replay failure ≡ true) }
 {
     match lines.advance() {
         Ok(true) => match check_heading(lines.line(), header) {
@@ -99,6 +101,7 @@ fn replay_all<D: Sessions + Drop, R: BufRead>(
     requires { hub.old.attached ≡ [] }
     ensures held { IfOk result (λ torn. IfSome (R.remaining (reader_of lines.old)) (λ bytes. IsReplayed bytes torn hub.old.held hub.new.held)) }
     ensures attached { OnOk result (hub.new.attached ≡ fresh replayer ∷ []) }
+    ensures fails { IfErr result (λ failure. ends_replay failure ≡ true) }
 {
     if hub.attach(REPLAYER).is_err() {
         return Err(Failure::Memory);
@@ -119,6 +122,7 @@ pub fn recovered<D: Sessions + Drop, R: BufRead + Drop>(
     requires { hub.old.attached ≡ [] }
     ensures journal { IfOk result (λ found. IfSome (R.remaining reader) (λ bytes. IsRecovered header.now bytes found hub.old.held hub.new.held)) }
     ensures attached { IfOk result (λ found. IsWith found hub.new.attached) }
+    ensures fails { IfErr result (λ failure. ends_replay failure ≡ true) }
 {
     let mut lines = LogLines::new(alloc, reader);
     if !read_heading(&mut lines, header)? {

@@ -3,7 +3,7 @@ ghost use Rattle.std.specs.Prelude.{◌≡◌, List, [], None, Err, true, OnOk, 
 ghost use Rattle.mi_ledger.specs.Ledger.{hub_of, log_of, IsSettled};
 ghost use Rattle.mi_clients.specs.Steps.{Step, Makes, GivesNone};
 ghost use Rattle.mi_clients.specs.Row.{ids, Attends, Joins, NoneIsOver, Serves};
-ghost use Rattle.mi_serving.specs.Turns.{Goes};
+ghost use Rattle.mi_serving.specs.Turns.{Goes, ends_serving};
 
 use crate::door::Door;
 use crate::failure::Failure;
@@ -112,8 +112,8 @@ fn wait(door: &mut Door, row: &mut Vec<Client<TcpStream>>) -> Result<(), Failure
     Ok(())
 }
 
-/// Serves connections that come through a door until something fails, and says what. With `each` a line's reply waits for a sync of its
-/// own, else for one that all lines of a turn have together.
+/// Serves connections that come through a door until something fails, and says what: `Poll`, `Memory`, `Journal` or `Turns`. With `each` a
+/// line's reply waits for a sync of its own, else for one that all lines of a turn have together.
 pub fn serve<D: Sessions + Drop, L: Log + Drop>(
     alloc: Global,
     ledger: &mut Ledger<D, L>,
@@ -125,6 +125,7 @@ pub fn serve<D: Sessions + Drop, L: Log + Drop>(
     ensures turns { result ≡ Failure.Turns
         → Goes (hub_of ledger.old) (hub_of ledger.new) (L.appended (log_of ledger.old)) (L.appended (log_of ledger.new)) }
     ensures failed { result ≡ Failure.Journal → L.has_failed (log_of ledger.new) ≡ true }
+    ensures ends { ends_serving result ≡ true }
 {
     let Ok(mut row) = Vec::with_capacity(alloc, MAX_CONNECTIONS) else {
         return Failure::Memory;
