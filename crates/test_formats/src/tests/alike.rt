@@ -110,11 +110,13 @@ fn with_piece(
 }
 
 fn random_line(alloc: Global, random: &mut Random) -> Result<Vec<u8>, AllocError> {
-    let mut line = LINES[random.below(46) as usize].as_bytes().to_vec(alloc)?;
+    let mut line = LINES[random.below(LINES.len() as u64) as usize]
+        .as_bytes()
+        .to_vec(alloc)?;
     for _ in 0..random.below(4) {
-        let at = random.below(96) as usize;
+        let at = random.below(line.len() as u64 + 1) as usize;
         let left_out = random.below(3) as usize;
-        let piece = PIECES[random.below(28) as usize].as_bytes();
+        let piece = PIECES[random.below(PIECES.len() as u64) as usize].as_bytes();
         line = with_piece(alloc, line.as_slice(), at, left_out, piece)?;
     }
     Ok(line)

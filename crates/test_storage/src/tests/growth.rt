@@ -48,7 +48,7 @@ fn a_hundred_chunks_are_freed(rt: HostRuntime) {
 }
 
 /// A new node of a value: where it is refused once, the value that came back is taken again.
-fn take_at_last(rt: &impl Abort, pool: &mut Pool<u64>, value: u64) -> NodeRef
+pub(super) fn take_at_last(rt: &impl Abort, pool: &mut Pool<u64>, value: u64) -> NodeRef
     ensures free { ref_of pool.old result.name ≡ None }
     ensures pool { pool.new ≡ taken pool.old result value }
 {

@@ -1,4 +1,5 @@
 //! Worked rows through each call of the map from ids to nodes, and refused room.
+use super::growth::take_at_last;
 use super::nodes::take;
 use mi_ids::{IdEntry, Ids};
 use mi_node::{NodeRef, Pool};
@@ -120,8 +121,8 @@ fn insert_all(rt: &impl Abort, ids: &mut Ids, node: NodeRef) -> Result<(), Alloc
 /// Run with an allocation that fails, it sees that refused room leaves the ids as they were, and can be asked for again.
 #[test]
 fn refused_room_leaves_the_ids(rt: HostRuntime) -> Result<(), Fail> {
-    let mut pool: Pool<u8> = Pool::with_slots(rt.alloc(), 1);
-    let node = take(&rt, &mut pool, 0);
+    let mut pool: Pool<u64> = Pool::with_slots(rt.alloc(), 1);
+    let node = take_at_last(&rt, &mut pool, 0);
     insert_all(&rt, &mut Ids::new(rt.alloc()), node)?;
     Ok(())
 }

@@ -149,7 +149,7 @@ fn places_are_used_again(rt: HostRuntime) {
     }
 }
 
-/// Past a chunk of places the first nodes keep what they have.
+/// Past a chunk of places the first node keeps what it has, and nodes are named one after the other.
 #[test]
 fn many_nodes_stand_in_chunks(rt: HostRuntime) {
     let mut pool: Pool<u32> = Pool::with_slots(rt.alloc(), 2);
@@ -157,11 +157,16 @@ fn many_nodes_stand_in_chunks(rt: HostRuntime) {
     let mut link = NO_LINK;
     link.back = Some(first);
     pool.set_link(first, 1, link);
-    let mut last = first.name();
     for value in 0..9000 {
-        last = take(&rt, &mut pool, value).name();
+        let node = take(&rt, &mut pool, value);
+        assert_eq!(rt; node.name(), value + 1);
     }
-    assert_eq!(rt; last, 9000);
+    assert_eq!(rt; *pool.value(first), 7);
+    assert!(rt;
+        pool.link(first, 1)
+            .back
+            .is_some_and(|back| back.name() == 0)
+    );
 }
 
 /// Asserts that a value that came back is the text "x", and that the pool can go on with it.
