@@ -1,4 +1,5 @@
-// The table `accounts` as a Boost.MultiIndex container with the same six indexes.
+// The table `accounts` as a Boost.MultiIndex container with the same six indexes, and a hash of the ids beside them, by which a record
+// is found from its id, as ours has one too.
 //
 // Equals stand in the order in which they came to their key, and what takes a change back puts them back there. Boost promises
 // neither for an element whose key is changed, so each key has a stamp as its last part.
@@ -29,6 +30,7 @@ struct Account {
 };
 
 struct ById {};
+struct ByHashedId {};
 struct ByOwner {};
 struct ByBalance {};
 struct ByVip {};
@@ -39,9 +41,16 @@ using Accounts = mi::multi_index_container<
     Account,
     mi::indexed_by<
         mi::ranked_unique<mi::tag<ById>, mi::key<&Account::id>>,
+        mi::hashed_unique<mi::tag<ByHashedId>, mi::key<&Account::id>>,
         mi::hashed_unique<mi::tag<ByOwner>, mi::key<&Account::owner>>,
         mi::ranked_unique<mi::tag<ByBalance>, mi::key<&Account::balance, &Account::balance_at>>,
         mi::ordered_unique<mi::tag<ByVip>, mi::key<&Account::vip, &Account::vip_at>>,
         mi::ordered_unique<mi::tag<ByClass>, mi::key<&Account::vip, &Account::balance, &Account::class_at>,
                            mi::composite_key_compare<std::greater<bool>, std::less<std::int64_t>, std::less<std::int64_t>>>,
         mi::sequenced<mi::tag<Line>>>>;
+
+/// Where the record with an id is in the ranked index, by the hash; the end where there is none.
+template <class Container>
+auto place_of(Container &accounts, std::int64_t id) {
+    return accounts.template project<ById>(accounts.template get<ByHashedId>().find(id));
+}

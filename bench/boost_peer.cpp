@@ -36,7 +36,7 @@ public:
     Outcome insert(const RowView &row, std::optional<std::int64_t> before) {
         auto &by_id = accounts_.get<ById>();
         auto place = by_id.end();
-        if (before && (place = by_id.find(*before)) == by_id.end()) {
+        if (before && (place = place_of(accounts_, *before)) == by_id.end()) {
             return Outcome::refused("id");
         }
         auto [it, is_new] = by_id.insert(Account{next_id_, std::string(row.owner), row.balance, row.vip, arrivals_, arrivals_, arrivals_});
@@ -52,7 +52,7 @@ public:
     }
 
     Outcome replace(const RowView &row) {
-        auto it = accounts_.get<ById>().find(row.id);
+        auto it = place_of(accounts_, row.id);
         if (it == accounts_.get<ById>().end()) {
             return Outcome::refused("id");
         }
@@ -65,7 +65,7 @@ public:
     }
 
     Outcome modify(std::int64_t id, const Edits &edits, bool rollback) {
-        auto it = accounts_.get<ById>().find(id);
+        auto it = place_of(accounts_, id);
         if (it == accounts_.get<ById>().end()) {
             return Outcome::refused("id");
         }
@@ -88,7 +88,7 @@ public:
     }
 
     Outcome erase(std::int64_t id) {
-        auto it = accounts_.get<ById>().find(id);
+        auto it = place_of(accounts_, id);
         if (it == accounts_.get<ById>().end()) {
             return Outcome::refused("id");
         }
@@ -111,7 +111,7 @@ public:
 
     Outcome relocate(std::int64_t id, std::optional<std::int64_t> before) {
         auto &by_id = accounts_.get<ById>();
-        auto it = by_id.find(id), place = before ? by_id.find(*before) : by_id.end();
+        auto it = place_of(accounts_, id), place = before ? place_of(accounts_, *before) : by_id.end();
         if (it == by_id.end() || (before && place == by_id.end())) {
             return Outcome::refused("id");
         }
@@ -180,7 +180,7 @@ public:
 
     template <class Emit>
     bool get(std::int64_t id, Emit emit) const {
-        auto it = accounts_.get<ById>().find(id);
+        auto it = place_of(accounts_, id);
         return show(it != accounts_.get<ById>().end(), it, emit);
     }
 
@@ -213,7 +213,7 @@ public:
     }
 
     Outcome rank(Index index, std::int64_t id) const {
-        auto it = accounts_.get<ById>().find(id);
+        auto it = place_of(accounts_, id);
         if (it == accounts_.get<ById>().end()) {
             return Outcome::refused("id");
         }
@@ -250,7 +250,7 @@ public:
     std::optional<bool> list(std::optional<std::int64_t> after, std::int64_t limit, Emit emit) const {
         auto it = accounts_.get<Line>().begin();
         if (after) {
-            auto found = accounts_.get<ById>().find(*after);
+            auto found = place_of(accounts_, *after);
             if (found == accounts_.get<ById>().end()) {
                 return {};
             }
@@ -278,7 +278,7 @@ private:
     void move(IdPlace it, LinePlace place) { accounts_.get<Line>().relocate(place, accounts_.project<Line>(it)); }
 
     void move_before(IdPlace it, std::int64_t behind) {
-        move(it, behind == AT_END ? accounts_.get<Line>().end() : accounts_.project<Line>(accounts_.get<ById>().find(behind)));
+        move(it, behind == AT_END ? accounts_.get<Line>().end() : accounts_.project<Line>(place_of(accounts_, behind)));
     }
 
     void put(IdPlace it, const std::string_view *owner, std::int64_t balance, bool vip) {
@@ -310,16 +310,16 @@ private:
         auto &by_id = accounts_.get<ById>();
         switch (change.kind) {
         case Change::Kind::Inserted:
-            by_id.erase(by_id.find(change.old.id));
+            by_id.erase(place_of(accounts_, change.old.id));
             break;
         case Change::Kind::Changed:
-            by_id.modify(by_id.find(change.old.id), [&](Account &it) { it = std::move(change.old); });
+            by_id.modify(place_of(accounts_, change.old.id), [&](Account &it) { it = std::move(change.old); });
             break;
         case Change::Kind::Erased:
             move_before(by_id.insert(std::move(change.old)).first, change.behind);
             break;
         case Change::Kind::Moved:
-            move_before(by_id.find(change.old.id), change.behind);
+            move_before(place_of(accounts_, change.old.id), change.behind);
             break;
         }
     }

@@ -34,12 +34,12 @@ public:
     }
 
     std::optional<std::int64_t> balance(std::int64_t id) const {
-        auto it = accounts_.get<ById>().find(id);
+        auto it = place_of(accounts_, id);
         return it == accounts_.get<ById>().end() ? std::nullopt : std::optional(it->balance);
     }
 
     bool add(std::int64_t id, std::int64_t more) {
-        auto it = by_id().find(id);
+        auto it = place_of(accounts_, id);
         std::int64_t balance;
         if (it == by_id().end() || __builtin_add_overflow(it->balance, more, &balance)) {
             return false;
@@ -49,7 +49,7 @@ public:
     }
 
     bool add_and_undo(std::int64_t id, std::int64_t more) {
-        auto it = by_id().find(id);
+        auto it = place_of(accounts_, id);
         std::int64_t balance;
         if (it == by_id().end() || __builtin_add_overflow(it->balance, more, &balance)) {
             return false;
@@ -62,7 +62,7 @@ public:
     }
 
     bool erase_and_undo(std::int64_t id) {
-        auto it = by_id().find(id);
+        auto it = place_of(accounts_, id);
         if (it == by_id().end()) {
             return false;
         }
@@ -73,7 +73,7 @@ public:
         Account old = *it;
         by_id().erase(it);
         auto again = by_id().insert(std::move(old)).first;
-        line.relocate(is_last ? line.end() : accounts_.project<Line>(by_id().find(behind)), accounts_.project<Line>(again));
+        line.relocate(is_last ? line.end() : accounts_.project<Line>(place_of(accounts_, behind)), accounts_.project<Line>(again));
         return true;
     }
 

@@ -269,7 +269,7 @@ private:
     Ids &ids() { return accounts_.get<ById>(); }
 
     Ids::iterator found(std::int64_t id) {
-        auto it = ids().find(id);
+        auto it = place_of(accounts_, id);
         if (it == ids().end())
             stop("id");
         return it;

@@ -65,8 +65,9 @@ def measured(program, options, rows, loops):
     """Of each loop the least figure of each system."""
     measure = counted if options.instructions else timed
     least, sums = {it: {} for it in loops}, {it: set() for it in loops}
-    for _ in range(1 if options.instructions else options.rounds):
-        for system in SYSTEMS:
+    for number in range(1 if options.instructions else options.rounds):
+        # (the other way round in each second round)
+        for system in SYSTEMS if number % 2 == 0 else SYSTEMS[::-1]:
             made = [it for it in loops if (system, it) != ("boost", "sessions")]  # (nothing is done there)
             for loop, (figure, seen) in zip(made, measure(program, system, made, rows, options.calls)):
                 least[loop][system] = min(figure, least[loop].get(system, figure))

@@ -222,6 +222,9 @@ public:
                 std::size_t next = static_cast<std::size_t>(end - buffer.data()) + 1;
                 answer(buffer.data() + at, next - 1 - at);
                 at = next;
+                if (out_.size() >= PIECE && !out_.flush()) {
+                    return 1;
+                }
             }
             std::memmove(buffer.data(), buffer.data() + at, filled - at);
             filled -= at;

@@ -69,7 +69,7 @@ def markdown(about, tables):
         "# What it was compared with, and how fast each was",
         "",
         f"Measured on {about['date']} by `{about['command']}`, on {about['machine']}; the load of the machine was {about['load'][0]:.1f} at the beginning and"
-        f" {about['load'][1]:.1f} at the end (it is 1 to 2 where nothing else runs). The sources were at `{about['commit']}`.",
+        f" {', '.join(f'{it:.1f}' for it in about['load'][1:])} behind each table (it is 1 to 2 where nothing else runs). The sources were at `{about['commit']}`.",
         "",
     ]
     if about["quick"]:
@@ -84,7 +84,7 @@ def markdown(about, tables):
         "",
         f"The program's file begins with the SHA-256 digits `{about['program']}`. " + clock_text(about),
         f"Each figure is the median of {about['rounds']} rounds, with the least and the greatest in brackets; a ratio is taken within a round, in which the"
-        " systems are asked in turn. More than 1 means that Weltiyo is faster. All replies were compared and are the same bytes; those of Redis are"
+        " systems are asked in turn; what takes less than 0.4 s is asked again until it took so long (the table is filled 20 times at most). More than 1 means that Weltiyo is faster. All replies were compared and are the same bytes; those of Redis are"
         " put together from its own first.",
         "",
         "To repeat: that command (`make bench` alone takes the wall clock and a limit of 60 s; the packages: `apt-get install g++ libboost-dev libsimdjson-dev libsqlite3-dev redis-server`).",

@@ -5,8 +5,10 @@
     run.py --quick      small, two rounds, below out/bench: that all answers agree, in seconds; its figures say nothing
 
 A round starts a fresh process of each system, fills its table, and asks each workload of one system after the other, in an
-order that moves on with the rounds; a ratio is of one round. All replies are compared, byte for byte. What would take longer
-than the limit (a unit of a workload, or filling the table) is left out, and the report says so. The report is results.md with
+order that moves on with the rounds and is turned round in every second one; a ratio is of one round. What takes less than
+0.4 s is done again until it took so long together, the filling by a fresh process each time, 20 times at most; in front of
+each workload but the filling a part of it is asked unmeasured. All replies are compared, byte for byte. What would take longer than the limit (a unit of a workload, or
+filling the table) is left out, and the report says so. The report is results.md with
 speed.svg, memory.svg and results.json below docs/bench."""
 import argparse
 import datetime
@@ -30,6 +32,9 @@ QUICK_LIMIT = 10
 WANTED_SECONDS = 1.0
 """A slow system does as many units of a workload as fit into this, and at least one."""
 PROBE_SECONDS = 0.25
+SHORTEST_SECONDS = 0.4
+"""What takes less is done again, since a few milliseconds are chance."""
+MOST_FILLS = 20
 
 
 class Disagree(Exception):
@@ -64,6 +69,11 @@ def found_systems(options, folder):
     return found, left
 
 
+def together(asked):
+    """Lines, seconds and seconds on a processor of all that was asked."""
+    return tuple(map(sum, zip(*asked)))
+
+
 class Cell:
     """One system on one workload: how many units it does, its rounds, or why it is left out."""
 
@@ -76,6 +86,7 @@ class Table:
 
     def __init__(self, rows, chosen, options):
         self.rows, self.systems, self.options = rows, chosen, options
+        self.shortest = 0 if options.quick else SHORTEST_SECONDS
         self.records = workloads.records(rows)
         self.work = list(workloads.all_of(rows, options.quick))
         self.cells = {(name, it.name): Cell() for name in workloads.NAMES for it in chosen}
@@ -87,9 +98,15 @@ class Table:
     def cell(self, system, name):
         return self.cells[name, system.name]
 
+    def order(self, number):
+        """Who is asked one after the other in a round."""
+        first = number % len(self.systems)
+        found = self.systems[first:] + self.systems[:first]
+        return found if number % 2 == 0 else found[::-1]
+
     def run(self):
         for number in range(self.options.rounds):
-            order = self.systems[number % len(self.systems):] + self.systems[:number % len(self.systems)]
+            order = self.order(number)
             self.filled.clear()
             try:
                 for system in order:
@@ -111,10 +128,25 @@ class Table:
         return self.encoded[key]
 
     def fill(self, system, is_timed):
-        """Starts the system and inserts all records; whether it is ready then."""
-        cell = self.cell(system, "insert")
+        """Starts the system and inserts all records, again and again where that is short and timed; whether it is ready then."""
+        cell, asked = self.cell(system, "insert"), []
         if cell.left_out:
             return False
+        for _ in range(MOST_FILLS if is_timed else 1):
+            filled = self.fill_anew(system, cell)
+            if not filled:
+                return False
+            asked.append(filled[0])
+            if together(asked)[1] >= self.shortest:
+                break
+        if is_timed:
+            self.bytes[system.name].append(filled[1])
+            cell.rounds.append(together(asked))
+        self.filled.add(system.name)
+        return True
+
+    def fill_anew(self, system, cell):
+        """What a fresh process took to insert all records, and the bytes that it grew by for each; None where it is left out."""
         system.stop()
         system.start()
         try:
@@ -126,17 +158,12 @@ class Table:
         except (systems.Ended, OSError) as why:
             return self.leave_out(system, cell, str(why))
         self.compare(system, "insert", replies)
-        if is_timed:
-            self.bytes[system.name].append((system.process.resident() - before) / self.rows)
-            cell.rounds.append((len(self.records), seconds, busy))
-        self.filled.add(system.name)
-        return True
+        return (self.rows, seconds, busy), (system.process.resident() - before) / self.rows
 
     def leave_out(self, system, cell, why):
         cell.left_out = f"{why}, in round {len(cell.rounds) + 1}" if cell.rounds else why
         system.stop()
         self.filled.discard(system.name)
-        return False
 
     def measure(self, system, work):
         cell = self.cell(system, work.name)
@@ -147,7 +174,8 @@ class Table:
         try:
             if cell.units is None:
                 cell.units = self.fitting_units(system, work)
-            cell.rounds.append(self.ask(system, work, 0, cell.units))
+            self.ask(system, work, 0, max(1, cell.units // 4))
+            cell.rounds.append(self.asked(system, work, cell.units))
         except systems.TooSlow as why:
             self.leave_out(system, cell, f"not done after {why.seconds:.0f} s")
         except (systems.Ended, OSError) as why:
@@ -163,6 +191,13 @@ class Table:
                 return max(1, min(len(work.units), int(count * WANTED_SECONDS / seconds)))
             size = min(len(work.units), 4 * size)
         return count
+
+    def asked(self, system, work, units):
+        """Asks these units until that took long enough; lines, seconds, seconds on a processor, together."""
+        asked = [self.ask(system, work, 0, units)]
+        while together(asked)[1] < self.shortest:
+            asked.append(self.ask(system, work, 0, units))
+        return together(asked)
 
     def ask(self, system, work, first, last):
         """Asks these units, and compares the replies; lines, seconds, seconds on a processor."""
@@ -275,14 +310,16 @@ def main():
             table = Table(rows, chosen, options)
             table.run()
             tables.append(gathered(table))
+            about["load"].append(os.getloadavg()[0])
     except Disagree as why:
         sys.exit(f"bench: {why}")
-    about["load"].append(os.getloadavg()[0])
     report.write(options.out, about, tables)
     missing = unmeasured(tables, chosen[0].name)
     if options.quick and missing:
         sys.exit("bench: the program was left out: " + "; ".join(missing))
-    print(f"all answers agree; the report is {os.path.relpath(options.out)}/results.md")
+    if options.quick and len(chosen) == 1:
+        sys.exit("bench: there was nothing to compare with")
+    print(f"the answers of {', '.join(it.name for it in chosen)} agree; the report is {os.path.relpath(options.out)}/results.md")
 
 
 if __name__ == "__main__":

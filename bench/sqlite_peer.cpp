@@ -1,7 +1,8 @@
 // The table `accounts` in SQLite, in memory, by prepared statements; a session is a savepoint.
 //
 // The columns that end in `_at` say when a record came to its key, so that equals stand in that order; `line` is its place in
-// the list. SQL has no `commit` of the oldest savepoints, and no index that knows ranks: a rank is counted.
+// the list. SQL has no `commit` of the oldest savepoints, and no index that knows ranks: a rank is counted. All is in one transaction, so
+// that no change is one of its own.
 #include "front.hpp"
 
 #include <cstdio>
@@ -20,6 +21,7 @@ CREATE INDEX by_balance ON accounts(balance, balance_at);
 CREATE INDEX by_vip ON accounts(vip, vip_at);
 CREATE INDEX by_class ON accounts(vip DESC, balance, class_at);
 CREATE INDEX line ON accounts(line);
+BEGIN;
 )";
 
 /// How far apart the places of new records are in the list.

@@ -111,7 +111,7 @@ class LineSystem:
         """What `ask` takes: the bytes, and how many replies they have."""
         return "".join(workloads.line(it) for it in ops).encode(), len(ops)
 
-    def ask(self, encoded, limit, check=True):
+    def ask(self, encoded, limit):
         data, count = encoded
         left = count
 
@@ -203,13 +203,13 @@ class Redis:
         replies, seconds, busy = self.process.exchange(self.socket.fileno(), self.socket.fileno(), data, is_end, limit)
         return replies[:-len(b"$%d\r\n%s\r\n" % (len(MARK), MARK))], seconds, busy
 
-    def ask(self, ops, limit, check=True):
-        return getattr(self, f"ask_{ops[0][0]}")(ops, limit, check)
+    def ask(self, ops, limit):
+        return getattr(self, f"ask_{ops[0][0]}")(ops, limit)
 
-    def ask_size(self, ops, limit, check):
+    def ask_size(self, ops, limit):
         return self.exchange([resp("ZCARD", "by_balance")], limit)
 
-    def ask_insert(self, ops, limit, check):
+    def ask_insert(self, ops, limit):
         commands = []
         for id, (_, owner, balance, vip) in enumerate(ops, self.next_id):
             commands += [
@@ -218,35 +218,31 @@ class Redis:
                 resp("ZADD", "by_balance", balance, f"{id:08}"),
             ]
         replies, seconds, busy = self.exchange(commands, limit)
-        if check and all_resp(replies) != [1, 3, 1] * len(ops):
+        if all_resp(replies) != [1, 3, 1] * len(ops):
             raise Ended("an insert went wrong")
         said = "".join(f'{{"id":{self.next_id + n},"ok":true}}\n' for n in range(len(ops)))
         self.next_id += len(ops)
         return said.encode(), seconds, busy
 
-    def ask_get(self, ops, limit, check):
+    def ask_get(self, ops, limit):
         replies, seconds, busy = self.exchange([self.record(id) for _, id in ops], limit)
-        said = ""
-        if check:
-            said = "".join(f'{{"ok":true,"row":{self.row(id, it)}}}\n' for (_, id), it in zip(ops, all_resp(replies)))
+        said = "".join(f'{{"ok":true,"row":{self.row(id, it)}}}\n' for (_, id), it in zip(ops, all_resp(replies)))
         return said.encode(), seconds, busy
 
-    def ask_rank(self, ops, limit, check):
+    def ask_rank(self, ops, limit):
         replies, seconds, busy = self.exchange([resp("ZRANK", "by_balance", f"{id:08}") for _, id in ops], limit)
         return "".join(f'{{"ok":true,"rank":{it}}}\n' for it in all_resp(replies)).encode(), seconds, busy
 
-    def ask_range(self, ops, limit, check):
+    def ask_range(self, ops, limit):
         asked = [resp("ZRANGE", "by_balance", lower, "+inf", "BYSCORE", "LIMIT", 0, most + 1) for _, lower, most in ops]
         replies, seconds, busy = self.exchange(asked, limit)
         pages = [[int(it) for it in page] for page in all_resp(replies)]
         ids = [id for page, (_, _, most) in zip(pages, ops) for id in page[:most]]
         replies, more_seconds, more_busy = self.exchange([self.record(id) for id in ids], limit)
-        said = []
-        if check:
-            rows = iter([self.row(id, it) for id, it in zip(ids, all_resp(replies))])
-            for page, (_, _, most) in zip(pages, ops):
-                listed = ",".join(next(rows) for _ in page[:most])
-                said.append(f'{{"more":{str(len(page) > most).lower()},"ok":true,"rows":[{listed}]}}\n')
+        said, rows = [], iter([self.row(id, it) for id, it in zip(ids, all_resp(replies))])
+        for page, (_, _, most) in zip(pages, ops):
+            listed = ",".join(next(rows) for _ in page[:most])
+            said.append(f'{{"more":{str(len(page) > most).lower()},"ok":true,"rows":[{listed}]}}\n')
         return "".join(said).encode(), seconds + more_seconds, busy + more_busy
 
     def record(self, id):

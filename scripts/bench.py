@@ -4,7 +4,9 @@
     bench.py [--rows N] [--program FILE]
 
 The commands of a kind are written to standard input one behind another, and the time is taken until all their replies have
-come. It measures the program with its reading and writing, on this machine, now. The program that was compiled without proofs
+come. Those of a kind are written again and again, as many times as take half a second and more: they leave the table as it is. The
+inserts fill it anew by a program of its own, until half a second has passed. How many lines that were and how long they took stands behind
+the figure. It measures the program with its reading and writing, on this machine, now. The program that was compiled without proofs
 checks each access as it runs, so its figures say little."""
 import argparse
 import json
@@ -13,6 +15,9 @@ import threading
 import time
 
 import program
+
+LEAST = 0.5
+"""Seconds that a figure stands on, at least."""
 
 
 def line(cmd, **members):
@@ -58,6 +63,37 @@ def seconds_of(ran, lines):
     return time.monotonic() - began
 
 
+def started(path):
+    return subprocess.Popen([path], stdin=subprocess.PIPE, stdout=subprocess.PIPE)
+
+
+def filled(path, lines):
+    """A program whose table these lines have filled. Answers it, and how many lines took how long, filling another until that is long enough."""
+    asked, took = 0, 0.0
+    while True:
+        ran = started(path)
+        took += seconds_of(ran, lines)
+        asked += len(lines)
+        if took >= LEAST:
+            return ran, asked, took
+        with ran:
+            ran.stdin.close()
+
+
+def repeated(ran, lines):
+    """How many lines took how long: these, as many times as take long enough at once."""
+    times = 1
+    while True:
+        took = seconds_of(ran, lines * times)
+        if took >= LEAST:
+            return len(lines) * times, took
+        times = max(times + 1, min(times * 10, int(1.2 * times * LEAST / took)))
+
+
+def show(name, asked, took):
+    print(f"  {name:20} {asked / took:12.0f}   {asked} lines in {took:.2f} s", flush=True)
+
+
 def main():
     parser = argparse.ArgumentParser()
     parser.add_argument("--rows", type=int, default=1000)
@@ -65,9 +101,12 @@ def main():
     options = parser.parse_args()
     path = options.program or program.program()
     print(f"{program.title(path)}, {options.rows} rows, commands a second:", flush=True)
-    with subprocess.Popen([path], stdin=subprocess.PIPE, stdout=subprocess.PIPE) as ran:
-        for name, lines in kinds(options.rows):
-            print(f"  {name:20} {len(lines) / seconds_of(ran, lines):12.0f}", flush=True)
+    (first, fills), *others = kinds(options.rows)
+    ran, asked, took = filled(path, fills)
+    with ran:
+        show(first, asked, took)
+        for name, lines in others:
+            show(name, *repeated(ran, lines))
 
 
 if __name__ == "__main__":

@@ -226,6 +226,47 @@ def fill(server):
         server.round({n: "".join(lines).encode() if n == 1 else SIZE for n in server.streams})
 
 
+def read_slowly(server, slow):
+    """It gets all that it asked for. Answers how many bytes that were, and how long it took."""
+    began = time.monotonic()
+    want = server.send(slow, PAGES)
+    others = {n: server.send(n, SIZE) for n in server.streams if n != slow}
+    for at in range(0, len(want), 65_536):
+        server.take(slow, want[at:at + 65_536])
+        time.sleep(0.005)
+    take_all(server, others)
+    return len(want), time.monotonic() - began
+
+
+def break_off(server, breaks):
+    """It starts a session, changes a table, and breaks off within its second page."""
+    start = b'{"cmd":"start"}\n{"cmd":"erase","id":0}\n'
+    server.round({n: start if n == breaks else SIZE for n in server.streams})
+    first = {n: server.send(n, SIZE) for n in server.streams if n < breaks}
+    want = server.send(breaks, PAGES)
+    take_all(server, first)
+    server.take(breaks, want[: len(want) // 8 + 1000])
+    server.reset(breaks)
+    take_all(server, {n: server.send(n, SIZE) for n in server.streams if n > breaks})
+
+
+def never_read(server, silent):
+    """The server waits for it until it goes. Answers whether it did."""
+    first = {n: server.send(n, SIZE) for n in server.streams if n < silent}
+    server.send(silent, PAGES)
+    later = {n: server.send(n, SIZE) for n in server.streams if n > silent}
+    take_all(server, first)
+    waits = is_silent(server.streams[max(server.streams)])
+    server.reset(silent)
+    take_all(server, later)
+    return waits
+
+
+def take_all(server, wanted):
+    for n, it in wanted.items():
+        server.take(n, it)
+
+
 def read_oddly(path):
     """A client that reads slowly, one that breaks off in the middle of a page while it holds a session, and one that never reads; each
     asks more than the system keeps for it, so that the server waits. The others are answered before and behind, and what the one held
@@ -234,38 +275,9 @@ def read_oddly(path):
     slow, breaks, silent = 2, 3, 4
     with Clients(path, [ACCOUNTS], 6, small=(slow, breaks, silent)) as server:
         fill(server)
-        # It reads slowly, and gets all.
-        filled = time.monotonic()
-        want = server.send(slow, PAGES)
-        want_others = {n: server.send(n, SIZE) for n in server.streams if n != slow}
-        for at in range(0, len(want), 65_536):
-            server.take(slow, want[at:at + 65_536])
-            time.sleep(0.005)
-        for n, it in want_others.items():
-            server.take(n, it)
-        slowly = time.monotonic() - filled
-        # It starts a session, changes a table, and breaks off within its second page.
-        start = b'{"cmd":"start"}\n{"cmd":"erase","id":0}\n'
-        server.round({n: start if n == breaks else SIZE for n in server.streams})
-        first = {n: server.send(n, SIZE) for n in server.streams if n < breaks}
-        want = server.send(breaks, PAGES)
-        for n, it in first.items():
-            server.take(n, it)
-        server.take(breaks, want[: len(want) // 8 + 1000])
-        server.reset(breaks)
-        later = {n: server.send(n, SIZE) for n in server.streams if n > breaks}
-        for n, it in later.items():
-            server.take(n, it)
-        # It never reads; the server waits for it until it goes.
-        first = {n: server.send(n, SIZE) for n in server.streams if n < silent}
-        server.send(silent, PAGES)
-        later = {n: server.send(n, SIZE) for n in server.streams if n > silent}
-        for n, it in first.items():
-            server.take(n, it)
-        waits = is_silent(server.streams[max(server.streams)])
-        server.reset(silent)
-        for n, it in later.items():
-            server.take(n, it)
+        size, slowly = read_slowly(server, slow)
+        break_off(server, breaks)
+        waits = never_read(server, silent)
         server.round({n: SIZE for n in server.streams})
         server.end_all()
         status = server.ended()
@@ -274,7 +286,7 @@ def read_oddly(path):
         if not waits:
             raise Differs("the server didn't wait for the client that never reads, so that part showed nothing")
         return (
-            f"6 clients, {MANY} records of 1 kB: one took {len(want)} bytes slowly ({slowly:.1f} s), one broke off in a page with a session "
+            f"6 clients, {MANY} records of 1 kB: one took {size} bytes slowly ({slowly:.1f} s), one broke off in a page with a session "
             f"open, one never read; the others' replies are the reference's; {server.memory} kB at most, {time.monotonic() - began:.0f} s"
         )
 
