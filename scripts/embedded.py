@@ -51,14 +51,6 @@ def answered(words, lines, env=None):
     return ran.stdout
 
 
-def first_difference(wanted, got):
-    wanted, got = wanted.split(b"\n"), got.split(b"\n")
-    for n, (want, came) in enumerate(zip(wanted, got), 1):
-        if want != came:
-            return f"reply {n}\n  wanted {want[:500]!r}\n  came   {came[:500]!r}"
-    return f"{len(wanted) - 1} replies were wanted, {len(got) - 1} came"
-
-
 def example_cases():
     """The examples, with their stored replies."""
     for file in sorted(glob.glob(f"{TOP}/examples/*.txt")):
@@ -132,7 +124,7 @@ class Bindings:
     def compare(self, words, case):
         came = answered([*words, case.schema] if case.schema else words, case.lines, self.env)
         if came != case.wanted:
-            raise Differs(first_difference(case.wanted, came))
+            raise Differs(fuzz.first_difference(case.wanted, came))
 
     def answers(self, name, words, cases):
         for case in cases:

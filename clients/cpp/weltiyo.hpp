@@ -20,11 +20,13 @@
 
 #include <algorithm>
 #include <array>
+#include <cstddef>
 #include <cstdint>
 #include <cstdlib>
 #include <fstream>
 #include <initializer_list>
 #include <iterator>
+#include <memory>
 #include <new>
 #include <optional>
 #include <random>
@@ -51,15 +53,17 @@ private:
     std::uint32_t status_;
 };
 
-// A command that was refused. `reply` is the whole reply, `word` the reason in it.
+// A command that was refused. `reply` is the whole reply to a line, `word` the reason in it. Of a call with values `reply` has the word alone:
+// where a unique index refuses, `told` has what a line's reply says besides, the index (by its number), the record that has the key, and whether
+// the one that was to be modified is lost.
 class Refused : public std::runtime_error {
 public:
+    // (what is no refusal has no word)
     explicit Refused(std::string_view reply) : std::runtime_error(std::string(reply)) {
-        const std::size_t end = reply.find('"', front().size());
-        word_ = reply.substr(front().size(), end - front().size());
+        if (is_one(reply))
+            word_ = reply.substr(front().size(), reply.find('"', front().size()) - front().size());
     }
 
-    // That of a call with values, as the line's reply has it but for the index of a conflict, whose number is told.
     explicit Refused(weltiyo_told told)
         : std::runtime_error(std::string(front()) + weltiyo_refusal_word(told.status) + "\",\"ok\":false}"),
           word_(weltiyo_refusal_word(told.status)), told_(told) {}
@@ -88,9 +92,12 @@ public:
     // A number of any width, an id too. Throws std::out_of_range where it is above 2^63 - 1.
     template <class Number, std::enable_if_t<std::is_integral_v<Number> && !std::is_same_v<Number, bool>, int> = 0>
     Value(Number number) : variant(whole(number)) {}
-    Value(bool flag) : variant(flag) {}
+
+    // A flag is `bool` itself: a fraction, an enumerator or a pointer is no value.
+    template <class Flag, std::enable_if_t<std::is_same_v<Flag, bool>, int> = 0> Value(Flag flag) : variant(flag) {}
     Value(std::string text) : variant(std::move(text)) {}
     Value(const char *text) : variant(std::string(text)) {}
+    Value(std::nullptr_t) = delete;
 
     std::int64_t number() const { return std::get<std::int64_t>(*this); }
     bool flag() const { return std::get<bool>(*this); }
@@ -132,6 +139,8 @@ struct Edit {
     static Edit add(std::size_t column, std::int64_t number) { return {WELTIYO_ADD, column, number}; }
 };
 
+namespace detail {
+
 // The value as C takes it; a text goes behind the others.
 inline weltiyo_value laid(const Value &value, std::string &texts) {
     if (const auto *number = std::get_if<std::int64_t>(&value))
@@ -142,6 +151,8 @@ inline weltiyo_value laid(const Value &value, std::string &texts) {
     texts += value.text();
     return {WELTIYO_TEXT, 0, at, value.text().size()};
 }
+
+} // namespace detail
 
 // The values of a key, or the first of them: `{"ann"}`, `{true, 50}`. It takes no memory beside that of long texts.
 class Key {
@@ -157,7 +168,7 @@ private:
     template <class Values> void take(const Values &values) {
         for (const Value &it : values)
             if (count_ < values_.size())
-                values_[count_++] = laid(it, texts_);
+                values_[count_++] = detail::laid(it, texts_);
     }
 
     std::array<weltiyo_value, 5> values_{};
@@ -242,8 +253,21 @@ private:
 // takes more only for a page that is larger than those before.
 class Page {
 public:
-    // A page of at most so many rows.
-    explicit Page(std::size_t most = 1000) : most_(most), ids_(most + 1), values_(usual_values), texts_(usual_texts) {}
+    // A page of at most so many rows, and at most WELTIYO_MOST_ROWS.
+    explicit Page(std::size_t most = WELTIYO_MOST_ROWS) : most_(std::min<std::size_t>(most, WELTIYO_MOST_ROWS)) { make_room(); }
+
+    Page(const Page &) = default;
+    Page &operator=(const Page &) = default;
+
+    // A page that was moved from is empty. It has as many rows at most as before, and takes memory again where it is filled.
+    Page(Page &&other) noexcept : most_(other.most_) { take(other); }
+
+    Page &operator=(Page &&other) noexcept {
+        most_ = other.most_;
+        if (this != &other)
+            take(other);
+        return *this;
+    }
 
     std::size_t size() const noexcept { return count_; }
     bool empty() const noexcept { return count_ == 0; }
@@ -284,6 +308,21 @@ private:
     // (room to begin with; no pointer is null)
     static constexpr std::size_t usual_values = 64, usual_texts = 1024;
 
+    void take(Page &other) noexcept {
+        count_ = std::exchange(other.count_, 0);
+        columns_ = other.columns_;
+        more_ = std::exchange(other.more_, false);
+        ids_ = std::move(other.ids_);
+        values_ = std::move(other.values_);
+        texts_ = std::move(other.texts_);
+    }
+
+    void make_room() {
+        if (ids_.size() <= most_)
+            ids_.resize(most_ + 1);
+        grow(usual_values, usual_texts);
+    }
+
     void grow(std::size_t values, std::size_t texts) {
         if (values > values_.size())
             values_.resize(std::max(values, 2 * values_.size()));
@@ -307,11 +346,13 @@ public:
 
     // The same with a secret of the caller's, which is mixed into the hashes of keys.
     Database(std::string_view schema, std::uint64_t secret) {
-        const std::uint32_t status = weltiyo_open(schema.empty() ? "" : schema.data(), schema.size(), secret, &handle_);
+        weltiyo_db *handle = nullptr;
+        const std::uint32_t status = weltiyo_open(schema.empty() ? "" : schema.data(), schema.size(), secret, &handle);
         if (status == WELTIYO_MEMORY)
             throw std::bad_alloc();
         if (status != WELTIYO_OK)
             throw SchemaFault(status);
+        handle_.reset(handle, weltiyo_close);
     }
 
     // Opens the tables of a schema's file. Throws also std::runtime_error where it can't be read.
@@ -325,27 +366,24 @@ public:
         return Database(text);
     }
 
-    Database(Database &&other) noexcept : handle_(std::exchange(other.handle_, nullptr)), columns_(other.columns_) {}
+    // A database that was moved from is only destroyed or assigned to.
+    Database(Database &&other) noexcept = default;
 
+    // The two are exchanged: what was assigned to is closed where the other ends.
     Database &operator=(Database &&other) noexcept {
         std::swap(handle_, other.handle_);
         std::swap(columns_, other.columns_);
         return *this;
     }
 
-    ~Database() {
-        if (handle_ != nullptr)
-            weltiyo_close(handle_);
-    }
-
     // The reply to a line, whatever it says. Connections differ in what sessions they hold; the others here ask as connection 1.
     std::string answer(std::string_view line, std::uint64_t connection = own) {
         std::string reply(usual, '\0');
         const char *text = line.empty() ? "" : line.data();
-        const std::size_t length = weltiyo_ask(handle_, connection, text, line.size(), reply.data(), reply.size());
+        const std::size_t length = weltiyo_ask(handle(), connection, text, line.size(), reply.data(), reply.size());
         reply.resize(length);
         if (length > usual)
-            weltiyo_reply(handle_, usual, reply.data() + usual, length - usual);
+            weltiyo_reply(handle(), usual, reply.data() + usual, length - usual);
         return reply;
     }
 
@@ -363,25 +401,25 @@ public:
     // Adds a row, and answers its id.
     std::uint64_t insert(std::size_t table, const Row &row, std::uint64_t connection = own) {
         const Laid laid(row);
-        return well(weltiyo_insert(handle_, connection, table, laid.values.data(), row.size(), laid.texts.data(), laid.texts.size()));
+        return well(weltiyo_insert(handle(), connection, table, laid.values.data(), row.size(), laid.texts.data(), laid.texts.size()));
     }
 
     // The same, at a place of a sequenced index.
     std::uint64_t insert(std::size_t table, const Row &row, Place place, std::uint64_t connection = own) {
         const Laid laid(row);
         return well(weltiyo_insert_before(
-            handle_, connection, table, laid.values.data(), row.size(), laid.texts.data(), laid.texts.size(), place.index, place.before));
+            handle(), connection, table, laid.values.data(), row.size(), laid.texts.data(), laid.texts.size(), place.index, place.before));
     }
 
     // Sets another row for an id.
     void replace(std::size_t table, std::uint64_t id, const Row &row, std::uint64_t connection = own) {
         const Laid laid(row);
-        well(weltiyo_replace(handle_, connection, table, id, laid.values.data(), row.size(), laid.texts.data(), laid.texts.size()));
+        well(weltiyo_replace(handle(), connection, table, id, laid.values.data(), row.size(), laid.texts.data(), laid.texts.size()));
     }
 
     // Adds a number to a column. Where a unique index refuses the result, nothing changes.
     void add(std::size_t table, std::uint64_t id, std::size_t column, std::int64_t number, std::uint64_t connection = own) {
-        well(weltiyo_modify_add(handle_, connection, table, id, column, number, 1));
+        well(weltiyo_modify_add(handle(), connection, table, id, column, number, 1));
     }
 
     // Makes edits, each of a column of its own. Where a unique index refuses the result, nothing changes; without `rollback` the row is erased then.
@@ -390,31 +428,31 @@ public:
         std::string texts;
         made.reserve(edits.size() + 1); // (no pointer is null)
         for (const Edit &it : edits)
-            made.push_back({it.kind, it.column, laid(it.value, texts)});
-        well(weltiyo_modify(handle_, connection, table, id, made.data(), edits.size(), texts.data(), texts.size(), rollback));
+            made.push_back({it.kind, it.column, detail::laid(it.value, texts)});
+        well(weltiyo_modify(handle(), connection, table, id, made.data(), edits.size(), texts.data(), texts.size(), rollback));
     }
 
     // Erases a row.
-    void erase(std::size_t table, std::uint64_t id, std::uint64_t connection = own) { well(weltiyo_erase(handle_, connection, table, id)); }
+    void erase(std::size_t table, std::uint64_t id, std::uint64_t connection = own) { well(weltiyo_erase(handle(), connection, table, id)); }
 
     // Erases every row of a whole key, and answers how many.
     std::uint64_t erase_key(std::size_t table, std::size_t index, const Key &key, std::uint64_t connection = own) {
-        return well(weltiyo_erase_key(handle_, connection, table, index, key.values_.data(), key.count_, key.texts_.data(), key.texts_.size()));
+        return well(weltiyo_erase_key(handle(), connection, table, index, key.values_.data(), key.count_, key.texts_.data(), key.texts_.size()));
     }
 
     // Moves a row of a sequenced index directly before another, or to its end.
     void relocate(std::size_t table, std::size_t index, std::uint64_t id, std::optional<std::uint64_t> before = {}, std::uint64_t connection = own) {
-        well(weltiyo_relocate(handle_, connection, table, index, id, before.has_value(), before.value_or(0)));
+        well(weltiyo_relocate(handle(), connection, table, index, id, before.has_value(), before.value_or(0)));
     }
 
     // How many rows a table has.
-    std::uint64_t size(std::size_t table) { return well(weltiyo_size(handle_, table)); }
+    std::uint64_t size(std::size_t table) { return well(weltiyo_size(handle(), table)); }
 
     // The row of an id.
     Row get(std::size_t table, std::uint64_t id) {
         Row row;
         well(copied(row, [&](weltiyo_value *values, char *texts) {
-            return weltiyo_get(handle_, table, id, values, WELTIYO_ROW_VALUES, texts, WELTIYO_ROW_TEXTS);
+            return weltiyo_get(handle(), table, id, values, WELTIYO_ROW_VALUES, texts, WELTIYO_ROW_TEXTS);
         }));
         return row;
     }
@@ -422,7 +460,7 @@ public:
     // The first row of a key, or in an ordered or ranked index of the first values of one, if there is one.
     std::optional<Found> find(std::size_t table, std::size_t index, const Key &key) {
         return if_there([&](weltiyo_value *values, char *texts) {
-            return weltiyo_find(handle_, table, index, key.values_.data(), key.count_, key.texts_.data(), key.texts_.size(), values,
+            return weltiyo_find(handle(), table, index, key.values_.data(), key.count_, key.texts_.data(), key.texts_.size(), values,
                                 WELTIYO_ROW_VALUES, texts, WELTIYO_ROW_TEXTS);
         });
     }
@@ -430,7 +468,7 @@ public:
     // The row of a ranked index before which `n` others stand, if there is one.
     std::optional<Found> nth(std::size_t table, std::size_t index, std::uint64_t n) {
         return if_there([&](weltiyo_value *values, char *texts) {
-            return weltiyo_nth(handle_, table, index, n, values, WELTIYO_ROW_VALUES, texts, WELTIYO_ROW_TEXTS);
+            return weltiyo_nth(handle(), table, index, n, values, WELTIYO_ROW_VALUES, texts, WELTIYO_ROW_TEXTS);
         });
     }
 
@@ -438,7 +476,7 @@ public:
     std::uint64_t count(std::size_t table, std::size_t index, const Key &key) { return of_key(weltiyo_count, table, index, key); }
 
     // How many rows stand before the row of an id in a ranked index.
-    std::uint64_t rank(std::size_t table, std::size_t index, std::uint64_t id) { return well(weltiyo_rank(handle_, table, index, id)); }
+    std::uint64_t rank(std::size_t table, std::size_t index, std::uint64_t id) { return well(weltiyo_rank(handle(), table, index, id)); }
 
     // How many rows of a ranked index have a key that is less than this one, or not greater; the first values of one will do.
     std::uint64_t lower_rank(std::size_t table, std::size_t index, const Key &key) { return of_key(weltiyo_lower_rank, table, index, key); }
@@ -458,7 +496,7 @@ public:
         }
         const std::string &texts = last->texts_.empty() ? lower.key.texts_ : last->texts_;
         fill(page, table, [&] {
-            return weltiyo_range(handle_, table, index, lower.kind, lower.key.values_.data(), lower.key.count_, upper.kind, last->values_.data(),
+            return weltiyo_range(handle(), table, index, lower.kind, lower.key.values_.data(), lower.key.count_, upper.kind, last->values_.data(),
                                  last->count_, texts.data(), texts.size(), reverse, page.ids_.data(), page.most_, page.values_.data(),
                                  page.values_.size(), page.texts_.data(), page.texts_.size());
         });
@@ -467,7 +505,7 @@ public:
     // Fills a page with the first rows of a sequenced index, or of those behind a row. Refused, it is empty.
     void list(Page &page, std::size_t table, std::size_t index, std::optional<std::uint64_t> after = {}) {
         fill(page, table, [&] {
-            return weltiyo_list(handle_, table, index, after.has_value(), after.value_or(0), page.ids_.data(), page.most_, page.values_.data(),
+            return weltiyo_list(handle(), table, index, after.has_value(), after.value_or(0), page.ids_.data(), page.most_, page.values_.data(),
                                 page.values_.size(), page.texts_.data(), page.texts_.size());
         });
     }
@@ -476,33 +514,35 @@ public:
     [[nodiscard]] Session start_undo_session();
 
     // Takes back all that was done since the newest session was started, and ends it. It takes no memory. Throws Refused.
-    void undo() { well(weltiyo_undo(handle_, own)); }
+    void undo() { well(weltiyo_undo(handle(), own)); }
 
     // Ends the newest session, and leaves what was done in it to the one below. Throws Refused.
-    void squash() { well(weltiyo_squash(handle_, own)); }
+    void squash() { well(weltiyo_squash(handle(), own)); }
 
     // Ends all sessions up to the one of this revision: what was done in them can't be undone any more. Throws Refused.
-    void commit(std::uint64_t revision) { well(weltiyo_commit(handle_, own, revision)); }
+    void commit(std::uint64_t revision) { well(weltiyo_commit(handle(), own, revision)); }
 
     // Undoes every open session, and answers how many. Throws Refused.
-    std::uint64_t undo_all() { return well(weltiyo_undo_all(handle_, own)); }
+    std::uint64_t undo_all() { return well(weltiyo_undo_all(handle(), own)); }
 
     // Lets go of the sessions that are held, which stay open, and answers how many. Throws Refused.
-    std::uint64_t push() { return well(weltiyo_push(handle_, own)); }
+    std::uint64_t push() { return well(weltiyo_push(handle(), own)); }
 
     // The number of the newest session. Throws Refused.
     std::uint64_t revision() { return number_in(ask(R"({"cmd":"revision"})"), "\"revision\":"); }
 
     // A connection goes away: the sessions that it holds are undone. It takes no memory.
-    void release(std::uint64_t connection) noexcept { weltiyo_release(handle_, connection); }
+    void release(std::uint64_t connection) noexcept { weltiyo_release(handle(), connection); }
 
     // The handle, for the calls of weltiyo.h.
-    weltiyo_db *handle() noexcept { return handle_; }
+    weltiyo_db *handle() noexcept { return handle_.get(); }
 
     // The connection that is asked as where none is named.
     static constexpr std::uint64_t own = 1;
 
 private:
+    friend class Session;
+
     // The bytes of a reply that are fetched with it.
     static constexpr std::size_t usual = 256;
 
@@ -516,7 +556,7 @@ private:
         explicit Laid(const Row &row) {
             values.reserve(row.size() + 1); // (no pointer is null)
             for (const Value &it : row)
-                values.push_back(laid(it, texts));
+                values.push_back(detail::laid(it, texts));
         }
 
         std::vector<weltiyo_value> values;
@@ -552,13 +592,14 @@ private:
     using OfKey = weltiyo_told(weltiyo_db *, std::size_t, std::size_t, const weltiyo_value *, std::size_t, const void *, std::size_t);
 
     std::uint64_t of_key(OfKey *call, std::size_t table, std::size_t index, const Key &key) {
-        return well(call(handle_, table, index, key.values_.data(), key.count_, key.texts_.data(), key.texts_.size()));
+        return well(call(handle(), table, index, key.values_.data(), key.count_, key.texts_.data(), key.texts_.size()));
     }
 
     // Fills a page by a call, which is made again where it wants more room.
     template <class Call> void fill(Page &page, std::size_t table, Call call) {
         page.count_ = 0;
         page.more_ = false;
+        page.make_room();
         weltiyo_told told = call();
         if (told.status == WELTIYO_NO_ROOM) {
             page.grow(told.index, told.number);
@@ -576,7 +617,7 @@ private:
         if (count == 0) {
             weltiyo_value value;
             char text;
-            count = weltiyo_get(handle_, table, id, &value, 0, &text, 0).index;
+            count = weltiyo_get(handle(), table, id, &value, 0, &text, 0).index;
         }
         return count;
     }
@@ -591,48 +632,44 @@ private:
         return std::strtoull(reply.c_str() + reply.find(name) + name.size(), nullptr, 10);
     }
 
-    weltiyo_db *handle_ = nullptr;
+    std::shared_ptr<weltiyo_db> handle_; // (a session has it too)
     std::array<std::uint32_t, 16> columns_{}; // (a catalog has at most 16 tables)
 };
 
-// A session of a block, of the connection `Database::own`. Sessions end in the order opposite to that in which they began, and before their
-// database does. It ends the newest session, as chainbase's does: so what it began isn't to be ended by a line, or by a call of the database.
+// A session of a block, of the connection `Database::own`. Sessions end in the order opposite to that in which they began. Their database may be
+// moved meanwhile, and isn't closed before they have ended. It ends the newest session, as chainbase's does: so what it began isn't to be ended
+// by a line, or by a call of the database.
 class Session {
 public:
-    explicit Session(Database &db) : db_(&db) {
-        const weltiyo_told told = weltiyo_start(db.handle(), Database::own);
-        if (told.status != 0)
-            throw Refused(told);
-    }
+    explicit Session(Database &db) : handle_(db.handle_) { Database::well(weltiyo_start(handle_.get(), Database::own)); }
 
-    Session(Session &&other) noexcept : db_(std::exchange(other.db_, nullptr)) {}
+    Session(Session &&other) noexcept = default;
 
     Session &operator=(Session &&) = delete;
 
     ~Session() {
-        if (db_ != nullptr)
-            weltiyo_undo(db_->handle(), Database::own);
+        if (handle_ != nullptr)
+            weltiyo_undo(handle_.get(), Database::own);
     }
 
     // A session is squashed, undone or pushed once: a further call does nothing, nor does one of a session that was moved from.
 
     // What was done is left to the session below, or stays where there is none. Throws Refused.
-    void squash() {
-        if (Database *db = std::exchange(db_, nullptr))
-            db->squash();
-    }
+    void squash() { end(weltiyo_squash); }
 
     // All of it is undone now. Throws Refused.
-    void undo() {
-        if (Database *db = std::exchange(db_, nullptr))
-            db->undo();
-    }
+    void undo() { end(weltiyo_undo); }
 
     // The session stays open behind the block; the database's undo, squash and commit end it.
-    void push() noexcept { db_ = nullptr; }
+    void push() noexcept { handle_.reset(); }
 
 private:
-    Database *db_;
+    void end(weltiyo_told (*step)(weltiyo_db *, std::uint64_t)) {
+        if (const auto handle = std::move(handle_))
+            Database::well(step(handle.get(), Database::own));
+    }
+
+    std::shared_ptr<weltiyo_db> handle_; // (which its `Database` takes along where it is moved)
 };
 
 inline Session Database::start_undo_session() { return Session(*this); }

@@ -10,7 +10,8 @@ fn folder() -> String {
     }
     let asked = Command::new("pkg-config").args(["--variable=libdir", "weltiyo"]).output();
     match asked {
-        Ok(said) if said.status.success() => String::from_utf8_lossy(&said.stdout).trim().to_owned(),
+        // (pkgconf writes a space of a path with a backslash in front)
+        Ok(said) if said.status.success() => String::from_utf8_lossy(&said.stdout).trim().replace("\\ ", " "),
         _ => panic!("libweltiyo isn't found: set WELTIYO_LIBRARY_DIR to its folder, or PKG_CONFIG_PATH to that of weltiyo.pc"),
     }
 }
@@ -19,6 +20,7 @@ fn main() {
     let folder = folder();
     let kind = if Path::new(&folder).join("libweltiyo.a").exists() { "static" } else { "dylib" };
     println!("cargo:rerun-if-env-changed=WELTIYO_LIBRARY_DIR");
+    println!("cargo:rerun-if-env-changed=PKG_CONFIG_PATH");
     println!("cargo:rerun-if-changed={folder}");
     println!("cargo:rustc-link-search=native={folder}");
     println!("cargo:rustc-link-lib={kind}=weltiyo");

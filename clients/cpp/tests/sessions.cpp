@@ -1,10 +1,9 @@
 // Sessions of blocks, what is thrown, and who frees what. It prints `ok`, or the line of what differs.
-#include <cstdio>
-#include <cstdlib>
 #include <string>
 #include <utility>
 
-#include <weltiyo.hpp>
+#include "expect.hpp"
+#include "moves.hpp"
 
 using weltiyo::Database;
 using weltiyo::Edit;
@@ -16,29 +15,11 @@ using weltiyo::Row;
 using weltiyo::Session;
 using weltiyo::Upper;
 
-static void expect(bool holds, int line, const char *what) {
-    if (!holds) {
-        std::printf("line %d: %s\n", line, what);
-        std::exit(1);
-    }
-}
-
-#define EXPECT(it) expect((it), __LINE__, #it)
-
 static std::string insert(const std::string &owner) {
     return "{\"cmd\":\"insert\",\"row\":{\"owner\":" + weltiyo::quoted(owner) + ",\"balance\":1,\"vip\":false}}";
 }
 
 static std::string size(Database &db) { return db.ask(R"({"cmd":"size"})"); }
-
-template <class Call> static std::string refused(Call call) {
-    try {
-        call();
-    } catch (const Refused &it) {
-        return it.word();
-    }
-    return "";
-}
 
 static void blocks() {
     Database db("", 1);
@@ -290,5 +271,6 @@ int main() {
     pages_of_texts();
     opening();
     long_replies();
+    moves::all();
     std::puts("ok");
 }

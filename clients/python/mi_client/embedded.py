@@ -14,7 +14,8 @@ import itertools
 import os
 import secrets
 import threading
-from typing import Any, Deque, Iterator, List, Optional, Union
+import warnings
+from typing import Any, Deque, Iterator, List, Optional, Set, Union
 
 from mi_client.calls import LONGEST_LINE
 from mi_client.channel import Channel
@@ -28,6 +29,8 @@ WORDS = ("ok", "memory", "file", "toml", "shape", "name", "twice", "type", "kind
 """Why a schema opens nothing, by the number that the library answers."""
 
 MEMORY = 1
+
+CLOSED = "the connection is closed"
 
 USUAL = 4096
 """The bytes of a reply that are fetched with it."""
@@ -55,7 +58,8 @@ def library(path: Optional[Path] = None) -> Any:
 
 
 class Embedded(Database):
-    """A connection to a database of this process. Close it, or use it in a `with`: what it holds is then undone."""
+    """A connection to a database of this process. Close it, or use it in a `with`: what it holds is then undone. A reply is there
+    once the library's call has returned, so `answer_within` does nothing."""
 
     def __init__(self, lines: _Lines, schema: Optional[Schema]) -> None:
         """Use `open` or `another`."""
@@ -99,13 +103,15 @@ class Embedded(Database):
 class _OneThread:
     """In the place of a lock: a handle stays on its thread, so others are turned away."""
 
-    __slots__ = ("_thread",)
+    __slots__ = ("_thread", "_number")
 
     def __init__(self) -> None:
-        self._thread = threading.current_thread()  # (not its number, which another one gets once it has ended)
+        # (not Python's number of it, which another one gets once it has ended; and the system's besides, since threads that C made are one
+        # object to Python where they have the same number of it)
+        self._thread, self._number = threading.current_thread(), threading.get_native_id()
 
     def is_here(self) -> bool:
-        return threading.current_thread() is self._thread
+        return threading.current_thread() is self._thread and threading.get_native_id() == self._number
 
     def __enter__(self) -> None:
         if not self.is_here():
@@ -123,7 +129,7 @@ class _Engine:
         self._calls, self._handle, self._process = calls, ctypes.c_void_p(), os.getpid()
         self._room = ctypes.create_string_buffer(USUAL)
         self._numbers: Iterator[int] = itertools.count(1)
-        self._open = 0
+        self._open: Set[int] = set()
         self._gone: List[int] = []
         self.is_busy = False
         status = calls.weltiyo_open(text, len(text), secrets.randbits(64), ctypes.byref(self._handle))
@@ -134,12 +140,16 @@ class _Engine:
 
     def attach(self) -> int:
         """The number of another connection."""
-        self._open += 1
-        return next(self._numbers)
+        number = next(self._numbers)
+        self._open.add(number)
+        return number
 
     def ask(self, number: int, line: bytes) -> bytes:
-        """The reply to a line, both without their newline."""
-        self._release()
+        """The reply to a line, both without their newline. Raises Ended where a signal handler has closed the connection meanwhile."""
+        if self._gone:
+            self._release(but=number)
+            if number in self._gone:
+                raise Ended(CLOSED)
         length = self._calls.weltiyo_ask(self._handle, number, line, len(line), self._room, USUAL)
         front = ctypes.string_at(self._room, min(length, USUAL))
         if length <= USUAL:
@@ -153,20 +163,28 @@ class _Engine:
         self._gone.append(number)
 
     def detach(self, number: int) -> None:
-        """A connection goes away: at once, or where a call is under way, ahead of the next one."""
+        """A connection goes away: at once, or where a call is under way, behind it."""
         self._gone.append(number)
-        if not self.is_busy:
-            self._release()
+        self.settle()
 
-    def _release(self) -> None:
-        """In the child of a fork nothing is done: the handle is the parent's."""
-        while self._gone:
-            number = self._gone.pop()
-            self._open -= 1
-            if self._process == os.getpid():
+    def settle(self) -> None:
+        """Releases the connections that are gone, unless something is under way, behind which it is done."""
+        while self._gone and not self.is_busy:
+            self.is_busy = True
+            try:
+                self._release()
+            finally:
+                self.is_busy = False
+
+    def _release(self, but: int = 0) -> None:
+        """Passes over the connection that is asked, so that the handle stays. In the child of a fork nothing is done: it is the parent's."""
+        for number in [it for it in self._gone if it != but]:
+            if self._handle and self._process == os.getpid():
                 self._calls.weltiyo_release(self._handle, number)
-                if not self._open:
-                    self._close()
+            self._open.discard(number)
+            self._gone.remove(number)
+        if not self._open and self._process == os.getpid():
+            self._close()
 
     def _close(self) -> None:
         handle, self._handle = self._handle, ctypes.c_void_p()
@@ -174,8 +192,13 @@ class _Engine:
             self._calls.weltiyo_close(handle)
 
     def __del__(self) -> None:
-        if self.home.is_here() and self._process == os.getpid():
+        if not self._handle or self._process != os.getpid():
+            return
+        if self.home.is_here():
             self._close()
+        else:
+            what = "a database in the process is never freed: its last reference went on another thread than the one that opened it"
+            warnings.warn(what, ResourceWarning, source=self)
 
 
 class _Lines(Channel):
@@ -194,6 +217,8 @@ class _Lines(Channel):
     @is_busy.setter
     def is_busy(self, is_busy: bool) -> None:
         self.engine.is_busy = is_busy
+        if not is_busy:
+            self.engine.settle()
 
     def queued(self) -> int:
         return 0
@@ -226,8 +251,10 @@ class _Lines(Channel):
             line = line[:-1]
         if not line:
             return None
-        assert self._number is not None
-        return self.engine.ask(self._number, line)
+        number = self._number
+        if number is None:
+            raise Ended(CLOSED)
+        return self.engine.ask(number, line)
 
     def close(self) -> None:
         number, self._number = self._number, None

@@ -1,8 +1,11 @@
 """What the tests share: the program (the one that MI_SERVER names, else what `scripts/program.py path` finds or compiles), rows,
-and servers that end with their test."""
+servers that end with their test, and a library that stands in for the one of `make lib`."""
 from __future__ import annotations
 
+import atexit
+import functools
 import os
+import shutil
 import subprocess
 import sys
 import tempfile
@@ -25,6 +28,24 @@ def program() -> str:
     if not named:
         words = [sys.executable, f"{TOP}/scripts/program.py", "path"]
         named = os.environ["MI_SERVER"] = subprocess.run(words, check=True, capture_output=True, text=True).stdout.strip()
+    return named
+
+
+@functools.lru_cache(maxsize=None)
+def stand_in() -> str:
+    """The folder of a library that is made of clients/cpp/tests/stand_in.cpp. Skips the test where no compiler is there."""
+    words = [compiler("CXX", "c++"), "-std=c++17", "-shared", "-fPIC", f"-I{TOP}/clients/c", f"{TOP}/clients/cpp/tests/stand_in.cpp"]
+    made = tempfile.TemporaryDirectory()
+    atexit.register(made.cleanup)
+    subprocess.run([*words, "-o", f"{made.name}/libweltiyo.so"], check=True)
+    return made.name
+
+
+def compiler(variable: str, usual: str) -> str:
+    """The compiler that a variable of the environment names. Skips the test where it isn't there."""
+    named = os.environ.get(variable, usual)
+    if not shutil.which(named):
+        raise unittest.SkipTest(f"no compiler is there: {named}")
     return named
 
 

@@ -1,5 +1,7 @@
 """The client over a database of its own process, where the library is built: every call that the tests of a connection make, several
-connections, and who may use it. The library is the one that WELTIYO_LIBRARY names, else that of `make lib`."""
+connections, and who may use it. The library is the one that WELTIYO_LIBRARY names, else that of `make lib`. What a connection that is closed
+in the middle of a call leaves is tried without it too, over one that stands in for it."""
+import ctypes
 import gc
 import os
 import subprocess
@@ -30,6 +32,18 @@ def on_a_thread(work):
     thread = threading.Thread(target=work)
     thread.start()
     thread.join()
+
+
+def asking(opened, said):
+    """A call of the first of these databases, whose refusal is kept."""
+
+    def work():
+        try:
+            opened[0].size()
+        except RuntimeError as error:
+            said.append(str(error))
+
+    return work
 
 
 @needs_library
@@ -158,16 +172,9 @@ class Home(unittest.TestCase):
 
     def test_a_thread_with_the_number_of_one_that_has_ended(self):
         opened, said = [], []
-
-        def work():
-            try:
-                opened[0].size()
-            except RuntimeError as error:
-                said.append(str(error))
-
         on_a_thread(lambda: opened.append(Embedded.open()))
         for _ in range(10):
-            on_a_thread(work)
+            on_a_thread(asking(opened, said))
         self.assertEqual(said, ["a database in the process stays on the thread that opened it"] * 10)
 
     def test_a_child_leaves_it_to_its_parent(self):
@@ -199,6 +206,143 @@ class Home(unittest.TestCase):
         del db, engine
         gc.collect()
         self.assertEqual(closed, [handle])
+
+
+class Watched:
+    """The library's calls, each of which is to get a handle that is open, on its thread."""
+
+    def __init__(self, calls):
+        self._calls, self._home, self.closed = calls, threading.get_native_id(), []
+
+    def __getattr__(self, name):
+        def call(handle, *words):
+            if not handle or handle.value in self.closed or threading.get_native_id() != self._home:
+                raise AssertionError(f"{name} gets a handle that isn't open here")
+            self.closed += [handle.value] * (name == "weltiyo_close")
+            return getattr(self._calls, name)(handle, *words)
+
+        return call
+
+
+class InTheMiddle:
+    """A block ahead of whose line of this number, of those of the client that it runs through, something is done, as by a signal handler."""
+
+    def __init__(self, number, done):
+        self._left, self._done = number, done
+
+    def __enter__(self):
+        sys.settrace(self._trace)
+        return self
+
+    def __exit__(self, *_):
+        sys.settrace(None)
+
+    def _trace(self, frame, event, _):
+        if event == "line" and os.path.basename(os.path.dirname(frame.f_code.co_filename)) == "mi_client":
+            self._left -= 1
+            if not self._left:
+                self._done()
+        return self._trace
+
+    def is_over(self):
+        """Whether the block had fewer lines."""
+        return self._left > 0
+
+
+class Closing(unittest.TestCase):
+    def opened(self):
+        """A connection, another one to the same tables, and the calls that they make."""
+        db = Embedded.open(library_file=library() or f"{kit.stand_in()}/libweltiyo.so")
+        engine = db._lines.engine
+        engine._calls = Watched(engine._calls)
+        return db, db.another(), engine._calls
+
+    def at_each_line(self, closed_at):
+        number = 1
+        while not closed_at(number):
+            number += 1
+        self.assertGreater(number, 20)
+
+    def test_in_the_middle_of_its_own_call(self):
+        """It is answered or ends, holds nothing behind that, and the last one closes the tables."""
+        for is_last in (False, True):
+
+            def closed_at(number):
+                db, other, calls = self.opened()
+                if is_last:
+                    other.close()
+                try:
+                    with InTheMiddle(number, db.close) as middle:
+                        self.assertEqual(db.begin(), 1)
+                except Ended as error:
+                    self.assertEqual(str(error), "the connection is closed")
+                if middle.is_over():
+                    db.close()
+                self.assertFalse(db.is_open())
+                if not is_last:
+                    self.assertEqual(other.revision(), (0, 0, 0))
+                    other.close()
+                self.assertEqual(len(calls.closed), 1)
+                return middle.is_over()
+
+            with self.subTest(is_last=is_last):
+                self.at_each_line(closed_at)
+
+    def test_in_the_middle_of_lines_sent_ahead(self):
+        def closed_at(number):
+            db, other, calls = self.opened()
+            try:
+                with InTheMiddle(number, db.close) as middle:
+                    self.assertEqual(len(list(db.ask_lines(['{"cmd":"start"}'] * 3))), 3)
+            except Ended:
+                pass
+            if middle.is_over():
+                db.close()
+            self.assertEqual(other.revision(), (0, 0, 0))
+            other.close()
+            self.assertEqual(len(calls.closed), 1)
+            return middle.is_over()
+
+        self.at_each_line(closed_at)
+
+    def test_in_the_middle_of_another_that_closes(self):
+        def closed_at(number):
+            db, other, calls = self.opened()
+            other.begin()
+            with InTheMiddle(number, other.close) as middle:
+                db.close()
+            other.close()
+            self.assertEqual(len(calls.closed), 1)
+            return middle.is_over()
+
+        self.at_each_line(closed_at)
+
+    def test_a_thread_that_c_made_with_the_number_of_another(self):
+        opened, said = [], []
+        on_a_thread_of_c(lambda: opened.extend(self.opened()))
+        on_a_thread_of_c(asking(opened, said))
+        self.assertEqual(said, ["a database in the process stays on the thread that opened it"])
+        with self.assertWarns(ResourceWarning):
+            opened.clear()
+            gc.collect()
+
+    def test_the_last_reference_goes_on_another_thread(self):
+        opened = []
+        on_a_thread(lambda: opened.extend(self.opened()))
+        calls = opened[2]
+        with self.assertWarnsRegex(ResourceWarning, "^a database in the process is never freed"):
+            opened.clear()
+            gc.collect()
+        self.assertEqual(calls.closed, [])
+
+
+def on_a_thread_of_c(work):
+    """Runs on a thread that Python didn't start, and waits for its end."""
+    calls, thread = ctypes.CDLL(None), ctypes.c_ulong()
+    begin = ctypes.CFUNCTYPE(None, ctypes.c_void_p)(lambda _: work())
+    calls.pthread_join.argtypes = (ctypes.c_ulong, ctypes.c_void_p)
+    calls.pthread_create(ctypes.byref(thread), None, begin, None)
+    calls.pthread_join(thread, None)
 
 
 if __name__ == "__main__":

@@ -36,6 +36,7 @@ use std::hash::{BuildHasher, Hasher};
 use std::marker::PhantomData;
 use std::ops::{Bound, Deref, DerefMut, RangeBounds};
 use std::ptr::{self, NonNull};
+use std::rc::Rc;
 
 /// The bytes that a line may have.
 pub const LONGEST_LINE: usize = 65_536;
@@ -54,16 +55,40 @@ const REFUSAL: &str = "{\"error\":\"";
 pub enum Error {
     /// The schema opens nothing; its word, as the program prints it behind `schema: `.
     Schema(&'static str),
-    /// A command was refused; the whole reply. That of a call with values is the line's but for the index and the record of a conflict.
+    /// A command was refused; the whole reply. That of a call with values is the line's, but where a unique index refuses it has the index's
+    /// number in place of its name, and no `lost`, since such a call rolls back.
     Refused(String),
 }
 
 impl Error {
-    /// The word of it: `twice` of a schema, `busy` of a refusal.
+    /// The word of it: `twice` of a schema, `busy` of a refusal. What is no refusal's reply has none.
     pub fn word(&self) -> &str {
         match self {
             Error::Schema(word) => word,
-            Error::Refused(reply) => reply[REFUSAL.len()..].split('"').next().unwrap_or(""),
+            Error::Refused(reply) => reply.strip_prefix(REFUSAL).and_then(|rest| rest.split('"').next()).unwrap_or(""),
+        }
+    }
+
+    /// The id of the record that has the key, where a unique index refuses.
+    pub fn id(&self) -> Option<u64> {
+        self.member("\"id\":")?.parse().ok()
+    }
+
+    /// The unique index that refuses: its name, or its number where the command was a call with values.
+    pub fn index(&self) -> Option<&str> {
+        Some(self.member("\"index\":")?.trim_matches('"'))
+    }
+
+    /// Whether the record that was to be modified is erased.
+    pub fn is_lost(&self) -> bool {
+        self.member("\"lost\":") == Some("true")
+    }
+
+    /// What stands behind the name of a member in the reply of a refusal.
+    fn member(&self, name: &str) -> Option<&str> {
+        match self {
+            Error::Refused(reply) if reply.starts_with(REFUSAL) => reply.split_once(name)?.1.split([',', '}']).next(),
+            _ => None,
         }
     }
 }
@@ -96,10 +121,12 @@ fn refusal_of(status: u32) -> &'static str {
 
 /// What a call with values told: a number, or why it was refused.
 fn number_of(told: raw::Told) -> Result<u64, Error> {
-    if told.status == 0 {
-        return Ok(told.number);
-    }
-    Err(Error::Refused(format!("{REFUSAL}{}\",\"ok\":false}}", refusal_of(told.status))))
+    let members = match told.status {
+        0 => return Ok(told.number),
+        raw::REFUSED_UNIQUE => format!("\"id\":{},\"index\":{},", told.number, told.index),
+        _ => String::new(),
+    };
+    Err(Error::Refused(format!("{REFUSAL}{}\",{members}\"ok\":false}}", refusal_of(told.status))))
 }
 
 /// A value of a row.
@@ -206,15 +233,42 @@ fn if_there(call: impl FnOnce(&mut [raw::Cell], &mut [u8]) -> raw::Told) -> Resu
     Ok(Some((number_of(told)?, row)))
 }
 
-/// A database of its own tables. It is closed where it is dropped.
+/// A handle that is open until it is dropped.
+#[derive(Debug)]
+struct Opened(NonNull<raw::Handle>);
+
+impl Opened {
+    fn as_ptr(&self) -> *mut raw::Handle {
+        self.0.as_ptr()
+    }
+
+    fn undo(&self) -> Result<(), Error> {
+        // SAFETY: the handle was opened on this thread, which it can't leave, and isn't closed; no other call is under way.
+        number_of(unsafe { raw::weltiyo_undo(self.as_ptr(), OWN) }).map(drop)
+    }
+
+    fn squash(&self) -> Result<(), Error> {
+        // SAFETY: as in `undo`.
+        number_of(unsafe { raw::weltiyo_squash(self.as_ptr(), OWN) }).map(drop)
+    }
+}
+
+impl Drop for Opened {
+    fn drop(&mut self) {
+        // SAFETY: as in `undo`; nothing uses the handle behind this.
+        unsafe { raw::weltiyo_close(self.as_ptr()) }
+    }
+}
+
+/// A database of its own tables. It is closed where it is dropped, but not before the sessions that were begun in it have ended.
 ///
-/// ```compile_fail
+/// ```compile_fail,E0277
 /// let db = weltiyo::Database::open("").unwrap();
 /// std::thread::spawn(move || drop(db)); // (a database stays on its thread)
 /// ```
 #[derive(Debug)]
 pub struct Database {
-    handle: NonNull<raw::Handle>,
+    handle: Rc<Opened>,
     /// How many columns each table has, of those that were asked; a catalog has at most 16 tables.
     columns: [u32; 16],
     on_its_thread: PhantomData<*mut ()>,
@@ -232,7 +286,9 @@ impl Database {
         // SAFETY: the text is a slice, which is never null, and the handle a place of its own.
         let status = unsafe { raw::weltiyo_open(schema.as_ptr(), schema.len(), secret, &mut handle) };
         match NonNull::new(handle) {
-            Some(handle) if status == 0 => Ok(Database { handle, columns: [0; 16], on_its_thread: PhantomData }),
+            Some(handle) if status == 0 => {
+                Ok(Database { handle: Rc::new(Opened(handle)), columns: [0; 16], on_its_thread: PhantomData })
+            }
             _ => Err(Error::Schema(word_of(status))),
         }
     }
@@ -242,7 +298,7 @@ impl Database {
     pub fn answer(&mut self, connection: u64, line: impl AsRef<[u8]>) -> String {
         let line = line.as_ref();
         let mut reply = vec![0; USUAL];
-        // SAFETY: the handle was opened on this thread and isn't closed, and is lent to this call alone; the slices lie apart.
+        // SAFETY: the handle was opened on this thread, which it can't leave, and isn't closed; no other call is under way; the slices lie apart.
         let length =
             unsafe { raw::weltiyo_ask(self.handle.as_ptr(), connection, line.as_ptr(), line.len(), reply.as_mut_ptr(), reply.len()) };
         reply.resize(length, 0);
@@ -473,14 +529,12 @@ impl Database {
 
     /// Undoes the newest session. It takes no memory.
     pub fn undo(&mut self) -> Result<(), Error> {
-        // SAFETY: as in `answer`.
-        number_of(unsafe { raw::weltiyo_undo(self.handle.as_ptr(), OWN) }).map(drop)
+        self.handle.undo()
     }
 
     /// Joins the newest session into the one below.
     pub fn squash(&mut self) -> Result<(), Error> {
-        // SAFETY: as in `answer`.
-        number_of(unsafe { raw::weltiyo_squash(self.handle.as_ptr(), OWN) }).map(drop)
+        self.handle.squash()
     }
 
     /// Ends the sessions up to the one of this revision, and answers how many: what was done in them can't be undone any more.
@@ -505,7 +559,7 @@ impl Database {
     pub fn session(&mut self) -> Result<Session<'_>, Error> {
         // SAFETY: as in `answer`.
         number_of(unsafe { raw::weltiyo_start(self.handle.as_ptr(), OWN) })?;
-        Ok(Session { db: self, is_over: false })
+        Ok(Session { began_in: Rc::clone(&self.handle), db: self, is_over: false })
     }
 
     /// A connection goes away: the sessions that it holds are undone. It takes no memory.
@@ -515,17 +569,12 @@ impl Database {
     }
 }
 
-impl Drop for Database {
-    fn drop(&mut self) {
-        // SAFETY: as in `answer`; nothing uses the handle behind this.
-        unsafe { raw::weltiyo_close(self.handle.as_ptr()) }
-    }
-}
-
-/// A session of a block. What is asked of it is asked of its database, so sessions within it end before it does.
+/// A session of a block. What is asked of it is asked of its database, so sessions within it end before it does. Where another database is put
+/// in the place of its own meanwhile, as by `mem::swap`, that one is asked; what ends is the session that was begun.
 #[derive(Debug)]
 pub struct Session<'a> {
     db: &'a mut Database,
+    began_in: Rc<Opened>,
     is_over: bool,
 }
 
@@ -533,13 +582,13 @@ impl Session<'_> {
     /// What was done is left to the session below, or stays where there is none.
     pub fn squash(mut self) -> Result<(), Error> {
         self.is_over = true;
-        self.db.squash()
+        self.began_in.squash()
     }
 
     /// All of it is undone now.
     pub fn undo(mut self) -> Result<(), Error> {
         self.is_over = true;
-        self.db.undo()
+        self.began_in.undo()
     }
 
     /// The session stays open behind the block; an undo, a squash or a commit of the database ends it.
@@ -552,7 +601,7 @@ impl Drop for Session<'_> {
     fn drop(&mut self) {
         if !self.is_over {
             // (it takes no memory, so it isn't refused; where a line of the caller's has ended the session, the one below is undone, if one is open)
-            let _ = self.db.undo();
+            let _ = self.began_in.undo();
         }
     }
 }

@@ -31,8 +31,9 @@ pub(crate) struct Room<'a> {
 }
 
 impl Page {
-    /// A page of at most so many rows.
+    /// A page of at most so many rows, and at most 1,000.
     pub fn new(most: usize) -> Page {
+        let most = most.min(raw::MOST_ROWS);
         Page {
             most,
             count: 0,
@@ -113,7 +114,7 @@ impl Page {
 impl Default for Page {
     /// A page of at most 1,000 rows, as a line's without a limit.
     fn default() -> Page {
-        Page::new(1000)
+        Page::new(raw::MOST_ROWS)
     }
 }
 

@@ -48,9 +48,13 @@ pub(crate) struct Told {
     pub(crate) number: u64,
 }
 
-/// The statuses that are told apart here: there is no such row, and no room for what is answered.
+/// The statuses that are told apart here: there is no such row, a unique index refuses, and there is no room for what is answered.
 pub(crate) const REFUSED_ID: u32 = 10;
+pub(crate) const REFUSED_UNIQUE: u32 = 14;
 pub(crate) const NO_ROOM: u32 = 19;
+
+/// The most rows that a page has.
+pub(crate) const MOST_ROWS: usize = 1000;
 
 /// Room that any row fits.
 pub(crate) const ROW_CELLS: usize = 16;

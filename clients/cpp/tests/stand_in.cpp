@@ -1,0 +1,224 @@
+// A stand-in for the library, for tests of the bindings where it isn't built: a table of (text, number, flag) whose rows are listed in the
+// order of their ids, and whose first column is unique by index 1. It does of each call what those tests ask for, and ends the process where a
+// caller doesn't keep what weltiyo.h says of handles and pointers.
+#include <algorithm>
+#include <cstdio>
+#include <cstdlib>
+#include <cstring>
+#include <map>
+#include <set>
+#include <string>
+#include <vector>
+
+#include <weltiyo.h>
+
+struct Record {
+    std::string text;
+    int64_t number;
+    bool flag;
+};
+
+using Table = std::map<uint64_t, Record>;
+
+struct Saved {
+    uint64_t connection;
+    Table table;
+};
+
+struct weltiyo_db {
+    Table table;
+    uint64_t next = 0;
+    std::vector<Saved> sessions;
+    std::string reply;
+};
+
+static thread_local std::set<weltiyo_db *> opened; // (a handle stays on its thread)
+
+static void owe(bool is_kept, const char *call, const char *what) {
+    if (!is_kept) {
+        std::fprintf(stderr, "%s: %s\n", call, what);
+        std::abort();
+    }
+}
+
+#define NOT_NULL(it) owe((it) != nullptr, __func__, "null " #it)
+
+static void owe_handle(weltiyo_db *handle, const char *call) {
+    owe(handle != nullptr, call, "null handle");
+    owe(opened.count(handle) == 1, call, "the handle is closed, or another thread's");
+}
+
+#define OPEN(handle) owe_handle(handle, __func__)
+
+static weltiyo_told told(uint64_t number) { return {0, 0, number}; }
+
+static weltiyo_told refused(uint32_t status) { return {status, 0, 0}; }
+
+static bool is_kept_out(const weltiyo_db *handle, uint64_t connection) {
+    return !handle->sessions.empty() && handle->sessions.back().connection != connection;
+}
+
+// Ends the newest session of a connection, and takes back what was done in it where it is undone.
+static weltiyo_told end_session(weltiyo_db *handle, uint64_t connection, bool is_undone) {
+    if (is_kept_out(handle, connection))
+        return refused(WELTIYO_REFUSED_BUSY);
+    if (handle->sessions.empty())
+        return refused(WELTIYO_REFUSED_SESSION);
+    if (is_undone)
+        handle->table = handle->sessions.back().table;
+    handle->sessions.pop_back();
+    return told(handle->sessions.size());
+}
+
+// Copies rows of so many bytes of texts, one behind another.
+static weltiyo_told copied(const std::vector<Table::const_iterator> &rows, size_t bytes, uint64_t *ids, weltiyo_value *out, char *texts) {
+    size_t at = bytes;
+    for (size_t n = rows.size(); n-- > 0;) {
+        const Record &it = rows[n]->second;
+        at -= it.text.size();
+        if (ids != nullptr)
+            ids[n] = rows[n]->first;
+        std::copy(it.text.begin(), it.text.end(), texts + at);
+        out[3 * n] = {WELTIYO_TEXT, 0, at, it.text.size()};
+        out[3 * n + 1] = {WELTIYO_INT, it.number, 0, 0};
+        out[3 * n + 2] = {static_cast<uint32_t>(it.flag ? WELTIYO_TRUE : WELTIYO_FALSE), 0, 0, 0};
+    }
+    return told(rows.size());
+}
+
+static std::string number_of(const char *name, weltiyo_told it) {
+    if (it.status != 0)
+        return std::string("{\"error\":\"") + weltiyo_refusal_word(it.status) + "\",\"ok\":false}";
+    return std::string("{\"ok\":true,\"") + name + "\":" + std::to_string(it.number) + "}";
+}
+
+static std::string answer(weltiyo_db *handle, uint64_t connection, const std::string &line) {
+    if (line == R"({"cmd":"start"})")
+        return number_of("revision", weltiyo_start(handle, connection));
+    if (line == R"({"cmd":"undo"})")
+        return number_of("revision", weltiyo_undo(handle, connection));
+    if (line == R"({"cmd":"size"})")
+        return number_of("size", weltiyo_size(handle, 0));
+    if (line != R"({"cmd":"revision"})")
+        return "{\"error\":\"form\",\"ok\":false}";
+    const std::string depth = std::to_string(handle->sessions.size());
+    return "{\"depth\":" + depth + ",\"held\":" + (is_kept_out(handle, connection) ? "0" : depth) + ",\"ok\":true,\"revision\":" + depth + "}";
+}
+
+extern "C" {
+
+uint32_t weltiyo_open(const void *schema, size_t, uint64_t, weltiyo_db **handle) {
+    NOT_NULL(schema);
+    *handle = new weltiyo_db;
+    opened.insert(*handle);
+    return WELTIYO_OK;
+}
+
+void weltiyo_close(weltiyo_db *handle) {
+    OPEN(handle);
+    opened.erase(handle);
+    delete handle;
+}
+
+void weltiyo_release(weltiyo_db *handle, uint64_t connection) {
+    OPEN(handle);
+    while (!handle->sessions.empty() && !is_kept_out(handle, connection))
+        end_session(handle, connection, true);
+}
+
+size_t weltiyo_ask(weltiyo_db *handle, uint64_t connection, const void *line, size_t length, void *out, size_t room) {
+    OPEN(handle);
+    NOT_NULL(line);
+    handle->reply = answer(handle, connection, std::string(static_cast<const char *>(line), length));
+    weltiyo_reply(handle, 0, out, room);
+    return handle->reply.size();
+}
+
+size_t weltiyo_reply(weltiyo_db *handle, size_t from, void *out, size_t room) {
+    OPEN(handle);
+    NOT_NULL(out);
+    const size_t count = std::min(room, handle->reply.size() - std::min(from, handle->reply.size()));
+    std::memcpy(out, handle->reply.data() + from, count);
+    return count;
+}
+
+weltiyo_told weltiyo_start(weltiyo_db *handle, uint64_t connection) {
+    OPEN(handle);
+    if (is_kept_out(handle, connection))
+        return refused(WELTIYO_REFUSED_BUSY);
+    handle->sessions.push_back({connection, handle->table});
+    return told(handle->sessions.size());
+}
+
+weltiyo_told weltiyo_undo(weltiyo_db *handle, uint64_t connection) {
+    OPEN(handle);
+    return end_session(handle, connection, true);
+}
+
+weltiyo_told weltiyo_squash(weltiyo_db *handle, uint64_t connection) {
+    OPEN(handle);
+    return end_session(handle, connection, false);
+}
+
+weltiyo_told weltiyo_undo_all(weltiyo_db *handle, uint64_t connection) {
+    OPEN(handle);
+    const size_t count = handle->sessions.size();
+    while (end_session(handle, connection, true).status == 0)
+        continue;
+    return told(count);
+}
+
+weltiyo_told weltiyo_insert(weltiyo_db *handle, uint64_t connection, size_t, const weltiyo_value *row, size_t count, const void *texts, size_t) {
+    OPEN(handle);
+    NOT_NULL(row);
+    NOT_NULL(texts);
+    if (is_kept_out(handle, connection))
+        return refused(WELTIYO_REFUSED_BUSY);
+    if (count != 3 || row[0].kind != WELTIYO_TEXT || row[1].kind != WELTIYO_INT || row[2].kind < WELTIYO_FALSE)
+        return refused(WELTIYO_REFUSED_ROW);
+    const std::string text(weltiyo_text(texts, &row[0]), row[0].length);
+    for (const auto &it : handle->table)
+        if (it.second.text == text)
+            return {WELTIYO_REFUSED_UNIQUE, 1, it.first};
+    handle->table[handle->next] = {text, row[1].integer, row[2].kind == WELTIYO_TRUE};
+    return told(handle->next++);
+}
+
+weltiyo_told weltiyo_size(weltiyo_db *handle, size_t) {
+    OPEN(handle);
+    return told(handle->table.size());
+}
+
+weltiyo_told weltiyo_get(weltiyo_db *handle, size_t, uint64_t id, weltiyo_value *row, size_t count, void *texts, size_t room) {
+    OPEN(handle);
+    NOT_NULL(row);
+    NOT_NULL(texts);
+    const auto found = handle->table.find(id);
+    if (found == handle->table.end())
+        return refused(WELTIYO_REFUSED_ID);
+    const size_t bytes = found->second.text.size();
+    if (count < 3 || room < bytes)
+        return {WELTIYO_NO_ROOM, 3, bytes};
+    copied({found}, bytes, nullptr, row, static_cast<char *>(texts));
+    return told(id);
+}
+
+weltiyo_told weltiyo_list(weltiyo_db *handle, size_t, size_t, uint32_t, uint64_t, uint64_t *ids, size_t most, weltiyo_value *rows, size_t values,
+                          void *texts, size_t room) {
+    OPEN(handle);
+    NOT_NULL(ids);
+    NOT_NULL(rows);
+    NOT_NULL(texts);
+    std::vector<Table::const_iterator> shown;
+    size_t bytes = 0;
+    for (auto it = handle->table.cbegin(); it != handle->table.cend() && shown.size() < std::min<size_t>(most, WELTIYO_MOST_ROWS); ++it) {
+        shown.push_back(it);
+        bytes += it->second.text.size();
+    }
+    if (values < 3 * shown.size() || room < bytes)
+        return {WELTIYO_NO_ROOM, static_cast<uint32_t>(3 * shown.size()), bytes};
+    weltiyo_told page = copied(shown, bytes, ids, rows, static_cast<char *>(texts));
+    page.index = shown.size() < handle->table.size();
+    return page;
+}
+}
