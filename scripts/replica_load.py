@@ -132,8 +132,8 @@ class Reader(threading.Thread):
     def __init__(self, port, register):
         super().__init__(daemon=True)
         self._port, self._register, self._ends = port, register, threading.Event()
-        self.current = 0
-        self.stale = []
+        self.told, self.current = 0, 0
+        self.stale, self.error = [], None
 
     def run(self):
         while not self._ends.is_set():
@@ -142,6 +142,9 @@ class Reader(threading.Thread):
                     self._read(stream)
             except OSError:
                 time.sleep(0.05)
+            except Exception as error:  # (it is told by the main thread)
+                self.error = error
+                return
 
     def _read(self, stream):
         """Where the member doesn't answer it connects anew, so that what it answers when it wakes was asked shortly before."""
@@ -164,6 +167,7 @@ class Reader(threading.Thread):
                 del lines[:3]
 
     def _judge(self, low, before, found, behind):
+        self.told += 1
         if before["role"] == behind["role"] == "leader" and before["term"] == behind["term"] and found["ok"]:
             self.current += 1
             if found["row"]["balance"] < low:
@@ -229,10 +233,28 @@ def check_tables(ports, reference):
                 raise Differs(f"member {port} answers {told} to {look}, and the reference {wanted}")
 
 
+def check_readers(readers):
+    """Each member was read; some look-ups were of one that led, and none of them was stale. How many those were."""
+    for it in readers:
+        if it.stale:
+            raise Differs(f"a look-up of the leader was stale: {it.stale[0]}")
+        if not it.told:
+            raise Stuck("a member never told what it is, so none of its look-ups was compared")
+    current = sum(it.current for it in readers)
+    if not current:
+        raise Stuck("no member led while it was read, so no look-up was compared")
+    return current
+
+
+def look_for_errors(clients):
+    """No client has ended by itself."""
+    for it in clients:
+        if it.error:
+            raise Stuck(f"a client: {it.error!r}")
+
+
 def first_done(talkers, since):
     """When a change was acknowledged first behind this moment, or None; those that were acknowledged before aren't looked at again."""
     found = [it.at for talker in talkers for it in talker.sent[-50:] if it.reply and it.at > since and belongs(it.reply)]
-    for it in talkers:
-        if it.error:
-            raise Stuck(f"a client: {it.error!r}")
+    look_for_errors(talkers)
     return min(found) if found else None

@@ -20,7 +20,7 @@ import time
 import program
 import replica_figures
 from replica_kit import Etcds, Folder, Members, Recorder, Stuck, until
-from replica_load import REGISTER, Differs, Reader, Register, Talker, check_tables, check_talker, first_done, replayed
+from replica_load import REGISTER, Differs, Reader, Register, Talker, check_readers, check_tables, check_talker, first_done, look_for_errors, replayed
 
 from mi_client import connect_leader
 
@@ -118,6 +118,9 @@ class Run:
             it.end()
         for it in (*self.talkers, *self.readers):
             it.join(LONGEST_WAIT)
+            if it.is_alive():
+                raise Stuck(f"a client: it hadn't ended after {LONGEST_WAIT} s")
+        look_for_errors((*self.talkers, *self.readers))
         self.members.wait_for_leader()
         entries = self.settled()
         reference, replies, places = replayed(entries)
@@ -125,14 +128,12 @@ class Run:
         self.members.wait_until_equal(len(entries))
         check_tables(self.members.ports, reference)
         self.look_for_divergence()
-        stale = [text for it in self.readers for text in it.stale]
-        if stale:
-            raise Differs(f"a look-up of the leader was stale: {stale[0]}")
+        current = check_readers(self.readers)
         acknowledged, unknown = map(sum, zip(*counts))
         checkpoints = [self.members.status(n)["checkpoint"] for n in range(3)]
         return (
             f"{len(self.waits)} failures, {len(entries)} entries of {len(replies)} lines, {acknowledged} acknowledged, {unknown} unknown, "
-            f"{sum(it.current for it in self.readers)} look-ups of leaders, checkpoints {checkpoints}, log from {self.recorder.first}"
+            f"{current} look-ups of leaders, checkpoints {checkpoints}, log from {self.recorder.first}"
         )
 
     def settled(self):
@@ -204,6 +205,9 @@ def main():
     parser.add_argument("--client", help="a folder with another mi_replica, which the members run")
     parser.add_argument("--figures", action="store_true")
     options = parser.parse_args()
+    unknown = set(options.kinds.split(",") if options.kinds else ()) - set(KINDS)
+    if unknown:
+        parser.error(f"no kind of failure: {', '.join(sorted(unknown))}")
     if not shutil.which("etcd"):
         print("skipped: replica_test.py needs etcd (apt-get install etcd-server)")
         return 0
@@ -215,6 +219,8 @@ def main():
         if options.figures:
             return replica_figures.told(options.program)
         waits = runs(options)
+        if not waits:
+            raise Stuck("no failure was begun, so nothing was checked")
     except (Differs, Stuck) as error:
         print(f"{type(error).__name__}: {error}")
         return 1

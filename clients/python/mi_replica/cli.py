@@ -9,8 +9,8 @@ import signal
 import sys
 from typing import Any, Dict, List, Optional, Tuple
 
-from mi_replica.etcd import Rejected, Unreachable
-from mi_replica.log import Log, Snapshot
+from mi_replica.etcd import Rejected, Unreachable, place
+from mi_replica.log import Log, OtherLedger, Snapshot
 from mi_replica.member import Member, OtherSchema, Settings
 from mi_replica.own import Gone
 
@@ -54,9 +54,14 @@ def main(words: Optional[List[str]] = None) -> int:
     if not 0 <= options.margin < options.lease:
         made.error("--margin is less than --lease")
     try:
+        for it in options.etcd.split(","):
+            place(it)
+    except ValueError as error:
+        made.error(f"--etcd: {error}")
+    try:
         return asyncio.run(status(options)) if options.status else asyncio.run(serve(options))
-    except OtherSchema as error:
-        print(f"mi_replica: schema: {error}", file=sys.stderr)
+    except (OtherSchema, OtherLedger) as error:
+        print(f"mi_replica: {'schema' if isinstance(error, OtherSchema) else 'ledger'}: {error}", file=sys.stderr)
         return 3
     except (OSError, Rejected, Gone) as error:
         print(f"mi_replica: {error}", file=sys.stderr)

@@ -5,8 +5,8 @@ from __future__ import annotations
 import asyncio
 import base64
 import json
+import re
 from typing import Any, AsyncIterator, Dict, List, Optional, Sequence, Tuple
-from urllib.parse import urlsplit
 
 Message = Dict[str, Any]
 Streams = Tuple[asyncio.StreamReader, asyncio.StreamWriter]
@@ -15,6 +15,7 @@ LARGEST_HEAD = 1 << 16
 CONNECT_SECONDS = 1.0
 EXHAUSTED = 8
 """The code of an answer for want of room, which may be there later."""
+URL = re.compile(r"http://([A-Za-z0-9._-]+|\[[0-9A-Fa-f:.]+\]):([0-9]{1,5})")
 
 
 class Unreachable(OSError):
@@ -34,17 +35,25 @@ def text64(data: bytes) -> str:
     return base64.b64encode(data).decode()
 
 
+def place(url: str) -> Tuple[str, int]:
+    """The host and the port of http://HOST:PORT. Raises ValueError for whatever else: half a URL would be taken for another place, and
+    https isn't spoken."""
+    found = URL.fullmatch(url)
+    if not found or not 0 < int(found[2]) < 1 << 16:
+        raise ValueError(f"{url!r} isn't http://HOST:PORT, which is all that is taken (etcd over TLS isn't supported)")
+    return found[1].strip("[]"), int(found[2])
+
+
 def behind(prefix: bytes) -> bytes:
     """The end of the range of all keys with this prefix."""
     return prefix[:-1] + bytes([prefix[-1] + 1])
 
 
 class Etcd:
-    """One exchange at a time with one of the members at `urls`, which are http://HOST:PORT."""
+    """One exchange at a time with one of the members at `urls`, which are http://HOST:PORT; else ValueError is raised."""
 
     def __init__(self, urls: Sequence[str], timeout: float) -> None:
-        parts = [urlsplit(it) for it in urls]
-        self._places = [(it.hostname or "127.0.0.1", it.port or 2379) for it in parts]
+        self._places = [place(it) for it in urls]
         self._timeout, self._at = timeout, 0
         self._streams: Optional[Streams] = None
         self._lock = asyncio.Lock()
@@ -157,6 +166,16 @@ def is_made_at(key: bytes, revision: int) -> Message:
     return {"key": text64(key), "target": "CREATE", "result": "EQUAL", "create_revision": str(revision)}
 
 
+def is_changed_at(key: bytes, revision: int) -> Message:
+    """Compares: the transaction of this revision was the last that put the key."""
+    return {"key": text64(key), "target": "MOD", "result": "EQUAL", "mod_revision": str(revision)}
+
+
+def is_value(key: bytes, value: bytes, result: str = "EQUAL") -> Message:
+    """Compares: the key is there and its value is this one, or is LESS than it, byte by byte."""
+    return {"key": text64(key), "target": "VALUE", "result": result, "value": text64(value)}
+
+
 def put(key: bytes, value: bytes, lease: int = 0) -> Message:
     more = {"lease": str(lease)} if lease else {}
     return {"request_put": {"key": text64(key), "value": text64(value), **more}}
@@ -168,22 +187,32 @@ def ranged(key: bytes, end: bytes = b"", limit: int = 0) -> Message:
     return {"request_range": {"key": text64(key), "limit": str(limit), **more}}
 
 
+def counted(key: bytes) -> Message:
+    """How many keys of this name there are, 0 or 1, without the value."""
+    return {"request_range": {"key": text64(key), "count_only": True}}
+
+
 def deleted(key: bytes, end: bytes) -> Message:
     return {"request_delete_range": {"key": text64(key), "range_end": text64(end)}}
 
 
 class Pair:
-    """A key with its value and the revision at which it was made."""
+    """A key with its value and the revisions at which it was made and put last."""
 
     def __init__(self, found: Message) -> None:
         self.key = base64.b64decode(found["key"])
         self.value = base64.b64decode(found.get("value", ""))
-        self.made = int(found.get("create_revision", 0))
+        self.made, self.changed = int(found.get("create_revision", 0)), int(found.get("mod_revision", 0))
 
 
 def pairs(answer: Message, which: int) -> List[Pair]:
     """What the range at this place of a transaction found."""
     return [Pair(it) for it in answer["responses"][which].get("response_range", {}).get("kvs", [])]
+
+
+def count(answer: Message, which: int) -> int:
+    """How many keys the range at this place of a transaction counted."""
+    return int(answer["responses"][which].get("response_range", {}).get("count", 0))
 
 
 def revision(answer: Message) -> int:

@@ -7,7 +7,7 @@ from typing import Callable, Iterator, List, Optional, Tuple
 
 from mi_replica import lines as known
 from mi_replica.clients import Client, Clients
-from mi_replica.log import AGAIN_SECONDS, MOST_BYTES, Leader, Log, Snapshot
+from mi_replica.log import AGAIN_SECONDS, MOST_BYTES, Leader, Log, OtherLedger, Snapshot
 from mi_replica.etcd import Unreachable
 from mi_replica.own import Own
 from mi_replica.tasks import end
@@ -19,7 +19,11 @@ SLOW_SECONDS = 0.02
 
 
 class Diverged(Exception):
-    """The own server refused a line of the log."""
+    """The own server refused a line of the log, by this reply."""
+
+    def __init__(self, place: str, reply: bytes, line: bytes) -> None:
+        super().__init__(f"{place}: {reply[:120]!r} to {line[:120]!r}")
+        self.reply = reply
 
 
 class Behind(Exception):
@@ -39,7 +43,7 @@ async def replay(own: Own, lines: List[bytes], place: str) -> None:
     """Asks lines of a journal. Raises Diverged where one isn't done."""
     for line, reply in zip(lines, await own.ask(lines)):
         if not known.belongs(reply):
-            raise Diverged(f"{place}: {reply[:120]!r} to {line[:120]!r}")
+            raise Diverged(place, reply, line)
 
 
 class Following:
@@ -52,7 +56,7 @@ class Following:
         self.on_member: Callable[[], bytes] = lambda: b"{}"
 
     async def until_vacant(self) -> None:
-        """Follows the log until there is no leader, and answers look-ups meanwhile. Raises Behind, Diverged and Gone."""
+        """Follows the log until there is no leader, and answers look-ups meanwhile. Raises Behind, Diverged, Gone and OtherLedger."""
         self._is_done = False
         tasks = [asyncio.ensure_future(it) for it in (self._follow(), self._answer())]
         try:
@@ -76,6 +80,8 @@ class Following:
                 continue
             if found.first > self.number + 1:
                 raise Behind(found.first)
+            if not found.is_known:
+                raise OtherLedger(f"etcd's log ends before entry {self.number}, up to which this member has it: it has lost what was acknowledged")
             await self._apply(found.entries)
             self.leader = found.leader
             if not found.more:

@@ -19,6 +19,7 @@ MAY_CHANGE = tuple(
 JSON = b'{"error":"json","ok":false}'
 FORM = b'{"error":"form","ok":false}'
 BUSY = b'{"error":"busy","ok":false}'
+MEMORY = b'{"error":"memory","ok":false}'
 HELD = re.compile(rb'"held":(\d+)')
 
 

@@ -3,18 +3,24 @@ entries one behind the other are one journal. It knows nothing of servers and cl
 
     NAME/log/<20 digits>   an entry, from 1 on
     NAME/leader            who may append, while its lease lives; the revision at which the key was made is the leader's term
-    NAME/first             the first entry that is still there, once some have left
+    NAME/first             the first entry that is still there: 20 digits, so that values are in the order of their numbers
+    NAME/identity          16 random digits from the ledger's beginning: etcd begun anew has a ledger of this name with others
     NAME/schema            what identifies the schema, so that no member of another one takes part
     NAME.members/ID        what a member says of itself, while its lease lives
-"""
+
+etcd may do a request late that was given up for want of an answer: its member stood still, or the network kept it. So each transaction that
+changes something compares what it stands on, and one that others have overtaken is refused: an entry is new, the first entry is a later one than it
+was, the leader's key is as this member has last known it."""
 from __future__ import annotations
 
 import asyncio
 import json
+import secrets
 import time
 from typing import Any, AsyncIterator, Dict, List, NamedTuple, Optional, Sequence, Tuple
 
-from mi_replica.etcd import Etcd, Message, Pair, Rejected, Unreachable, behind, deleted, is_made_at, is_new, pairs, put, ranged, revision, text64
+from mi_replica.etcd import Etcd, Message, Pair, Rejected, Unreachable, behind, count, counted, deleted, is_changed_at, is_made_at, is_new, is_value
+from mi_replica.etcd import pairs, put, ranged, revision, text64
 
 MOST_BYTES = 1_000_000
 """The most bytes of an entry: etcd takes requests of 1,572,864 bytes unless it is told otherwise."""
@@ -36,6 +42,10 @@ class Lost(Exception):
     """This member may append no more: its term has ended."""
 
 
+class OtherLedger(Exception):
+    """The ledger of this name isn't the one that this member has lines of, or has lost some that it has."""
+
+
 class Leader(NamedTuple):
     term: int
     said: Said
@@ -43,10 +53,20 @@ class Leader(NamedTuple):
 
 class Term:
     """A time in which one member may append. `holds` says whether it lasts, by this machine's clock and less a margin: etcd ends it no
-    earlier than `seconds` behind the last request that prolonged it."""
+    earlier than `seconds` behind the beginning of the last request that has prolonged it and was answered.
+
+    That holds however late etcd does requests that weren't answered. A request first gets a lease, which lives for `seconds` from its grant,
+    so from behind the beginning of the request; then it puts the leader's key with that lease, comparing that the key was put last by the
+    transaction of the revision `changed`. Once one is answered, those that were sent before it compare an older revision and are refused
+    for good. Those that are sent behind it have leases that were granted behind its beginning. So the key's lease is always one that was
+    granted behind the beginning of the last answered request, and the key is there until that lease ends. How long an answer is waited
+    for (REQUEST_SECONDS) has no part in this: it decides how soon another member of etcd is asked, so how long a lease outlives one that
+    stands still."""
 
     def __init__(self, number: int, value: bytes, seconds: int, margin: float) -> None:
         self.number, self.value, self.seconds = number, value, seconds
+        self.changed = number
+        """The revision of the last transaction known to have put the leader's key; at first the one that made it."""
         self._margin, self._until = margin, 0.0
 
     def holds(self) -> bool:
@@ -58,13 +78,15 @@ class Term:
 
 
 class Snapshot(NamedTuple):
-    """What stood in etcd at one moment: the entries behind a number (some of them, where `more`), and who may append."""
+    """What stood in etcd at one moment: the entries behind a number (some of them, where `more`), and who may append. `is_known` says that
+    the entry of this number is there itself, or was and has left the log."""
 
     entries: List[Tuple[int, bytes]]
     more: bool
     first: int
     leader: Optional[Leader]
     revision: int
+    is_known: bool = True
 
 
 class News(NamedTuple):
@@ -86,7 +108,9 @@ def leader_of(found: Sequence[Pair]) -> Optional[Leader]:
 class Log:
     def __init__(self, urls: Sequence[str], name: str) -> None:
         self._prefix, self._members = f"{name}/".encode(), f"{name}.members/".encode()
-        self._leader, self._first, self._schema = (self._prefix + it for it in (b"leader", b"first", b"schema"))
+        self._leader, self._first, self._schema, self._identity = (self._prefix + it for it in (b"leader", b"first", b"schema", b"identity"))
+        self.name, self.identity = name, ""
+        """The identity is that of the ledger that was agreed on. Behind that nothing is read of another, or put into it."""
         self._entries = self._prefix + b"log/"
         self._compacted, self._page = 0, LEAST_PAGE
         # (a connection for each purpose, so that a term isn't kept waiting behind an entry)
@@ -102,16 +126,26 @@ class Log:
     def _number(self, key: bytes) -> int:
         return int(key[len(self._entries):])
 
+    def _here(self, asked: Message) -> Message:
+        """A transaction that isn't done in another ledger of this name."""
+        mine = [is_value(self._identity, self.identity.encode())] if self.identity else []
+        return {**asked, "compare": [*asked["compare"], *mine]}
+
     async def read(self, after: int, limit: int = 0) -> Snapshot:
-        """The entries behind this number, as they stand, `limit` of them at most. Raises Unreachable."""
+        """The entries behind this number, as they stand, `limit` of them at most. Raises Unreachable and OtherLedger."""
         limit = limit or self._page
         parts = [ranged(self._key(after + 1), behind(self._entries), limit + 1), ranged(self._leader), ranged(self._first)]
+        parts += [ranged(self._identity), counted(self._key(after))]
         answer = await self._reading.post("/v3/kv/txn", {"success": parts})
-        found, first = pairs(answer, 0), pairs(answer, 2)
+        if self.identity and [it.value.decode() for it in pairs(answer, 3)] != [self.identity]:
+            raise OtherLedger(f"etcd was begun anew: its ledger {self.name} isn't the one any more that this member has been in. Start it again")
+        found, begin = pairs(answer, 0), pairs(answer, 2)
+        first = int(begin[0].value) if begin else 1
         entries = [(self._number(it.key), it.value) for it in found]
         average = sum(len(value) for _, value in entries) // max(1, len(entries)) or 1
         self._page = max(LEAST_PAGE, min(MOST_PAGE, PAGE_BYTES // average))
-        return Snapshot(entries[:limit], len(entries) > limit, int(first[0].value) if first else 1, leader_of(pairs(answer, 1)), revision(answer))
+        is_known = after < first or count(answer, 4) > 0
+        return Snapshot(entries[:limit], len(entries) > limit, first, leader_of(pairs(answer, 1)), revision(answer), is_known)
 
     async def last(self) -> int:
         """The number of the last entry; 0 where there is none."""
@@ -146,7 +180,7 @@ class Log:
             "success": [put(self._key(number), value)],
             "failure": [ranged(self._key(number)), ranged(self._leader)],
         }
-        answer = await self._until_answered(self._appending, "/v3/kv/txn", asked)
+        answer = await self._until_answered(self._appending, "/v3/kv/txn", self._here(asked))
         if answer.get("succeeded"):
             return
         found, leader = pairs(answer, 0), leader_of(pairs(answer, 1))
@@ -172,17 +206,25 @@ class Log:
         """Lets a term go on. Raises Lost and Unreachable.
 
         The leader's key gets a new lease, in the place of one that is kept alive: a member of etcd that was its leader and doesn't know yet
-        that it isn't would answer that a lease lives, but can't grant one."""
+        that it isn't would answer that a lease lives, but can't grant one. Where an earlier request wasn't answered and was done after all,
+        the key is another than was known: then it is as it was read, and put behind that."""
         began = clock()
         again = put(self._leader, term.value, await self._granted(term.seconds))
-        answer = await self._put_with_lease({"compare": [is_made_at(self._leader, term.number)], "success": [again]})
-        if not answer.get("succeeded"):
-            raise Lost("the lease has ended")
+        while True:
+            known = [is_made_at(self._leader, term.number), is_changed_at(self._leader, term.changed)]
+            answer = await self._put_with_lease({"compare": known, "success": [again], "failure": [ranged(self._leader)]})
+            if answer.get("succeeded"):
+                break
+            found = pairs(answer, 0)
+            if not found or found[0].made != term.number or found[0].changed == term.changed:
+                raise Lost("the lease has ended")
+            term.changed = found[0].changed
+        term.changed = revision(answer)
         term.prolong(began)
 
     async def _put_with_lease(self, asked: Message) -> Message:
         try:
-            return await self._electing.post("/v3/kv/txn", asked)
+            return await self._electing.post("/v3/kv/txn", self._here(asked))
         except Rejected as error:
             if error.code == NOT_FOUND:  # (the new lease has ended already, on a machine that has too much to do)
                 raise Unreachable(str(error)) from error
@@ -198,18 +240,24 @@ class Log:
         """Ends a term, where it hasn't ended, so that others needn't wait for that."""
         ended = {"compare": [is_made_at(self._leader, term.number)], "success": [deleted(self._leader, self._leader + b"\0")]}
         try:
-            await self._electing.post("/v3/kv/txn", ended)
+            await self._electing.post("/v3/kv/txn", self._here(ended))
         except (Unreachable, Rejected):
             pass
 
     async def forget(self, number: int, term: Term) -> None:
-        """Takes the entries up to this number out of the log. Raises Lost."""
+        """Takes the entries up to this number out of the log. Raises Lost. Where the log begins is never turned back."""
+        first = b"%020d" % (number + 1)
         asked = {
-            "compare": [is_made_at(self._leader, term.number)],
-            "success": [deleted(self._entries, self._key(number + 1)), put(self._first, b"%d" % (number + 1))],
+            "compare": [is_made_at(self._leader, term.number), is_value(self._first, first, "LESS")],
+            "success": [deleted(self._entries, self._key(number + 1)), put(self._first, first)],
+            "failure": [ranged(self._leader), ranged(self._first)],
         }
-        answer = await self._until_answered(self._reading, "/v3/kv/txn", asked)
-        if not answer.get("succeeded"):
+        answer = await self._until_answered(self._reading, "/v3/kv/txn", self._here(asked))
+        if answer.get("succeeded"):
+            return
+        leader, found = leader_of(pairs(answer, 0)), pairs(answer, 1)
+        # (they may have left by this request, when it wasn't answered)
+        if not (leader and leader.term == term.number and found and found[0].value >= first):
             raise Lost("the lease has ended")
 
     async def compact(self) -> None:
@@ -229,13 +277,27 @@ class Log:
     # Members
 
     async def agree(self, schema: str) -> str:
-        """What identifies the ledger's schema: this one, where no member came before."""
-        asked = {"compare": [is_new(self._schema)], "success": [put(self._schema, schema.encode())], "failure": [ranged(self._schema)]}
+        """What identifies the ledger's schema: this one, where no member came before. The ledger is begun then, with an identity of its own.
+        Raises OtherLedger."""
+        made = secrets.token_hex(8)
+        asked = {
+            "compare": [is_new(self._schema)],
+            "success": [put(self._schema, schema.encode()), put(self._identity, made.encode()), put(self._first, b"%020d" % 1)],
+            "failure": [ranged(self._schema), ranged(self._identity)],
+        }
         answer = await self._until_answered(self._reading, "/v3/kv/txn", asked)
-        return schema if answer.get("succeeded") else pairs(answer, 0)[0].value.decode()
+        if answer.get("succeeded"):
+            self.identity = made
+            return schema
+        found = pairs(answer, 1)
+        if not found:
+            raise OtherLedger(f"the ledger {self.name} has no identity in etcd: an earlier mi_replica began it. Begin one of another name")
+        self.identity = found[0].value.decode()
+        return pairs(answer, 0)[0].value.decode()
 
     async def say(self, name: str, said: Said, lease: int) -> None:
-        await self._reading.post("/v3/kv/txn", {"success": [put(self._members + name.encode(), json.dumps(said).encode(), lease)]})
+        told = put(self._members + name.encode(), json.dumps(said).encode(), lease)
+        await self._reading.post("/v3/kv/txn", self._here({"compare": [], "success": [told]}))
 
     async def members(self) -> Dict[str, Said]:
         answer = await self._reading.post("/v3/kv/txn", {"success": [ranged(self._members, behind(self._members))]})

@@ -17,8 +17,8 @@ from mi_replica.clients import Clients
 from mi_replica.etcd import Rejected, Unreachable
 from mi_replica.following import Behind, Diverged, Following, replay
 from mi_replica.leading import Leading
-from mi_replica.lines import REVISION, said
-from mi_replica.log import AGAIN_SECONDS, Lease, Log, Lost, Term
+from mi_replica.lines import MEMORY, REVISION, said
+from mi_replica.log import AGAIN_SECONDS, Lease, Log, Lost, Term, clock
 from mi_replica.own import Gone, Own, own_of
 from mi_replica.tasks import end, first_ended
 
@@ -29,13 +29,21 @@ FORGET_SECONDS = 5.0
 LEAST_COPIES = 2
 """An entry leaves the log where so many members have it in their checkpoints."""
 FETCH_SECONDS = 600.0
+SILENT_SECONDS = 10.0
+"""A member that sends nothing of its checkpoint for so long is given up, and the next one asked."""
 PAUSE_SECONDS = 0.5
+REST_SECONDS = 30.0
+"""So long behind a checkpoint that couldn't be written none is tried."""
 END_SECONDS = 5.0
 """So long a member takes at most to give its term back at its end."""
 
 
 class OtherSchema(Exception):
     """The ledger belongs to another schema."""
+
+
+class Damaged(Exception):
+    """A checkpoint isn't what was written."""
 
 
 class Settings(NamedTuple):
@@ -78,16 +86,17 @@ class Member:
         self._clients = Clients()
         self._clients.on_checkpoint = self._send_checkpoint
         self._temporary = tempfile.TemporaryDirectory(prefix="mi_replica-")
-        self._folder = Folder(settings.folder or self._temporary.name, settings.name)
         self._role, self._leader, self._term, self._number = "starting", "", 0, 0
         self._schema, self._header = "", b""
         self._tail: List[Tuple[int, bytes]] = []
         self._tail_bytes = 0
-        self._checkpoint = self._folder.newest()[0]
+        self._checkpoint = 0
+        """The entry up to which it has a checkpoint that it has loaded or written, so one that others may count on."""
         self._writing: Optional["asyncio.Future[None]"] = None
+        self._rests_until = 0.0
 
     async def run(self) -> None:
-        """Until it is cancelled. Raises OSError where the port is taken, and OtherSchema."""
+        """Until it is cancelled. Raises OSError where the port is taken, OtherSchema and OtherLedger."""
         server = await asyncio.start_server(self._clients.serve, self._settings.host, self._settings.port)
         try:
             await first_ended([self._lease.keep(), self._say(), self._live()], END_SECONDS)
@@ -103,11 +112,12 @@ class Member:
         found = await self._log.agree(self._schema)
         if found != self._schema:
             raise OtherSchema(f"{self._settings.name} belongs to the schema {found}, and this one is {self._schema}")
+        self._folder = Folder(self._settings.folder or self._temporary.name, self._settings.name, self._log.identity)
         while True:
             own = own_of(self._settings.program, self._settings.schema, self._settings.body)
             try:
                 await self._once(own)
-            except (Lost, Gone, Diverged, Rejected, ValueError) as error:
+            except (Lost, Gone, Diverged, Damaged, Rejected, ValueError) as error:
                 note(f"begins anew: {type(error).__name__}: {error}")
                 await asyncio.sleep(0 if isinstance(error, Lost) else PAUSE_SECONDS)
             except Behind as behind:
@@ -142,14 +152,21 @@ class Member:
             await self._log.resign(term)
 
     async def _load(self, own: Own) -> int:
-        """Asks the server the newest checkpoint, and answers up to which entry that goes."""
+        """Asks the server the newest checkpoint, and answers up to which entry that goes. One that can't be read, or that the server refuses,
+        is set aside, so that the next server begins with what others have."""
         if self._writing:
             await asyncio.wait([self._writing])
         fresh = json.loads((await own.ask([REVISION]))[0])
         self._header = self._header or header(fresh["revision"], self._schema)
         number, path = self._folder.newest()
-        for lines in batches(path) if path else ():
-            await replay(own, lines, str(path))
+        try:
+            for lines in batches(path) if path else ():
+                await replay(own, lines, str(path))
+        except (ValueError, Diverged) as error:
+            if isinstance(error, Diverged) and error.reply == MEMORY:
+                raise
+            self._checkpoint = 0
+            raise Damaged(f"{error}; the checkpoint is set aside as {self._folder.set_aside(number)}") from error
         self._tail, self._tail_bytes, self._checkpoint = [], 0, number
         return number
 
@@ -191,7 +208,7 @@ class Member:
         before: Tuple[int, Dict[str, Any]] = (0, {})
         while True:
             now = (self._lease.id, self._said())
-            if now != before and self._lease.id:
+            if now != before and self._lease.id and self._log.identity:
                 try:
                     await self._log.say(self._address, now[1], now[0])
                     before = now
@@ -207,19 +224,20 @@ class Member:
         if self._settings.folder:
             self._tail.append((number, value))
             self._tail_bytes += len(value)
-            if self._tail_bytes >= self._settings.checkpoint and not self._writing:
+            if self._tail_bytes >= self._settings.checkpoint and not self._writing and clock() >= self._rests_until:
                 self._writing = asyncio.ensure_future(self._write())
 
     async def _write(self) -> None:
-        """Writes a checkpoint of what it has, while it goes on."""
-        number, values = self._number, [value for _, value in self._tail]
+        """Writes a checkpoint of what it has, while it goes on. Where that fails the entries are kept for the next one."""
+        number, taken, size = self._number, self._tail, self._tail_bytes
         self._tail, self._tail_bytes = [], 0
         try:
-            await asyncio.get_running_loop().run_in_executor(None, self._folder.write, number, self._header, values)
+            await asyncio.get_running_loop().run_in_executor(None, self._folder.write, number, self._header, taken)
             self._checkpoint = number
-        except OSError as error:
-            note(f"no checkpoint: {error}")
-            self._tail_bytes = -(1 << 62)  # (none is written before it begins anew, since lines are lacking)
+        except (OSError, ValueError) as error:
+            self._tail, self._tail_bytes = taken + self._tail, size + self._tail_bytes
+            self._rests_until = clock() + REST_SECONDS
+            note(f"no checkpoint, and {self._tail_bytes} bytes that wait for one in memory; the next is tried in {REST_SECONDS:.0f} s: {error}")
         finally:
             self._writing = None
 
@@ -231,47 +249,69 @@ class Member:
             try:
                 found = [int(it["checkpoint"]) for it in (await self._log.members()).values()]
                 if len(found) >= LEAST_COPIES and min(found) > done:
+                    await self._log.forget(min(found), term)
                     done = min(found)
-                    await self._log.forget(done, term)
                 await self._log.compact()
             except (Unreachable, Rejected, Lost) as error:
                 note(f"the log stays as it is: {error}")
 
     async def _send_checkpoint(self, writer: asyncio.StreamWriter) -> None:
-        """Sends the newest checkpoint behind a line that says how long it is."""
-        number, path = self._folder.newest()
-        if not path:
+        """Sends the checkpoint that it tells of, behind a line that says of which ledger it is and how long."""
+        number, identity = self._checkpoint, self._log.identity
+        try:
+            file = open(self._folder.file(number), "rb") if number else None
+        except OSError:  # (a newer one has just taken its place)
+            file = None
+        if not file:
             writer.write(b'{"error":"checkpoint","ok":false}\n')
             return
-        with open(path, "rb") as file:
-            writer.write(said({"bytes": os.fstat(file.fileno()).st_size, "entry": number, "ok": True}) + b"\n")
+        with file:
+            members = {"bytes": os.fstat(file.fileno()).st_size, "entry": number, "identity": identity, "ok": True}
+            writer.write(said(members) + b"\n")
             for piece in iter(lambda: file.read(1 << 18), b""):
                 writer.write(piece)
                 await writer.drain()
 
     async def _fetch(self, first: int) -> None:
-        """Takes a checkpoint of another member that goes up to where the log begins."""
+        """Takes a checkpoint of another member that goes up to where the log begins, of the first that gives it."""
         try:
-            others = {name: it for name, it in (await self._log.members()).items() if it["checkpoint"] >= first - 1 and name != self._address}
-            for name in others:
-                await asyncio.wait_for(self._fetch_from(name), FETCH_SECONDS)
-                return
-        except (OSError, EOFError, ValueError, KeyError, asyncio.TimeoutError) as error:
+            told = await self._log.members()
+        except (Unreachable, Rejected) as error:
+            told = {}
             note(f"no checkpoint was taken: {error}")
+        others = [it for it in told if told[it]["checkpoint"] >= first - 1 and it != self._address]
+        if told and not others:
+            note(f"none of the members that are there has a checkpoint up to entry {first - 1}")
+        for name in others:
+            try:
+                await asyncio.wait_for(self._fetch_from(name, first - 1), FETCH_SECONDS)
+                return
+            except (OSError, EOFError, ValueError, KeyError, TypeError, asyncio.TimeoutError) as error:
+                note(f"no checkpoint was taken from {name}: {error or 'no answer in time'}")
         await asyncio.sleep(PAUSE_SECONDS)
 
-    async def _fetch_from(self, address: str) -> None:
+    async def _fetch_from(self, address: str, least: int) -> None:
         host, _, port = address.rpartition(":")
-        reader, writer = await asyncio.open_connection(host, int(port))
+        reader, writer = await asyncio.wait_for(asyncio.open_connection(host, int(port)), SILENT_SECONDS)
         try:
             writer.write(b'{"cmd":"checkpoint"}\n')
-            found = json.loads(await reader.readline())
-            left = found["bytes"]
-            with self._folder.written(found["entry"]) as target:
+            number, left = offered(await asyncio.wait_for(reader.readline(), SILENT_SECONDS), self._log.identity, least)
+            with self._folder.written(number) as target:
                 while left:
-                    piece = await reader.readexactly(min(left, 1 << 16))
+                    piece = await asyncio.wait_for(reader.readexactly(min(left, 1 << 16)), SILENT_SECONDS)
                     target.write(piece)
                     left -= len(piece)
-            note(f"has the checkpoint of {address} up to entry {found['entry']}")
+            note(f"has the checkpoint of {address} up to entry {number}")
         finally:
             writer.transport.abort()
+
+
+def offered(line: bytes, identity: str, least: int) -> Tuple[int, int]:
+    """The entry and the bytes of a checkpoint, as a member says before it sends it. Raises ValueError where that is of another ledger, or
+    doesn't go as far as this entry."""
+    found = json.loads(line)
+    if not isinstance(found, dict) or not found.get("ok"):
+        raise ValueError(f"it answers {line[:80]!r}")
+    if found.get("identity") != identity or int(found["entry"]) < least:
+        raise ValueError(f"its checkpoint is of the ledger {found.get('identity')} up to entry {found.get('entry')}")
+    return int(found["entry"]), int(found["bytes"])

@@ -19,7 +19,7 @@ from mi_replica.clients import Clients
 from mi_replica.etcd import behind
 from mi_replica.following import Diverged, Following, replay
 from mi_replica.leading import Leading
-from mi_replica.log import Leader, Lost, Term, clock
+from mi_replica.log import Leader, Lost, OtherLedger, Term, clock
 from mi_replica.member import schema_hash
 from mi_replica.own import Piped
 
@@ -72,29 +72,43 @@ class Checkpoints(unittest.TestCase):
         path = kit.folder(self)
         with open(f"{path}/led.new.torn", "w", encoding="utf-8"):
             pass
-        folder = Folder(path, "led")
-        self.assertEqual(folder.newest(), (0, None))
-        folder.write(2, HEADER, [INSERT % b"a", INSERT % b"b"])
-        folder.write(5, HEADER, [b'{"cmd":"start"}\n' + INSERT % b"c", b'{"cmd":"undo"}\n', INSERT % b"d"])
-        self.assertEqual(os.listdir(path), [f"led.{5:020}.journal"])
+        folder = Folder(path, "led", "0a")
+        self.assertEqual((folder.newest(), os.listdir(path)), ((0, None), []))
+        folder.write(2, HEADER, [(1, INSERT % b"a"), (2, INSERT % b"b")])
+        with self.assertRaises(ValueError):
+            folder.write(4, HEADER, [(4, INSERT % b"d")])
+        # (an entry that is there already isn't put in again)
+        folder.write(5, HEADER, [(2, INSERT % b"b"), (3, b'{"cmd":"start"}\n' + INSERT % b"c"), (4, b'{"cmd":"undo"}\n'), (5, INSERT % b"d")])
+        self.assertEqual(os.listdir(path), [f"led.0a.{5:020}.journal"])
         found = [line for some in batches(str(folder.newest()[1])) for line in some]
         block = [] if os.path.isfile(TOOL) else [b'{"cmd":"start"}\n', INSERT % b"c", b'{"cmd":"undo"}\n']
         self.assertEqual(found, [INSERT % b"a", INSERT % b"b", *block, INSERT % b"d"])
 
     @unittest.skipUnless(os.path.isfile(TOOL), "needs scripts/journal.py")
     def test_one_is_a_journal(self) -> None:
-        folder = Folder(kit.folder(self), "led")
-        folder.write(1, HEADER, [INSERT % b"a"])
+        folder = Folder(kit.folder(self), "led", "0a")
+        folder.write(1, HEADER, [(1, INSERT % b"a")])
         words = [sys.executable, TOOL, "check", str(folder.newest()[1]), "--replay", kit.program()]
         ran = subprocess.run(words, capture_output=True, text=True, timeout=60)
         self.assertEqual(ran.returncode, 0, ran.stderr)
 
     def test_damaged_ones_are_refused(self) -> None:
-        for text in (b"", b"no header\n", HEADER + b"torn"):
+        for text in (b"", b"no header\n", HEADER + b"torn", HEADER + b"\n", HEADER + INSERT % b"a" + b"\r\n"):
             path = f"{kit.folder(self)}/it"
             with open(path, "wb") as file:
                 file.write(text)
             self.assertRaises(ValueError, lambda path=path: list(batches(path)))
+
+    def test_those_of_another_ledger_are_refused(self) -> None:
+        path = kit.folder(self)
+        Folder(path, "led", "0a").write(1, HEADER, [(1, INSERT % b"a")])
+        for name, identity, is_well in (("led", "0a", True), ("led-2", "0b", True), ("led", "0b", False)):
+            if is_well:
+                self.assertEqual(Folder(path, name, identity).newest()[0], int(name == "led"))
+            else:
+                self.assertRaises(OtherLedger, Folder, path, name, identity)
+        os.rename(f"{path}/led.0a.{1:020}.journal", f"{path}/led.{1:020}.journal")  # (without any identity)
+        self.assertRaises(OtherLedger, Folder, path, "led", "0a")
 
     def test_schemas_are_told_apart(self) -> None:
         one, other = kit.written(self, "a"), kit.written(self, "b")

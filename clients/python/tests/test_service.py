@@ -11,7 +11,8 @@ from mi_client import Ended, Refused, Server
 from mi_client.aio import AsyncDatabase
 
 BUILT = f"{TOP}/crates/mi_service/out/mi_service"
-SERVICE = os.environ.get("MI_SERVICE") or (BUILT if os.path.exists(BUILT) else f"{TOP}/scripts/tests/stand_in.py")
+STAND_IN = f"{TOP}/scripts/tests/stand_in.py"
+SERVICE = os.environ.get("MI_SERVICE") or (BUILT if os.path.exists(BUILT) else STAND_IN)
 
 
 class Services(unittest.TestCase):
@@ -22,6 +23,10 @@ class Services(unittest.TestCase):
         server = Server(service=SERVICE, journal=self.journal, **how)
         self.addCleanup(server.close)
         return server
+
+    @unittest.skipIf(SERVICE == STAND_IN, "the service isn't built: its stand-in has taken its place")
+    def test_it_is_the_service(self):
+        self.assertTrue(os.path.isfile(SERVICE))
 
     def test_connections_come_and_go(self):
         with Server(service=SERVICE) as server:

@@ -1,0 +1,336 @@
+"""A member over a fake etcd, with a server of its own: checkpoints that can't be written, are damaged, or are of another ledger, and those of
+other members."""
+import asyncio
+import contextlib
+import io
+import json
+import os
+import socket
+import sys
+import unittest
+from typing import Any, AsyncIterator, Awaitable, Callable, Dict, List
+from unittest import mock
+
+import kit
+
+from fake_etcd import FakeEtcd, etcds
+from mi_replica import cli
+from mi_replica import lines as known
+from mi_replica.checkpoint import Folder, batches, header
+from mi_replica.following import Diverged
+from mi_replica.log import OtherLedger, Term
+from mi_replica.member import Member, Settings
+
+NOWHERE = "http://127.0.0.1:1"
+INSERT = b'{"cmd":"insert","row":{"owner":"%s","balance":1,"vip":false}}\n'
+SIZE = b'{"cmd":"size"}\n'
+OWNERS = (b"a", b"b", b"c", b"d")
+LONG = 20.0
+
+
+def free_port() -> int:
+    with socket.socket() as it:
+        it.bind(("127.0.0.1", 0))
+        return int(it.getsockname()[1])
+
+
+def lines_in(folder: str) -> List[bytes]:
+    """The lines of the one checkpoint of a folder."""
+    path, = [f"{folder}/{it}" for it in os.listdir(folder) if it.endswith(".journal")]
+    return [line for some in batches(path) for line in some]
+
+
+class Running:
+    """A member of the ledger `led` that runs, and its client. What it notes is kept."""
+
+    def __init__(self, etcd: FakeEtcd, folder: str, checkpoint: int = 1) -> None:
+        self.port = free_port()
+        settings = Settings([NOWHERE], "led", kit.program(), self.port, folder=folder, checkpoint=checkpoint, body="pipes")
+        self.member = Member(settings)
+        etcd.serve(*etcds(self.member._log), self.member._lease._etcd)
+        self.task = asyncio.ensure_future(self.member.run())
+
+    async def ask(self, line: bytes) -> Dict[str, Any]:
+        """The reply to a line, once it leads."""
+        while not self.task.done():
+            if self.member._role == "leader":
+                reader, writer = await asyncio.open_connection("127.0.0.1", self.port)
+                writer.write(line)
+                found: Dict[str, Any] = json.loads(await reader.readline())
+                writer.close()
+                return found
+            await asyncio.sleep(0.02)
+        self.task.result()
+        raise AssertionError("the member has ended")
+
+    async def insert(self, *owners: bytes) -> None:
+        """An entry of each, behind the checkpoint that the one before has begun."""
+        for it in owners:
+            assert (await self.ask(INSERT % it))["ok"]
+            while self.member._writing:
+                await asyncio.sleep(0.01)
+
+    async def until_checkpoint(self, number: int) -> None:
+        """Until it tells of a checkpoint up to this entry."""
+        while (await self.ask(b'{"cmd":"member"}\n'))["checkpoint"] != number:
+            await asyncio.sleep(0.02)
+
+    async def end(self) -> None:
+        self.task.cancel()
+        await asyncio.gather(self.task, return_exceptions=True)
+        self.member._temporary.cleanup()
+        await asyncio.sleep(0.02)
+
+
+class Test(unittest.TestCase):
+    def setUp(self) -> None:
+        self.etcd, self.notes = FakeEtcd(), []  # type: FakeEtcd, List[str]
+        self.folder = f"{kit.folder(self)}/m"
+        patched = mock.patch("mi_replica.member.note", self.notes.append)
+        patched.start()
+        self.addCleanup(patched.stop)
+
+    def play(self, act: Callable[[], Awaitable[None]]) -> None:
+        asyncio.run(asyncio.wait_for(act(), 3 * LONG))
+
+    @contextlib.asynccontextmanager
+    async def running(self, folder: str = "", checkpoint: int = 1) -> AsyncIterator[Running]:
+        made = Running(self.etcd, folder or self.folder, checkpoint)
+        try:
+            yield made
+        finally:
+            await made.end()
+
+    async def with_checkpoint(self, *owners: bytes) -> None:
+        """A member has run and left a checkpoint with rows of these owners."""
+        async with self.running() as it:
+            await it.insert(*owners)
+            await it.until_checkpoint(len(owners))
+
+
+class Ledgers(Test):
+    def test_a_member_of_another_ledger_refuses(self) -> None:
+        """Where etcd was begun anew, and has a ledger of this name that goes farther than the checkpoint."""
+        async def act() -> None:
+            await self.with_checkpoint(b"old1", b"old2", b"old3")
+            self.etcd.wipe()
+            async with self.running(kit.folder(self)) as other:
+                await other.insert(*(b"new%d" % n for n in range(1, 6)))
+            before = os.listdir(self.folder)
+            async with self.running() as it:
+                with self.assertRaisesRegex(OtherLedger, "journal is a checkpoint of another ledger: led in etcd has the identity .* move that file away"):
+                    await asyncio.wait_for(asyncio.shield(it.task), LONG)
+            self.assertEqual(os.listdir(self.folder), before)
+            os.rename(f"{self.folder}/{before[0]}", f"{kit.folder(self)}/kept")
+            async with self.running() as it:
+                self.assertEqual(await it.ask(SIZE), {"ok": True, "size": 5})
+
+        self.play(act)
+
+    def test_a_member_whose_log_has_lost_entries_refuses(self) -> None:
+        async def act() -> None:
+            await self.with_checkpoint(b"a", b"b", b"c")
+            self.etcd.forget("led", 2)
+            async with self.running() as it:
+                with self.assertRaisesRegex(OtherLedger, "ends before entry 3"):
+                    await asyncio.wait_for(asyncio.shield(it.task), LONG)
+
+        self.play(act)
+
+    def test_a_member_whose_ledger_is_another_ends(self) -> None:
+        async def act() -> None:
+            async with self.running() as it:
+                await it.insert(b"a")
+                self.etcd.wipe()
+                with self.assertRaisesRegex(OtherLedger, "etcd was begun anew"):
+                    await asyncio.wait_for(asyncio.shield(it.task), LONG)
+
+        self.play(act)
+
+    def test_a_refusal_is_a_line_and_a_status(self) -> None:
+        words, said = ["--etcd", NOWHERE, "--name", "led", "--listen", "8001"], io.StringIO()
+        with mock.patch("mi_replica.cli.serve", mock.Mock(side_effect=OtherLedger("why"))), contextlib.redirect_stderr(said):
+            self.assertEqual(cli.main(words), 3)
+        self.assertEqual(said.getvalue(), "mi_replica: ledger: why\n")
+
+
+class Writing(Test):
+    def fails(self, *calls: int) -> Any:
+        """The syncs of these numbers fail. A checkpoint has one of its file and then one of its folder."""
+        count, synced = [0], os.fsync
+
+        def sync(handle: int) -> None:
+            count[0] += 1
+            if count[0] in calls:
+                raise OSError(28, "No space left on device")
+            synced(handle)
+
+        return mock.patch("mi_replica.checkpoint.os.fsync", sync)
+
+    def test_one_that_failed_is_tried_again(self) -> None:
+        """With each line once, where it had got its name too."""
+        async def act() -> None:
+            for calls in ((1,), (1, 2, 3), (2,), (4,)):
+                self.etcd.wipe()
+                self.notes.clear()
+                folder = kit.folder(self)
+                async with self.running(folder) as it:
+                    with self.fails(*calls):
+                        await it.insert(*OWNERS)
+                    await it.until_checkpoint(4)
+                    self.assertEqual((it.member._tail, it.member._tail_bytes), ([], 0))
+                self.assertEqual(lines_in(folder), [INSERT % owner for owner in OWNERS], calls)
+                self.assertEqual(len([text for text in self.notes if text.startswith("no checkpoint")]), len(calls))
+
+        with mock.patch("mi_replica.member.REST_SECONDS", 0.0, create=True):
+            self.play(act)
+
+    def test_there_is_a_rest_before_the_next(self) -> None:
+        async def act() -> None:
+            async with self.running() as it:
+                with self.fails(*range(99)):
+                    await it.insert(*OWNERS)
+                self.assertEqual([f"no checkpoint, and {len(INSERT % b'a')} bytes" in text for text in self.notes if "checkpoint" in text], [True])
+                self.assertEqual([value for _, value in it.member._tail], [INSERT % owner for owner in OWNERS])
+                self.assertEqual(os.listdir(self.folder), [])
+
+        self.play(act)
+
+
+class Reading(Test):
+    def damaged(self, change: Callable[[bytes], bytes]) -> None:
+        """A member whose checkpoint was changed by this begins from the log, tells of none meanwhile, and writes another."""
+        async def act() -> None:
+            await self.with_checkpoint(b"a", b"b", b"c")
+            name, = os.listdir(self.folder)
+            with open(f"{self.folder}/{name}", "r+b") as file:
+                text = change(file.read())
+                file.seek(0)
+                file.write(text)
+                file.truncate()
+            async with self.running(checkpoint=4 * len(INSERT % b"a")) as it:
+                self.assertEqual(it.member._said()["checkpoint"], 0)
+                self.assertEqual(await it.ask(SIZE), {"ok": True, "size": 3})
+                self.assertEqual(it.member._said()["checkpoint"], 0)
+                self.assertEqual(os.listdir(self.folder), [f"{name}.damaged"])
+                self.assertIn(f"set aside as {self.folder}/{name}.damaged", "".join(self.notes))
+                await it.insert(b"d")
+                await it.until_checkpoint(4)
+            self.assertEqual(lines_in(self.folder), [INSERT % owner for owner in OWNERS])
+
+        self.play(act)
+
+    def test_one_that_is_torn_is_set_aside(self) -> None:
+        self.damaged(lambda text: text[:-5])
+
+    def test_one_that_is_empty_is_set_aside(self) -> None:
+        self.damaged(lambda text: b"")
+
+    def test_one_with_an_empty_line_is_set_aside(self) -> None:
+        self.damaged(lambda text: text + b"\n")
+
+    def test_one_that_the_server_refuses_is_set_aside(self) -> None:
+        self.damaged(lambda text: text.replace(b'"b"', b'"a"'))
+
+    def test_one_for_which_there_is_no_room_stays(self) -> None:
+        async def act() -> None:
+            await self.with_checkpoint(b"a")
+            async with self.running() as it:
+                await it.ask(SIZE)
+                own = mock.Mock()
+                own.ask = mock.AsyncMock(side_effect=[[b'{"depth":0,"held":0,"ok":true,"revision":0}'], [known.MEMORY]])
+                before = os.listdir(self.folder)
+                with self.assertRaises(Diverged):
+                    await it.member._load(own)
+                self.assertEqual(os.listdir(self.folder), before)
+
+        self.play(act)
+
+    def test_of_several_that_were_set_aside_the_newest_stays(self) -> None:
+        folder = Folder(self.folder, "led", "0a")
+        for n in (1, 2):
+            folder.write(n, header(0, "00"), [(at, INSERT % b"a") for at in range(1, n + 1)])
+            self.assertEqual(folder.set_aside(n), f"{self.folder}/led.0a.{n:020}.journal.damaged")
+            self.assertEqual(folder.newest(), (0, None))
+        self.assertEqual(os.listdir(self.folder), [f"led.0a.{2:020}.journal.damaged"])
+
+
+class Others(Test):
+    """What another member answers to `checkpoint`."""
+
+    async def listening(self, *pieces: bytes, is_over: bool = True) -> str:
+        async def serve(reader: asyncio.StreamReader, writer: asyncio.StreamWriter) -> None:
+            self.asked.append(await reader.readline())
+            writer.write(b"".join(pieces))
+            self.writers.append(writer)
+            if is_over:
+                writer.close()
+
+        server = await asyncio.start_server(serve, "127.0.0.1", 0)
+        self.servers.append(server)
+        return f"127.0.0.1:{server.sockets[0].getsockname()[1]}"
+
+    def test_the_next_is_asked_where_one_gives_none(self) -> None:
+        """Behind those that are gone, stand still, have none, have another ledger's or one that is too short, break off, or aren't members."""
+        whole = header(0, "00") + INSERT % b"a"
+        self.asked: List[bytes] = []
+        self.servers: List[asyncio.AbstractServer] = []
+        self.writers: List[asyncio.StreamWriter] = []
+
+        async def act() -> None:
+            async with self.running() as it:
+                await it.ask(SIZE)
+                mine = getattr(it.member._log, "identity", "")
+                offer = {"bytes": len(whole), "entry": 7, "identity": mine, "ok": True}
+                said = known.said
+                told = ["127.0.0.1:1", await self.listening(is_over=False), await self.listening(b'{"error":"checkpoint","ok":false}\n')]
+                for other in ({**offer, "identity": "00"}, {**offer, "entry": 5}):
+                    told.append(await self.listening(said(other) + b"\n", whole))
+                told += [await self.listening(said(offer) + b"\n", whole[:-9]), await self.listening(b"[]\n"), await self.listening(b"5\n")]
+                told += [await self.listening(said({"ok": True, "identity": mine}) + b"\n"), await self.listening()]
+                last, low = await self.listening(said(offer) + b"\n", whole), await self.listening(said(offer) + b"\n", whole)
+                stand = {**dict.fromkeys([*told, last], {"checkpoint": 7}), low: {"checkpoint": 6 - 1}}
+                it.member._log.members = mock.AsyncMock(return_value=stand)  # type: ignore[method-assign]
+                await asyncio.wait_for(it.member._fetch(7), LONG)
+                self.assertEqual(lines_in(self.folder), [INSERT % b"a"])
+                self.assertEqual((len(self.asked), len([text for text in self.notes if "no checkpoint was taken" in text])), (len(told), len(told)))
+                it.member._log.members = mock.AsyncMock(return_value={low: {"checkpoint": 5}})  # type: ignore[method-assign]
+                await it.member._fetch(7)
+                self.assertIn("has a checkpoint up to entry 6", self.notes[-1])
+            for end in (*self.servers, *self.writers):
+                end.close()
+            await asyncio.sleep(0.02)
+
+        with mock.patch("mi_replica.member.SILENT_SECONDS", 0.3, create=True):
+            self.play(act)
+
+    def test_one_is_told_of_and_sent_once_it_was_loaded(self) -> None:
+        async def act() -> None:
+            await self.with_checkpoint(b"a", b"b")
+            async with self.running() as it:
+                self.assertEqual((await it.ask(SIZE))["size"], 2)
+                found = await it.ask(b'{"cmd":"checkpoint"}\n')
+                self.assertEqual((found["entry"], found["identity"]), (2, it.member._log.identity))
+                it.member._checkpoint = 0  # (as before it was loaded)
+                self.assertEqual(await it.ask(b'{"cmd":"checkpoint"}\n'), {"error": "checkpoint", "ok": False})
+
+        self.play(act)
+
+    def test_a_member_with_an_empty_folder_takes_one(self) -> None:
+        """Where the log begins behind what it has, from a member that has it."""
+        async def act() -> None:
+            async with self.running() as it:
+                await it.insert(b"a", b"b", b"c")
+                await it.until_checkpoint(3)
+                key, log = self.etcd.keys[b"led/leader"], it.member._log
+                await log.forget(3, Term(key.made, key.value, 3, 0.5))
+                async with self.running(kit.folder(self)) as other:
+                    while other.member._number != 3:
+                        await asyncio.sleep(0.02)
+                    self.assertEqual(other.member._said()["checkpoint"], 3)
+
+        self.play(act)
+
+
+if __name__ == "__main__":
+    sys.exit(unittest.main())
