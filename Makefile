@@ -108,7 +108,8 @@ install:
 	@install -d '$(ROOT)/bin' '$(ROOT)/share/man/man1' '$(ROOT)/share/bash-completion/completions' '$(ROOT)/share/zsh/site-functions'
 	@install -d '$(SHARE)/docs/bench' '$(SHARE)/bench' '$(SHARE)/examples' '$(SHARE)/scripts' '$(SHARE)/clients/python/mi_client' '$(SHARE)/clients/node'
 	@install -m 755 '$(or $(PROGRAM),crates/mi_server/out/mi_server)' '$(ROOT)/bin/mi_server'
-	@if $(PYTHON) scripts/program.py fresh mi_service; then install -m 755 crates/mi_service/out/mi_service '$(ROOT)/bin/'; fi
+	@if $(PYTHON) scripts/program.py fresh mi_service; then install -m 755 crates/mi_service/out/mi_service '$(ROOT)/bin/'; \
+		else echo "without mi_service, which isn't there or isn't up to date: \`make service\` makes it"; fi
 	@install -m 755 scripts/installed/weltiyo scripts/installed/weltiyo-lint '$(ROOT)/bin/'
 	@install -m 644 docs/man/*.1 '$(ROOT)/share/man/man1/'
 	@for it in mi_server mi_service weltiyo weltiyo-lint; do \
@@ -120,7 +121,7 @@ install:
 	@install -m 644 bench/README.md '$(SHARE)/bench/'
 	@install -m 644 examples/* '$(SHARE)/examples/'
 	@install -m 644 scripts/program.py scripts/schema_lint.py '$(SHARE)/scripts/'
-	@install -m 644 scripts/journal.py scripts/reference.py $(wildcard scripts/journal_walk.py) '$(SHARE)/scripts/'
+	@install -m 644 scripts/journal.py scripts/reference.py '$(SHARE)/scripts/'
 	@install -m 644 $(filter-out %/tests,$(wildcard clients/python/*.*)) '$(SHARE)/clients/python/'
 	@install -m 644 $(wildcard clients/python/mi_client/*.*) '$(SHARE)/clients/python/mi_client/'
 	@install -d '$(SHARE)/clients/python/mi_replica'
@@ -132,13 +133,14 @@ install:
 	@install -m 644 clients/rust/Cargo.toml clients/rust/build.rs '$(SHARE)/clients/rust/'
 	@install -m 644 clients/rust/src/* '$(SHARE)/clients/rust/src/'
 	@install -m 644 clients/rust/examples/* '$(SHARE)/clients/rust/examples/'
-	@$(PYTHON) scripts/library.py install '$(ROOT)' '$(PREFIX)'
+	@$(PYTHON) scripts/library.py install '$(ROOT)'
 	@echo "installed below $(ROOT): bin/mi_server$(if $(PROGRAM), ($(PROGRAM)$(comma) as it is)), bin/weltiyo, bin/weltiyo-lint, share"
 
 dist:
 	@$(if $(PROGRAM),,$(PYTHON) scripts/program.py proved)
 	@rm -rf out/dist && mkdir -p out/dist
 	@$(MAKE) --no-print-directory install DESTDIR='$(CURDIR)/out/dist' PREFIX=/weltiyo > out/dist/log.txt
+	@sed -n '/^without /p' out/dist/log.txt
 	@tar -C out/dist -czf out/weltiyo.tar.gz weltiyo
 	@rm -rf out/dist && echo 'made out/weltiyo.tar.gz'
 

@@ -14,9 +14,10 @@ Fenced blocks are known by the first word behind the fence:
     output                            see above
 
 A block with a command line in any other form is an error, so that none stays unchecked. Then the examples are run against
-their stored replies (`examples/NAME.out`), and the tests of the client and of the scripts. --quick leaves the tests out. The
-last line is 'N passed, M failed'."""
+their stored replies (`examples/NAME.out`), and the tests of the client and of the scripts. --quick leaves the tests out. What was
+left out, of the tests too, is told in lines that begin with 'skipped: '. The last line is 'N passed, M failed'."""
 import argparse
+import collections
 import glob
 import os
 import re
@@ -37,6 +38,8 @@ from mi_client import Database, Ended, Server  # noqa: E402
 FENCE = re.compile(r"^(`{3,})(.*)$")
 COMMAND = re.compile(r'^\s*(\d*>\s*)?\{\s*"cmd"')
 ASKED = re.compile(r"^(\d*)> (.*)$")
+RAN = re.compile(r"^Ran (\d+) tests? in ", re.MULTILINE)
+SKIPPED = re.compile(r"(?:^|\.\.\. )skipped (['\"])(.*)\1$", re.MULTILINE)
 LONGEST_RUN = 120
 PORT = "8000"
 """The port that documents use; a free one takes its place."""
@@ -270,12 +273,19 @@ class Documents:
     # Tests
 
     def tests(self, folder):
+        """The tests of a folder, one at least; those that are skipped are told by why."""
         env = {**os.environ, "MI_SERVER": self.path}
         ran = subprocess.run(
-            [sys.executable, "-m", "unittest", "discover", "-s", folder], env=env, capture_output=True, text=True, timeout=600
+            [sys.executable, "-m", "unittest", "discover", "-v", "-s", folder], env=env, capture_output=True, text=True, timeout=600
         )
+        count = RAN.search(ran.stderr)
         if ran.returncode:
-            raise Differs(ran.stderr)
+            # (behind the line of each test)
+            raise Differs(ran.stderr.partition("=" * 70)[2] or ran.stderr)
+        if not count or count[1] == "0":
+            raise Differs(f"no test was run: {ran.stderr}")
+        for why, skipped in collections.Counter(it[1] for it in SKIPPED.findall(ran.stderr)).items():
+            self.skipped.append(f"{os.path.relpath(folder, TOP)}, {skipped} of its tests: {why}")
 
     def node(self):
         """The tests of the Node client, where node is there and has what they need."""
@@ -296,7 +306,7 @@ class Documents:
         if library.path():
             self.check("scripts/embedded.py", self.embedded)
         else:
-            self.skipped.append("scripts/embedded.py and clients/python/tests/test_embedded.py need the library, which `make lib` makes")
+            self.skipped.append("scripts/embedded.py needs the library, which `make lib` makes")
 
     def embedded(self):
         words = [sys.executable, f"{TOP}/scripts/embedded.py", "--program", self.path]
@@ -319,12 +329,13 @@ class Documents:
             self.skipped.append("scripts/replica_test.py needs etcd, which `apt-get install etcd-server` brings")
 
     def short(self, name, *words):
-        """The short form of a script that has one."""
+        """The short form of a script that has one; the parts that it leaves out are told."""
         env = {**os.environ, "MI_SERVER": self.path}
         words = [sys.executable, f"{TOP}/scripts/{name}", "--short", *words]
         ran = subprocess.run(words, env=env, stdin=subprocess.DEVNULL, capture_output=True, text=True, timeout=900)
         if ran.returncode:
             raise Differs(ran.stdout + ran.stderr)
+        self.skipped += [f"scripts/{name}, {it}" for it in ran.stdout.splitlines() if "left out" in it]
 
     def heads(self):
         """Whether each source file and each file of answers opens with what it is."""

@@ -6,7 +6,8 @@ whether `docs/DEFINITIONS.md` names each file of definitions.
 
 A source file of a crate (`crates/*/src/**/*.rt`) opens with `//!`, and `crates/*/proofs/**/Answers.antt` with a line `-- ..`. A file of
 definitions (`crates/*/specs/X.antt`, but for those of tests) stands there as `X` in backquotes, by its crate; and what stands there so is a
-file. Each that lacks this is named on a line of its own; the status is 1 then, else 0. Without folders all crates are looked at."""
+file. Each that lacks this is named on a line of its own; the status is 1 then, else 0. Without folders all crates are looked at. Where a
+folder has no such file the status is 2."""
 import os
 import re
 import sys
@@ -70,9 +71,14 @@ def named_in(text, crates):
     return named, wanted
 
 
-def main():
+def main(given):
     crates = f"{TOP}/crates"
-    folders = sys.argv[1:] or [f"{crates}/{name}" for name in sorted(os.listdir(crates))]
+    folders = given or [f"{crates}/{name}" for name in sorted(os.listdir(crates))]
+    empty = [it for it in folders if not any(files_in(it))]
+    for folder in empty:
+        print(f"{folder}: no source file and no file of answers is there", file=sys.stderr)
+    if empty:
+        return 2
     missing = [file for folder in folders for file in files_in(folder) if lacks_head(file)]
     for file in missing:
         print(f"{os.path.relpath(file, TOP)}: it doesn't open with what it is")
@@ -89,4 +95,4 @@ def main():
 
 
 if __name__ == "__main__":
-    sys.exit(main())
+    sys.exit(main(sys.argv[1:]))

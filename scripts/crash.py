@@ -187,7 +187,8 @@ def full(path, options, folder):
         acknowledged += full_once(kept, f"failing {which}", env=forgetting(kept.folder, n + 1, **which))
         counts[1] += 1
     took = time.monotonic() - began
-    return f"{counts[0]} full disks, {counts[1]} writes or syncs that failed; status 4 each, {acknowledged} acknowledged lines are there; {took:.0f} s"
+    failed = f"{counts[1]} writes or syncs that failed" if library() else "writes and syncs that fail are left out: they need a C compiler"
+    return f"{counts[0]} full disks, {failed}; status 4 each, {acknowledged} acknowledged lines are there; {took:.0f} s"
 
 
 def refused(kept, bytes_, wanted, is_there=False):

@@ -11,7 +11,7 @@ import sys
 import time
 
 import program
-from fuzz import ACCOUNTS, toml
+from fuzz import ACCOUNTS, first_difference, toml
 from reference import LONGEST_LINE, Index, Reference, Schema
 
 ROWS = f"{program.TOP}/crates/test_rows/src/tests/rows"
@@ -330,9 +330,11 @@ def compiled_library():
     source, made = f"{program.TOP}/scripts/refuse_memory.c", f"{program.TOP}/out/refuse_memory.so"
     if not os.path.exists(made) or os.path.getmtime(made) < os.path.getmtime(source):
         compiler = shutil.which(os.environ.get("CC", "cc")) or stop("a C compiler is needed: it is looked for in CC and as cc")
+        # (another run may be at it too)
+        new = f"{made}.{os.getpid()}"
         os.makedirs(os.path.dirname(made), exist_ok=True)
-        subprocess.run([compiler, "-O2", "-Wall", "-fno-omit-frame-pointer", "-shared", "-fPIC", "-o", f"{made}.new", source], check=True)
-        os.replace(f"{made}.new", made)
+        subprocess.run([compiler, "-O2", "-Wall", "-fno-omit-frame-pointer", "-shared", "-fPIC", "-o", new, source], check=True)
+        os.replace(new, made)
     return made
 
 
@@ -382,13 +384,6 @@ def is_at_start(plan, wanted, left_out):
         return None
     fresh = plan.wanted(frozenset(range(plan.until)))
     return None if wanted[plan.until:] == fresh[plan.until:] else "undoing didn't end at the start"
-
-
-def first_difference(want, got):
-    for n, (one, other) in enumerate(zip(want.splitlines(), got.splitlines())):
-        if one != other:
-            return f"reply {n}\n  wanted {one[:500]!r}\n  got    {other[:500]!r}"
-    return "the replies are more or fewer"
 
 
 class Counts:

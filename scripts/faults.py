@@ -20,7 +20,7 @@ asked the lines that weren't answered `memory`. Those must have met a refusal: i
 is up to date, else the one compiled without proofs. --short is what `.ci/run` runs: of each row the requests behind its start, those
 of the start once, the blocks, and no server under a limit. --row takes the rows whose names have these words, --way one of the three;
 --rounds is how often the limited server is filled and undone; --jobs is how many rows are run side by side, as many as there are
-processors if left out. The last line is 'N runs, .. D differences'."""
+processors if left out. The last line is 'N runs, .. D differences'; where no row has such a name the status is 2."""
 import argparse
 import os
 import resource
@@ -186,7 +186,7 @@ def the_blocks(path):
         return fault_blocks.all_blocks(runner, Runner(program.UNPROVED, folder), folder)
 
 
-def options_of():
+def options_of(given):
     parser = argparse.ArgumentParser(description=__doc__, formatter_class=argparse.RawDescriptionHelpFormatter)
     parser.add_argument("--program", metavar="FILE")
     parser.add_argument("--short", action="store_true")
@@ -194,18 +194,21 @@ def options_of():
     parser.add_argument("--way", choices=WAYS)
     parser.add_argument("--rounds", type=int, default=10, metavar="N")
     parser.add_argument("--jobs", type=int, default=len(os.sched_getaffinity(0)), metavar="N")
-    return parser.parse_args()
+    return parser.parse_args(given)
 
 
-def main():
-    options = options_of()
+def main(given=None):
+    options = options_of(given)
+    rows = [it for it in written_rows() + made_rows() if not options.row or options.row in it.name]
+    if not any(it.can_run for it in rows):
+        print(f"faults: no row that can be run has these words in its name: {options.row}", file=sys.stderr)
+        return 2
     path, began = os.path.abspath(options.program or program.program()), time.monotonic()
     first, total = first_look(path), Counts()
     if not options.row:
         total.add(the_blocks(path))
     if options.short and not options.row:
         total.add(start_alone(path))
-    rows = [it for it in written_rows() + made_rows() if not options.row or options.row in it.name]
     total.add(all_rows(path, rows, [options.way] if options.way else WAYS, 0 if options.short else -1, options.jobs, options.short))
     if options.rounds and not options.row and not options.short:
         if first.has_own_allocator:

@@ -6,7 +6,8 @@
 
 The gate tries the edits in `crates/NAME/must-fail`. What stands in `crates/NAME/further-edits` has the same form, turns what an edit of the
 gate turns in another way or in a call that mirrors it, or a clause that a crate above is proved with, and is tried here. The further ones are
-copied beside the others for the time of a run, under names that begin with `further-`. Status 1 where one doesn't apply or was proved."""
+copied beside the others for the time of a run, under names that begin with `further-`. Status 1 where one doesn't apply or was proved, 2 where
+a name is no crate's."""
 import argparse
 import glob
 import os
@@ -31,7 +32,7 @@ def edits(name):
 
 def fault(name, path):
     """Why an edit doesn't apply to the crate's sources as they stand, or None. Pairs apply to what the earlier ones made."""
-    texts, source, old = {}, None, None
+    texts, source, old, pairs = {}, None, None, 0
     with open(path, encoding="utf-8") as file:
         for line in file.read().splitlines():
             found = PART.match(line)
@@ -54,16 +55,19 @@ def fault(name, path):
             elif old is None:
                 return "a new text without an old one"
             else:
-                texts[source], old = texts[source].replace(old, said), None
-    return None if old is None else "an old text without a new one"
+                texts[source], old, pairs = texts[source].replace(old, said), None, pairs + 1
+    if old is not None:
+        return "an old text without a new one"
+    return None if pairs else "no old and new text"
 
 
 def check():
-    """Whether all apply; prints those that don't."""
-    faults = [(path, why) for name in crates() for path in edits(name) if (why := fault(name, path))]
-    for path, why in faults:
-        print(f"{os.path.relpath(path, program.TOP)}: {why}")
-    return not faults
+    """Whether there are some and all apply; prints those that don't."""
+    found = [(path, fault(name, path)) for name in crates() for path in edits(name)]
+    for path, why in found:
+        if why:
+            print(f"{os.path.relpath(path, program.TOP)}: {why}")
+    return bool(found) and not any(why for _, why in found)
 
 
 def tried(rt, name):
@@ -85,11 +89,14 @@ def tried(rt, name):
             os.rmdir(folder)
 
 
-def main():
+def main(given=None):
     parser = argparse.ArgumentParser()
     parser.add_argument("--check", action="store_true")
     parser.add_argument("names", nargs="*", metavar="NAME")
-    options = parser.parse_args()
+    options = parser.parse_args(given)
+    unknown = [it for it in options.names if not os.path.isdir(f"{program.TOP}/crates/{it}")]
+    if unknown:
+        parser.error(f"no crate of this name: {', '.join(unknown)}")
     if options.check:
         return 0 if check() else 1
     if not check():

@@ -29,6 +29,8 @@ CAMPAIGN_LINES = 1000
 DEEP = 50
 MOST_INDEXES = 15
 PIECE = 4096
+LONGEST_END = 60
+"""Seconds that a program may take to end once its connections have."""
 FOLDER = f"{program.TOP}/out/fuzz/{os.getpid()}"
 """Of this run alone, so that several may run at once."""
 
@@ -324,12 +326,27 @@ def start(path, folder, catalog, words=()):
     return subprocess.Popen(words, stdin=subprocess.PIPE, stdout=subprocess.PIPE, stderr=subprocess.PIPE)
 
 
-def first_difference(lines, want, got):
+def first_difference(want, got):
+    """Where replies differ first from those that are wanted, in words."""
     want, got = want.split(b"\n"), got.split(b"\n")
     for n, pair in enumerate(zip(want, got)):
         if pair[0] != pair[1]:
             return f"reply {n + 1}\n  wanted {pair[0][:2000]!r}\n  got    {pair[1][:2000]!r}"
     return f"{len(want) - 1} replies were wanted, {len(got) - 1} came"
+
+
+def ended(ran, seconds, whole=None):
+    """What a program writes until it ends, once it is given these bytes; and what is wrong with its end, or None. It is to end in time, with
+    status 0, and to say nothing."""
+    try:
+        got, said = ran.communicate(whole, timeout=seconds)
+    except subprocess.TimeoutExpired:
+        ran.kill()
+        ran.communicate()
+        return b"", f"the program hadn't ended after {seconds} s"
+    if ran.returncode or said:
+        return got, f"the program ended with status {ran.returncode}: {said.decode(errors='replace')}"
+    return got, None
 
 
 def over_pipes(path, catalog, lines):
@@ -339,11 +356,8 @@ def over_pipes(path, catalog, lines):
     want = reference.feed(1, whole) + reference.close(1)
     with open(f"{FOLDER}/lines.txt", "wb") as file:
         file.write(whole)
-    ran = start(path, FOLDER, catalog)
-    got, said = ran.communicate(whole, timeout=300)
-    if ran.returncode:
-        return f"the program ended with status {ran.returncode}: {said.decode(errors='replace')}"
-    return None if got == want else first_difference(lines, want, got)
+    got, fault = ended(start(path, FOLDER, catalog), 300, whole)
+    return fault if fault or got == want else first_difference(want, got)
 
 
 def connected(ran, port):
@@ -361,21 +375,19 @@ def connected(ran, port):
 
 def over_loopback(path, catalog, lines, pick):
     """Asks a case over several connections, which take turns. Each turn is a piece with at least one reply, so that the next
-    connection's piece is sent once the server has read this one's. Answers how it differs, if it does."""
+    connection's piece is sent once the server has read this one's. Answers how it differs, or how the program ends where that isn't well."""
     reference, count, port = Reference(*catalog), pick.randint(2, 4), program.free_port()
     ran = start(path, FOLDER, catalog, ["--listen", str(port), "--clients", str(count)])
     streams = [connected(ran, port) for _ in range(count)]
     try:
-        return by_turns(reference, dict(enumerate(streams, 1)), lines, pick)
-    finally:
-        for it in streams:
-            if it:
-                it.close()
-        try:
-            ran.communicate(timeout=60)
-        except subprocess.TimeoutExpired:
-            ran.kill()
-            ran.communicate()
+        differs = by_turns(reference, dict(enumerate(streams, 1)), lines, pick)
+    except OSError as error:
+        differs = f"a connection broke off: {error}"
+    for it in streams:
+        if it:
+            it.close()
+    fault = ended(ran, LONGEST_END)[1]
+    return f"{differs}; {fault}" if differs and fault else differs or fault
 
 
 def received(stream, length):
@@ -420,7 +432,7 @@ def by_turns(reference, streams, lines, pick):
             if got != want:
                 with open(f"{FOLDER}/turns.txt", "w", encoding="utf-8") as file:
                     file.writelines(f"{it[0]} {it[1]!r}\n  wanted {it[2]!r}\n  got    {it[3]!r}\n" for it in log)
-                return f"turn {len(log)} of connection {connection}: {first_difference([], want, got)}"
+                return f"turn {len(log)} of connection {connection}: {first_difference(want, got)}"
     return None
 
 

@@ -22,6 +22,7 @@ import bisect
 import collections
 import contextlib
 import fcntl
+import itertools
 import os
 import subprocess
 import sys
@@ -206,7 +207,7 @@ def check(path, replay, schema):
         count = sum(1 for _ in journal.lines())
     print(f"{path}: {count} lines, schema {journal.schema}, ok{torn_note(journal)}")
     if replay:
-        replay_check(path, replay, schema)
+        replay_check(path, replay, schema, count + 1)
 
 
 def may_be_change(reply):
@@ -215,31 +216,30 @@ def may_be_change(reply):
     return text.startswith(CHANGED) or text.startswith(b'{"error":"unique"') and text.endswith(b'","lost":true,"ok":false}')
 
 
-def whole_lines(path, pipe):
-    """The lines of the file but a torn one go into a pipe."""
-    with pipe, open(path, "rb") as file:
-        try:
-            for text in file:
-                if text.endswith(b"\n"):
-                    pipe.write(text)
-        except BrokenPipeError:
-            pass
+def first_lines(path, count, pipe):
+    """So many lines of the file go into a pipe."""
+    with contextlib.suppress(BrokenPipeError), pipe, open(path, "rb") as file:
+        pipe.writelines(itertools.islice(file, count))
 
 
-def replay_check(path, program, schema):
-    """Asks a program the journal, and finds the first line that it refuses."""
+def replay_check(path, program, schema, count):
+    """Asks a program so many lines of the journal, its header among them, and finds the first that it refuses. Each has one reply."""
     words = [program, *(["--schema", schema] if schema else [])]
-    progress, done = Progress("replaying", os.path.getsize(path)), 0
+    progress, done, number = Progress("replaying", os.path.getsize(path)), 0, 0
     with open(path, "rb") as file, subprocess.Popen(words, stdin=subprocess.PIPE, stdout=subprocess.PIPE) as ran:
-        threading.Thread(target=whole_lines, args=(path, ran.stdin), daemon=True).start()
+        sending = threading.Thread(target=first_lines, args=(path, count, ran.stdin), daemon=True)
+        sending.start()
         for number, reply in enumerate(ran.stdout, 1):
             done += len(file.readline())
             if number > 1 and not may_be_change(reply):
                 ran.kill()
                 raise Damaged(number, f"no change: {reply.decode(errors='replace').strip()}")
             progress.at(done)
+        sending.join()
         if ran.wait():
             raise OSError(f"{program} has ended with status {ran.returncode}")
+    if number != count:
+        raise OSError(f"{program} has answered {number} of {count} lines")
     print(f"{path}: replayed, and each line is one of a journal")
 
 

@@ -109,14 +109,17 @@ class Kept:
             ran.kill()
 
 
-def library():
-    """The disk that forgets, compiled; None where there is no compiler."""
+def library(name="forget_unsynced"):
+    """A library to load before a service, compiled where its source is newer: the disk that forgets, unless another is named. None where there
+    is no compiler."""
     compiler = shutil.which(os.environ.get("CC", "cc"))
-    source, made = f"{program.TOP}/scripts/forget_unsynced.c", f"{program.TOP}/out/forget_unsynced.so"
+    source, made = f"{program.TOP}/scripts/{name}.c", f"{program.TOP}/out/{name}.so"
     if compiler and (not os.path.exists(made) or os.path.getmtime(made) < os.path.getmtime(source)):
+        # (another run may be at it too)
+        new = f"{made}.{os.getpid()}"
         os.makedirs(os.path.dirname(made), exist_ok=True)
-        subprocess.run([compiler, "-O2", "-Wall", "-shared", "-fPIC", "-o", f"{made}.new", source], check=True)
-        os.replace(f"{made}.new", made)
+        subprocess.run([compiler, "-O2", "-Wall", "-shared", "-fPIC", "-o", new, source, "-ldl"], check=True)
+        os.replace(new, made)
     return made if compiler else None
 
 

@@ -4,12 +4,13 @@
     library.py build     proves what it stands on and makes out/library, where it isn't up to date
     library.py path      prints the folder of the library where it is up to date, and nothing else
     library.py proved    says what is needed where it isn't there or isn't up to date, and proves nothing
-    library.py install ROOT PREFIX
-                         copies it below ROOT, where it is used as below PREFIX; where it isn't up to date, says so and copies nothing
+    library.py install ROOT
+                         copies it below ROOT; where it isn't up to date, says so and copies nothing
 
 The folder has `libweltiyo.a`, `libweltiyo.so` with its versions, `weltiyo.h`, `weltiyo.hpp` and `weltiyo.pc`. It is up to date where its files
-are those that `build` made from the sources that stand here now: a stamp in it has the digests of both. `build` needs `rt`, `ar`, and a C
-compiler for the shared object (CC, else cc). It writes to crates/*/out by way of `rt`, and to out/library."""
+and links are those that `build` made from the sources that stand here now: a stamp in it has the digests of both. It may be moved, and so may
+ROOT: weltiyo.pc finds the rest from its own folder on. `build` needs `rt`, `ar`, and a C compiler for the shared object (CC, else cc). It
+writes to crates/*/out by way of `rt`, and to out/library."""
 import os
 import shlex
 import shutil
@@ -26,17 +27,20 @@ STAMP = f"{MADE}/proved.stamp"
 VERSION = "0.1.0"
 MAJOR = VERSION.partition(".")[0]
 ARCHIVE, SHARED, SONAME = "libweltiyo.a", f"libweltiyo.so.{VERSION}", f"libweltiyo.so.{MAJOR}"
+LINKS = ((SONAME, SHARED), ("libweltiyo.so", SONAME))
 HEADERS, EXPORTS = (f"{TOP}/clients/c/weltiyo.h", f"{TOP}/clients/cpp/weltiyo.hpp"), f"{TOP}/clients/c/weltiyo.map"
 
 
 def made_from():
     """The digest of all that the library is made from."""
-    return program.digest_of([*program.sources(top=NAME), *HEADERS, EXPORTS])
+    return program.digest_of([*program.sources(top=NAME), *HEADERS, EXPORTS], beside().encode())
 
 
 def stamp(sources):
+    """What the stamp has. Raises OSError where a file or a link isn't there."""
     files = [f"{MADE}/{it}" for it in (ARCHIVE, SHARED, "weltiyo.h", "weltiyo.hpp", "weltiyo.pc")]
-    return f"sources {sources}\nlibrary {program.digest_of(files)}\n"
+    links = "".join(f"{name} {os.readlink(f'{MADE}/{name}')}\n" for name, _ in LINKS)
+    return f"sources {sources}\nlibrary {program.digest_of(files, links.encode())}\n"
 
 
 def is_fresh():
@@ -64,12 +68,23 @@ def needed(folder=None):
 
 
 def config(include, lib):
-    """What pkg-config is told: the folders of the headers and of the library."""
+    """What pkg-config is told: the folders of the headers and of the library. They go out from ${pcfiledir}, the folder of the file that this
+    stands in, so that what is copied or unpacked elsewhere is found there."""
     return (
         f"includedir={include}\nlibdir={lib}\n\n"
         "Name: weltiyo\nDescription: an in-memory table server, in the process of its caller\n"
         f"Version: {VERSION}\nCflags: -I${{includedir}}\nLibs: -L${{libdir}} -lweltiyo\n"
     )
+
+
+def beside():
+    """What it is told in out/library, where all is in one folder."""
+    return config("${pcfiledir}", "${pcfiledir}")
+
+
+def installed():
+    """What it is told in lib/pkgconfig."""
+    return config("${pcfiledir}/../../include", "${pcfiledir}/..")
 
 
 def kit(rt):
@@ -86,8 +101,15 @@ def run(words, **how):
 
 def merged(rt, to):
     """The archive of `rt lib`, with the part of the toolchain's that takes memory from malloc, so that a C linker needs no other file."""
-    script = f"CREATE {to}\nADDLIB {FOLDER}/out/lib{NAME}.a\nADDLIB {kit(rt)}/c/liblibc_c.a\nSAVE\nEND\n"
-    subprocess.run(["ar", "-M"], input=script, text=True, check=True)
+    # (a script of `ar` has no paths with spaces, so it is told names alone)
+    folder, name = os.path.split(to)
+    parts = {"calls.a": f"{FOLDER}/out/lib{NAME}.a", "memory.a": f"{kit(rt)}/c/liblibc_c.a"}
+    for it, of in parts.items():
+        os.symlink(os.path.abspath(of), f"{folder}/{it}")
+    script = "".join([f"CREATE {name}\n", *[f"ADDLIB {it}\n" for it in parts], "SAVE\nEND\n"])
+    subprocess.run(["ar", "-M"], cwd=folder, input=script, text=True, check=True)
+    for it in parts:
+        os.remove(f"{folder}/{it}")
 
 
 def linked(archive, to):
@@ -106,12 +128,12 @@ def put_together(rt):
     os.makedirs(folder)
     merged(rt, f"{folder}/{ARCHIVE}")
     linked(f"{folder}/{ARCHIVE}", f"{folder}/{SHARED}")
-    for name, to in ((SONAME, SHARED), ("libweltiyo.so", SONAME)):
+    for name, to in LINKS:
         os.symlink(to, f"{folder}/{name}")
     for it in HEADERS:
         shutil.copy(it, folder)
     with open(f"{folder}/weltiyo.pc", "w", encoding="utf-8") as file:
-        file.write(config(MADE, MADE))
+        file.write(beside())
     shutil.rmtree(MADE, ignore_errors=True)
     os.rename(folder, MADE)
 
@@ -147,22 +169,35 @@ def need_proved():
         program.stop(f"the library {why}. `make lib` proves and builds it first, with `rt`, the command of the Rattle toolchain")
 
 
-def install(root, prefix):
-    """Copies the library where it is up to date."""
+def cleared(path):
+    """This path, where nothing stands any more."""
+    if os.path.lexists(path):
+        os.remove(path)
+    return path
+
+
+def put(source, to, mode):
+    """Copies a file in place of what is there. It has this mode, whatever that of the source is."""
+    shutil.copyfile(source, cleared(to))
+    os.chmod(to, mode)
+
+
+def install(root):
+    """Copies the library where it is up to date. The modes are fixed, so that what one user installs others can read."""
     if not is_fresh():
         print("without the library, which isn't there or isn't up to date: `make lib` makes it")
         return
+    os.umask(0o022)
     for folder in ("include", "lib/pkgconfig"):
         os.makedirs(f"{root}/{folder}", exist_ok=True)
     for it in ("weltiyo.h", "weltiyo.hpp"):
-        shutil.copy(f"{MADE}/{it}", f"{root}/include/")
-    for it in (ARCHIVE, SHARED, SONAME, "libweltiyo.so"):
-        to = f"{root}/lib/{it}"
-        if os.path.lexists(to):
-            os.remove(to)
-        shutil.copy(f"{MADE}/{it}", to, follow_symlinks=False)
-    with open(f"{root}/lib/pkgconfig/weltiyo.pc", "w", encoding="utf-8") as file:
-        file.write(config(f"{prefix}/include", f"{prefix}/lib"))
+        put(f"{MADE}/{it}", f"{root}/include/{it}", 0o644)
+    put(f"{MADE}/{ARCHIVE}", f"{root}/lib/{ARCHIVE}", 0o644)
+    put(f"{MADE}/{SHARED}", f"{root}/lib/{SHARED}", 0o755)
+    for name, to in LINKS:
+        os.symlink(to, cleared(f"{root}/lib/{name}"))
+    with open(cleared(f"{root}/lib/pkgconfig/weltiyo.pc"), "w", encoding="utf-8") as file:
+        file.write(installed())
     print(f"and the library: {root}/lib/libweltiyo.*, {root}/include/weltiyo.h, weltiyo.hpp")
 
 
@@ -173,7 +208,7 @@ def main(verb="", *words):
         print(path() or "", end="\n" if path() else "")
     elif verb == "proved":
         need_proved()
-    elif verb == "install" and len(words) == 2:
+    elif verb == "install" and len(words) == 1:
         install(*words)
     else:
         program.stop(__doc__)

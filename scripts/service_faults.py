@@ -8,12 +8,15 @@ calls by name. Then each call of each name is refused once, in a run of its own,
 half of its bytes). What must hold of each run: each reply is the reference's, or `memory`, and then the line changed nothing; the service goes
 on, or ends with a status and line that docs/SERVICE.md has; a client whose connection breaks has its sessions undone; each acknowledged line is
 in the journal, in its order, and nothing is there that wasn't sent; and the service that is started again, with nothing refused, has the tables
-of `reference.py` that was asked the journal, with no session held (`journal_walk.py`).
+of `reference.py` that was asked the journal, with no session held (`journal_walk.py`). `memory` is answered only where a request for memory was
+refused. A run may make fewer calls than the first, and not reach the one that is to be refused: then it is run once more, and if that one
+doesn't either, it is counted as not reached, and as no run.
 
 `refuse_calls.c` says what counts as a call; it needs a C compiler, and the proved program. --every N refuses each N-th call alone, --call those
-of one name. The last line is 'N runs, .. D differences'."""
+of one name; where there is no such call the status is 2. The last line is 'N runs, .. D differences'."""
 import argparse
 import collections
+import contextlib
 import errno
 import os
 import random
@@ -31,12 +34,15 @@ import program
 import service
 from callers import ID, TABLES, Speech
 from journal_walk import Differs, Said, Walk
-from kept import Kept
+from kept import Kept, library
 from service import Ended
 
 WAIT = 20
 """Seconds that a reply may take."""
+GRACE = 1
+"""Seconds that a service may take to end once it has broken off a connection."""
 RECORD = 32
+NOT_REACHED = "not reached"
 MEMORY = b'{"error":"memory","ok":false}\n'
 ENDS = re.compile(r"(4 fault: (journal|listen|poll|write|memory))|(3 (journal: (file|locked)|schema: \w+))")
 ERRORS = {
@@ -55,7 +61,7 @@ it is ready: the service asks the system once when a socket becomes ready, and t
 
 
 class MemoryWalk(Walk):
-    """A journal of a service that may refuse a line for want of memory."""
+    """A journal of a service that may refuse a line for want of memory, since a request of it is refused."""
 
     def fits(self, connection, text, reply):
         return reply == MEMORY or super().fits(connection, text, reply)
@@ -66,7 +72,7 @@ class Talk:
 
     def __init__(self, running, kept, seed):
         self.running, self.pick, self.ids = running, random.Random(seed), []
-        self.all, self.streams, self.speeches, self.kept = [], {}, {}, kept
+        self.all, self.streams, self.speeches, self.kept, self.has_broken = [], {}, {}, kept, False
         for _ in range(2):
             self.come()
 
@@ -96,7 +102,7 @@ class Talk:
         said.lines.append(text)
         reply = self.replied(self.streams[said.number], text)
         if reply is None:
-            said.has_left = True
+            said.has_left = self.has_broken = True
             self.streams.pop(said.number).close()
             return self.running.process.poll() is None
         said.replies.append(reply)
@@ -136,7 +142,8 @@ def counts_in(name):
 def life(path, options, folder, env):
     """A service whose clients ask the lines; then one that is started again. Answers how the first ended."""
     kept = Kept(path, folder, f"{options.seed}/faults")
-    kept.walk = MemoryWalk(TABLES)
+    if env.get("REFUSE_CALL") == "memory":
+        kept.walk = MemoryWalk(TABLES)
     ended, all_said = "went on", []
     try:
         with kept.started(env=env) as running:
@@ -144,6 +151,9 @@ def life(path, options, folder, env):
             for _ in range(options.lines):
                 if not talk.ask():
                     break
+            if talk.has_broken:
+                with contextlib.suppress(subprocess.TimeoutExpired):
+                    running.process.wait(GRACE)
             if running.process.poll() is None:
                 running.kill()
             else:
@@ -163,34 +173,35 @@ def life(path, options, folder, env):
     return ended, sum(it.replies.count(MEMORY) for it in all_said), sum(len(it.replies) for it in all_said)
 
 
-def refused(path, options, library, name, nth, error):
-    """One call refused. How it ended, how many lines were answered `memory`, and how it differs, if it does."""
+def refused(path, options, loaded, name, nth, error):
+    """One call refused. How it ended, or that the call wasn't reached; how many lines were answered `memory`, and how it differs, if it does."""
     folder = tempfile.mkdtemp(prefix="service-faults-")
-    env = {"LD_PRELOAD": library, "REFUSE_CALL": name, "REFUSE_NTH": str(nth), "REFUSE_ERROR": str(getattr(errno, error) if error else 0)}
+    env = {"REFUSE_CALL": name, "REFUSE_NTH": str(nth), "REFUSE_ERROR": str(getattr(errno, error) if error else 0)}
+    env.update(LD_PRELOAD=loaded, REFUSE_COUNTS=f"{folder}/counts")
     try:
         ended, memory, _ = life(path, options, folder, env)
-        return ended, memory, None
+        if counts_in(env["REFUSE_COUNTS"]).get(name, 0) >= nth:
+            return ended, memory, None
+        if memory or ended != "went on":
+            raise Differs(f"nothing was refused: {memory} lines are answered memory, and it {ended}")
+        return NOT_REACHED, 0, None
     except (Differs, Ended, OSError, EOFError, subprocess.TimeoutExpired) as differs:
         return "differs", 0, f"{name} {nth} with {error or 'half'}: {differs}"
     finally:
         shutil.rmtree(folder, ignore_errors=True)
 
 
-def compiled():
-    compiler = shutil.which(os.environ.get("CC", "cc"))
-    if not compiler:
-        sys.exit("it needs a C compiler")
-    made = f"{program.TOP}/out/refuse_calls.so"
-    os.makedirs(os.path.dirname(made), exist_ok=True)
-    subprocess.run([compiler, "-O2", "-Wall", "-shared", "-fPIC", "-o", made, f"{program.TOP}/scripts/refuse_calls.c", "-ldl"], check=True)
-    return made
+def reached(path, options, loaded, *call):
+    """The same, once more where the call wasn't reached."""
+    found = refused(path, options, loaded, *call)
+    return refused(path, options, loaded, *call) if found[0] == NOT_REACHED else found
 
 
-def counted(path, options, library):
+def counted(path, options, loaded):
     """How often a run makes each call, with nothing refused."""
     with tempfile.TemporaryDirectory(prefix="service-faults-") as folder:
         counts = f"{folder}/counts"
-        ended, _, replies = life(path, options, folder, {"LD_PRELOAD": library, "REFUSE_COUNTS": counts})
+        ended, _, replies = life(path, options, folder, {"LD_PRELOAD": loaded, "REFUSE_COUNTS": counts})
         if ended != "went on":
             sys.exit(f"with nothing refused it ended with {ended!r}")
         found = counts_in(counts)
@@ -198,7 +209,7 @@ def counted(path, options, library):
     return found
 
 
-def main():
+def options_of(given):
     parser = argparse.ArgumentParser()
     parser.add_argument("--program", metavar="FILE")
     parser.add_argument("--lines", type=int, default=60)
@@ -206,13 +217,20 @@ def main():
     parser.add_argument("--every", type=int, default=1)
     parser.add_argument("--call", metavar="NAME")
     parser.add_argument("--jobs", type=int, default=len(os.sched_getaffinity(0)))
-    options = parser.parse_args()
-    path, library, began = service.needed(options.program), compiled(), time.monotonic()
-    calls = {name: n for name, n in counted(path, options, library).items() if options.call in (None, name)}
+    return parser.parse_args(given)
+
+
+def main(given=None):
+    options = options_of(given)
+    path, loaded, began = service.needed(options.program), library("refuse_calls") or sys.exit("it needs a C compiler"), time.monotonic()
+    calls = {name: n for name, n in counted(path, options, loaded).items() if options.call in (None, name)}
+    if not calls:
+        print(f"the service makes no call of this name: {options.call}", file=sys.stderr)
+        return 2
     todo = [(name, nth, it) for name in sorted(calls) for it in ERRORS.get(name, ["EIO"]) for nth in range(1, calls[name] + 1, options.every)]
     seen, memory, differ = collections.Counter(), 0, 0
     with ThreadPoolExecutor(options.jobs) as pool:
-        for one, (ended, lines, differs) in zip(todo, pool.map(lambda it: refused(path, options, library, *it), todo)):
+        for one, (ended, lines, differs) in zip(todo, pool.map(lambda it: reached(path, options, loaded, *it), todo)):
             seen[one[0], one[2] or "half", ended] += 1
             memory += lines
             if differs:
@@ -220,9 +238,11 @@ def main():
                 print(differs, flush=True)
     for (name, error, ended), count in sorted(seen.items()):
         print(f"  {name} {error}: {count} {ended}")
-    print(f"{len(todo)} runs, {memory} lines answered memory, {time.monotonic() - began:.0f} s, {differ} differences")
-    sys.exit(bool(differ))
+    missed = sum(count for (_, _, ended), count in seen.items() if ended == NOT_REACHED)
+    runs, took = len(todo) - missed, time.monotonic() - began
+    print(f"{runs} runs, {memory} lines answered memory, {missed} calls not reached, {took:.0f} s, {differ} differences")
+    return 1 if differ or not runs else 0
 
 
 if __name__ == "__main__":
-    main()
+    sys.exit(main())

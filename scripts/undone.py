@@ -128,7 +128,7 @@ def differs(path, case, before, undos, after):
         return f"the program ended with status {ran.returncode}: {said.decode(errors='replace')}"
     want = b"".join(case.want)
     if got != want:
-        return fuzz.first_difference(case.lines, want, got)
+        return fuzz.first_difference(want, got)
     replies = got.split(b"\n")
     if replies[slice(*before)] != replies[slice(*after)]:
         pairs = zip(replies[slice(*before)], replies[slice(*after)])

@@ -17,8 +17,8 @@ _weltiyo_options() {
         top) echo "$all --pid --every --count" ;;
         metrics) echo "$all --pid --every --count --file" ;;
         plot) echo "$all --table --column --points --bins --svg --load" ;;
-        prompt) echo "$all --run --tables --times" ;;
-        *) echo "$all --run --tables --times --version prompt dump load export import top metrics plot" ;;
+        '') echo "$all --run --tables --times --version prompt dump load export import top metrics plot" ;;
+        *) echo "$all --run --tables --times" ;;
     esac
 }
 

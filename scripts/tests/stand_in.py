@@ -7,7 +7,8 @@ fault, which the scripts are to find:
     beyond   a 65th connection is served                          deaf      a reader that doesn't read holds up all
     hoards   what isn't read is kept without a bound              crossed   at times a reply goes to another connection
     foreign  the journal of another schema is taken               quiet     a full disk is no fault
-    added    a line that nobody sent is in the journal at times"""
+    added    a line that nobody sent is in the journal at times   lacks     memory is lacking at times, though there is some
+    dies     it ends by itself, a while after its connections"""
 import argparse
 import fcntl
 import hashlib
@@ -16,6 +17,7 @@ import os
 import selectors
 import socket
 import sys
+import time
 
 TOP = os.path.dirname(os.path.dirname(os.path.dirname(os.path.realpath(__file__))))
 sys.path[:0] = [f"{TOP}/scripts", f"{TOP}/clients/python"]
@@ -27,6 +29,7 @@ PLANT = os.environ.get("PLANT", "")
 BOUND = 65_536
 MOST = 64
 UNDO = b'{"cmd":"undo"}\n'
+MEMORY = b'{"error":"memory","ok":false}\n'
 CHANGED = (b'{"id":', b'{"ok":true}', b'{"erased":', b'{"ok":true,"revision":', b'{"committed":', b'{"ok":true,"undone":', b'{"ok":true,"pushed":')
 
 
@@ -171,8 +174,13 @@ class Service:
         while client.lines and (len(client.out) + len(client.held) <= BOUND or PLANT == "hoards"):
             text = client.lines.pop(0)
             holder = self.reference.holder
-            reply = self.reference.answer_ended(client.number, text)
             self.asked += 1
+            if PLANT == "dies" and self.asked == 30:
+                os.closerange(3, 256)
+                time.sleep(0.2)
+                stop(1, "it died")
+            lacks = PLANT == "lacks" and self.asked % 20 == 0
+            reply = MEMORY if lacks else self.reference.answer_ended(client.number, text)
             keep = changed(reply) and holder in (None, client.number)
             client.held += reply
             if PLANT == "crossed" and self.asked % 97 == 0:

@@ -151,28 +151,31 @@ class AgainstAStandIn(unittest.TestCase):
         return status, out.getvalue()
 
     def test_none_is_found(self):
-        of_crash = [("rounds", "--rounds", "2"), ("tools",)]
+        of_crash = [("rounds", "--rounds", "2"), ("tools",), ("full",)]
         of_crowd = [("place",), ("comers", "--connections", "70")]
         for script, words in [*((crash, it) for it in of_crash), *((crowd, it) for it in of_crowd)]:
             status, said = self.ran(script, "", "--part", *words)
             self.assertEqual(status, 0, said)
 
+    def is_found(self, plant, script, part, why):
+        more = ("--rounds", "3") if script is crash else ()
+        status, said = self.ran(script, plant, "--part", part, *more)
+        self.assertEqual(status, 1, (plant, said))
+        self.assertRegex(said, why, plant)
+
     def test_faults_are_found(self):
-        cases = [
-            ("held", crash, "rounds", ""),
-            ("torn", crash, "torn", "cut at byte"),
-            ("added", crash, "rounds", "nobody sent"),
-            ("quiet", crash, "full", ""),
-            ("beyond", crowd, "place", "connection 65 is served"),
-            ("crossed", crash, "rounds", ""),
-        ]
-        if shutil.which(os.environ.get("CC", "cc")):
-            cases += [("unsynced", crash, "power", "the journal lacks it"), ("early", crash, "power", "the journal lacks it")]
-        for plant, script, part, why in cases:
-            more = ("--rounds", "3") if script is crash else ()
-            status, said = self.ran(script, plant, "--part", part, *more)
-            self.assertEqual(status, 1, (plant, said))
-            self.assertIn(why, said, plant)
+        self.is_found("held", crash, "rounds", 'sessions are held in the journal|wanted .*"busy"|fits nowhere')
+        self.is_found("torn", crash, "torn", "cut at byte")
+        self.is_found("added", crash, "rounds", "nobody sent")
+        self.is_found("quiet", crash, "full", "it listens, and its journal has room for 20 bytes")
+        self.is_found("beyond", crowd, "place", "connection 65 is served")
+        self.is_found("crossed", crash, "rounds", r"lines and got \d+ replies|wanted .*, got |fits nowhere")
+
+    @unittest.skipUnless(shutil.which(os.environ.get("CC", "cc")), "a C compiler is needed")
+    def test_a_disk_that_forgets(self):
+        self.assertEqual(self.ran(crash, "", "--part", "power", "--rounds", "2")[0], 0)
+        for plant in ("unsynced", "early"):
+            self.is_found(plant, crash, "power", "the journal lacks it")
 
 
 if __name__ == "__main__":

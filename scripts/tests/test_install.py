@@ -17,6 +17,14 @@ LINK = re.compile(r"\]\(([^)#:]+)(?:#[^)]*)?\)")
 COMMANDS = ("mi_server", "mi_service", "weltiyo", "weltiyo-lint")
 
 
+def offered_by_zsh(text, tool):
+    """The options of a tool in the text of the completion: its own, or the prompt's where it has none, and those of the lists that it names."""
+    whole = re.MULTILINE | re.DOTALL
+    own = (re.search(rf"^ {{12}}{tool}\)(.*?);;", text, whole) or re.search(r"^ {12}\*\)(.*?);;", text, whole))[1]
+    lists = [re.search(rf"^{name}=\((.*?)\)$", text, whole)[1] for name in ("all", "rows") if f"${name}" in own]
+    return set(re.findall(r"(--[a-z-]+)[\[}]", "".join([own, *lists])))
+
+
 class Installed(unittest.TestCase):
     @classmethod
     def setUpClass(cls):
@@ -28,8 +36,8 @@ class Installed(unittest.TestCase):
         ran = subprocess.run(words, env=cls.env, capture_output=True, text=True)
         assert ran.returncode == 0, ran.stderr
 
-    def ran(self, *words, asked=""):
-        return subprocess.run(words, env=self.env, input=asked, capture_output=True, text=True, cwd=self.top, timeout=60)
+    def ran(self, *words, asked="", cwd=None):
+        return subprocess.run(words, env=self.env, input=asked, capture_output=True, text=True, cwd=cwd or self.top, timeout=60)
 
     def test_no_link_is_broken(self):
         broken = []
@@ -54,13 +62,36 @@ class Installed(unittest.TestCase):
         os.symlink(f"{self.root}/bin/weltiyo", f"{self.top}/prompt")
         self.assertEqual(self.ran(f"{self.top}/prompt", asked='{"cmd":"size"}\n').stdout, '{"ok":true,"size":0}\n')
 
+    def test_the_scripts_have_what_they_import(self):
+        for name in os.listdir(f"{self.root}/share/weltiyo/scripts"):
+            said = self.ran(sys.executable, "-c", f"import {name[:-3]}", cwd=f"{self.root}/share/weltiyo/scripts")
+            self.assertEqual((said.returncode, said.stderr), (0, ""), name)
+
+    def test_no_module_of_the_current_folder_is_taken(self):
+        """In one whose modules have the names of those that the programs import, and would end them."""
+        folder = f"{self.top}/here"
+        os.mkdir(folder)
+        for name in ("json", "csv", "argparse", "subprocess", "typing", "socket", "re", "runpy", "program", "mi_client"):
+            with open(f"{folder}/{name}.py", "w", encoding="utf-8") as file:
+                file.write("raise SystemExit('the current folder was looked at')\n")
+        said = self.ran(f"{self.root}/bin/weltiyo", asked='{"cmd":"size"}\n', cwd=folder)
+        self.assertEqual((said.returncode, said.stdout), (0, '{"ok":true,"size":0}\n'), said.stderr)
+        for words in (["weltiyo", "top", "--help"], ["weltiyo", "import", "--help"], ["weltiyo", "plot", "--help"], ["weltiyo-lint", "--help"]):
+            said = self.ran(f"{self.root}/bin/{words[0]}", *words[1:], cwd=folder)
+            self.assertEqual((said.returncode, said.stderr), (0, ""), words)
+        said = self.ran("env", "PYTHONSAFEPATH=1", f"{self.root}/bin/weltiyo", "--version", cwd=folder)
+        self.assertEqual((said.returncode, said.stderr), (0, ""))
+
     def test_each_has_a_page(self):
         for name in COMMANDS:
             page = f"{self.root}/share/man/man1/{name}.1"
             self.assertTrue(os.path.isfile(page))
-            if shutil.which("groff"):
-                said = self.ran("groff", "-man", "-Tutf8", "-ww", page)
-                self.assertEqual((said.returncode, said.stderr), (0, ""))
+
+    @unittest.skipUnless(shutil.which("groff"), "groff isn't there")
+    def test_groff_takes_each_page(self):
+        for name in COMMANDS:
+            said = self.ran("groff", "-man", "-Tutf8", "-ww", f"{self.root}/share/man/man1/{name}.1")
+            self.assertEqual((said.returncode, said.stderr), (0, ""))
 
     def test_the_page_has_each_option(self):
         with open(f"{self.root}/share/man/man1/mi_server.1", encoding="utf-8") as file:
@@ -68,6 +99,15 @@ class Installed(unittest.TestCase):
         listed = set(re.findall(r"--\w+", self.ran(f"{self.root}/bin/mi_server", "--help").stderr))
         self.assertTrue(listed)
         self.assertEqual({it for it in listed if it not in page}, set())
+
+    def test_the_python_programs_pages_have_their_options(self):
+        """And no others: each stands at the head of a paragraph."""
+        for name, more in (("weltiyo", {"--version"}), ("weltiyo-lint", set())):
+            words = ("prompt", "--help") if name == "weltiyo" else ("--help",)
+            listed = set(re.findall(r"--[a-z-]+", self.ran(f"{self.root}/bin/{name}", *words).stdout))
+            with open(f"{self.root}/share/man/man1/{name}.1", encoding="utf-8") as file:
+                heads = re.findall(r"^\.TP\n(.*)$", file.read().replace("\\-", "-"), re.MULTILINE)
+            self.assertEqual(set(re.findall(r"--[a-z-]+", " ".join(heads))), listed | more, name)
 
     def test_the_service_s_options_are_everywhere(self):
         """Its page, and both completions, by the options that its words are read by."""
@@ -98,6 +138,10 @@ class Installed(unittest.TestCase):
         self.assertEqual(self.completed("weltiyo", "--c"), ["--connect"])
         self.assertEqual(self.completed("weltiyo", "m"), ["metrics"])
         self.assertEqual(self.completed("weltiyo", "export", "--format", "c"), ["csv"])
+        # (tools and --version are taken as the first word alone)
+        for before in (["--connect", "8000"], ["--tables"]):
+            self.assertEqual(set(self.completed("weltiyo", *before, "")), set(self.completed("weltiyo", "prompt", "")), before)
+        self.assertIn("--version", self.completed("weltiyo", "--v"))
 
     def test_completion_has_each_tool_s_options(self):
         said = self.ran(f"{self.root}/bin/weltiyo", "--help").stdout
@@ -109,7 +153,7 @@ class Installed(unittest.TestCase):
         for tool in tools:
             listed = set(re.findall(r"^  (?:-h, )?(--[a-z-]+)", self.ran(f"{self.root}/bin/weltiyo", tool, "--help").stdout, re.MULTILINE))
             self.assertEqual(set(self.completed("weltiyo", tool, "-")), listed, tool)
-            self.assertEqual({it for it in listed if it not in by_zsh}, set(), tool)
+            self.assertEqual(offered_by_zsh(by_zsh, tool), listed, tool)
 
     @unittest.skipUnless(shutil.which("zsh"), "zsh isn't there")
     def test_completion_by_zsh(self):

@@ -261,6 +261,21 @@ class Check(Files):
                 file.write(text)
             self.assertEqual(self.ran("check", self.path), (3, f"{self.path}: line 1: {why}\n"))
 
+    def test_a_program_that_answers_too_few(self):
+        self.write([START, UNDO])
+        for program_, said in [("/bin/true", 0), (self.answers(2), 2), (self.answers(4), 4)]:
+            status, text = self.ran("check", self.path, "--replay", program_)
+            self.assertEqual((status, text.splitlines()[1:]), (4, [f"{self.path}: {program_} has answered {said} of 3 lines"]))
+        self.assertEqual(self.ran("check", self.path, "--replay", self.answers(3))[0], 0)
+
+    def answers(self, count):
+        """A program that reads all and answers so many lines."""
+        path = f"{self.folder}/answers{count}"
+        with open(path, "w", encoding="ascii") as file:
+            file.write("#!/bin/sh\ncat > /dev/null\n" + "echo '{\"ok\":true,\"revision\":1}'\n" * count)
+        os.chmod(path, 0o755)
+        return path
+
     def test_no_file(self):
         self.assertEqual(self.ran("stat", f"{self.folder}/none")[0], 4)
 

@@ -15,6 +15,7 @@ sys.path.insert(0, f"{TOP}/scripts")
 import service  # noqa: E402
 
 UNIT = f"{TOP}/examples/mi_service.service"
+STAND_IN = f"{HERE}/stand_in.py"
 
 
 class UnitFile(unittest.TestCase):
@@ -22,7 +23,7 @@ class UnitFile(unittest.TestCase):
         folder = tempfile.TemporaryDirectory()
         self.addCleanup(folder.cleanup)
         self.folder = folder.name
-        self.program = service.path() if service.is_there() else f"{HERE}/stand_in.py"
+        self.program = service.path() if service.is_there() else STAND_IN
         read = configparser.ConfigParser(interpolation=None, strict=False)
         read.optionxform = str
         read.read(UNIT)
@@ -38,6 +39,11 @@ class UnitFile(unittest.TestCase):
         with service.Service(self.program, extra=words) as running, running.connect() as stream:
             self.assertEqual(service.asked(stream, b'{"cmd":"size"}\n'), b'{"ok":true,"size":0}\n')
         self.assertEqual(os.listdir(f"{self.folder}/{self.said['StateDirectory']}"), ["journal"])
+
+    def test_it_is_the_service(self):
+        if self.program == STAND_IN:
+            self.skipTest("the service isn't built: its stand-in has taken its place")
+        self.assertTrue(os.path.isfile(self.program))
 
     def test_systemd_takes_it(self):
         verify = shutil.which("systemd-analyze")

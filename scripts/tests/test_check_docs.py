@@ -1,0 +1,70 @@
+"""What `check_docs.py` takes for tests that passed, and what it tells as skipped: on tests and a script that are made here."""
+import os
+import sys
+import tempfile
+import unittest
+import unittest.mock
+
+TOP = os.path.dirname(os.path.dirname(os.path.dirname(os.path.realpath(__file__))))
+sys.path.insert(0, f"{TOP}/scripts")
+
+import check_docs  # noqa: E402
+
+TESTS = """
+import unittest
+
+class Some(unittest.TestCase):
+    def test_one(self):
+        '''It has a line of its own.'''
+        self.assertEqual({0}, 1)
+
+    @unittest.skip("it isn't there")
+    def test_two(self):
+        '''It has one too.'''
+
+    @unittest.skip("it isn't there")
+    def test_three(self):
+        pass
+
+    def test_four(self):
+        self.skipTest("no place")
+"""
+
+
+class Told(unittest.TestCase):
+    def setUp(self):
+        folder = tempfile.TemporaryDirectory()
+        self.addCleanup(folder.cleanup)
+        self.folder = folder.name
+        os.mkdir(f"{self.folder}/scripts")
+        changed = unittest.mock.patch.object(check_docs, "TOP", self.folder)
+        changed.start()
+        self.addCleanup(changed.stop)
+        self.documents = check_docs.Documents("/no/program", self.folder)
+
+    def write(self, name, text):
+        with open(f"{self.folder}/scripts/{name}", "w", encoding="utf-8") as file:
+            file.write(text)
+
+    def test_skips_are_told(self):
+        self.write("test_some.py", TESTS.format(1))
+        self.documents.tests(f"{self.folder}/scripts")
+        self.assertEqual(sorted(self.documents.skipped), ["scripts, 1 of its tests: no place", "scripts, 2 of its tests: it isn't there"])
+
+    def test_a_failure(self):
+        self.write("test_some.py", TESTS.format(2))
+        with self.assertRaisesRegex(check_docs.Differs, "AssertionError: 2 != 1"):
+            self.documents.tests(f"{self.folder}/scripts")
+
+    def test_no_tests_are_a_failure(self):
+        with self.assertRaisesRegex(check_docs.Differs, "no test was run|Ran 0 tests|NO TESTS RAN"):
+            self.documents.tests(f"{self.folder}/scripts")
+
+    def test_parts_that_are_left_out_are_told(self):
+        self.write("parts.py", "print('one: all is well')\nprint('two: left out: it needs more')\n")
+        self.documents.short("parts.py")
+        self.assertEqual(self.documents.skipped, ["scripts/parts.py, two: left out: it needs more"])
+
+
+if __name__ == "__main__":
+    unittest.main()
