@@ -64,7 +64,7 @@ def sent_by(method: str) -> Callable[[Callable[P, Request[T]]], Callable[Concate
 
     def of(build: Callable[P, Request[T]]) -> Callable[Concatenate[Any, P], Any]:
         @functools.wraps(build)
-        def call(self: Any, *args: P.args, **members: P.kwargs) -> Any:
+        def call(self: Any, /, *args: P.args, **members: P.kwargs) -> Any:
             return getattr(self, method)(build(*args, **members))
 
         made = inspect.signature(build)

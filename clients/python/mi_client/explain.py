@@ -121,11 +121,11 @@ def kind_of(value: Any) -> str:
 def misfit(type: str, value: Any) -> str:
     """Why a value doesn't fit a column of this type; empty where it does."""
     wanted = {"int": int, "text": str, "flag": bool}[type]
-    if not isinstance(value, wanted) or wanted is int and isinstance(value, bool):
+    if not isinstance(value, wanted) or type == "int" and isinstance(value, bool):
         return f"is {kind_of(value)}; {type} wanted"
-    if wanted is int and not -(2**63) <= value < 2**63:
+    if isinstance(value, int) and not -(2**63) <= value < 2**63:
         return "is beyond 64 bits"
-    if wanted is str and len(value.encode("utf-8", "surrogatepass")) > LONGEST_TEXT:
+    if isinstance(value, str) and len(value.encode("utf-8", "surrogatepass")) > LONGEST_TEXT:
         return f"has {len(value.encode('utf-8', 'surrogatepass'))} bytes; at most {LONGEST_TEXT} fit"
     return ""
 

@@ -5,14 +5,25 @@
 The program decides, and its word is printed as it is. This script only looks for the places; where other faults would be
 found once those are mended, it prints them too, behind `then`: a member whose name is nearly that of one that is missing is read as
 that one, so that a slip of the pen isn't followed by what it alone brings about. The status is 0 where all are sound, else 3."""
+from __future__ import annotations
+
 import argparse
 import difflib
 import os
 import re
 import subprocess
 import sys
+from typing import Callable, Dict, List, Mapping, Optional, Sequence, Set, Tuple
 
 from mi_client import toml_places
+from mi_client.toml_places import Node
+
+Known = Mapping[str, Tuple[str, bool]]
+"""Of each member the kind that it has, and whether it is needed."""
+Found = Dict[str, Node]
+Rows = List[Tuple[str, Found, Node]]
+Placed = Tuple[str, int, str, str]
+"""The word of a fault, its line, the member, and what is wrong."""
 
 NAME = re.compile(r"[a-z_][a-z0-9_]{0,31}")
 TYPES = ("int", "text", "flag")
@@ -43,18 +54,18 @@ TABLES = ": a schema of one table has no `format = 2`, and one of several has `[
 class Lint:
     """The faults of a document as (word, line, member, what)."""
 
-    def __init__(self, root):
-        self.faults = []
+    def __init__(self, root: Node) -> None:
+        self.faults: List[Placed] = []
         self.root = root
 
-    def fault(self, word, line, member, what):
+    def fault(self, word: str, line: int, member: str, what: str) -> None:
         self.faults.append((word, line, member, what))
 
     # Shape
 
-    def members(self, node, wanted, member):
+    def members(self, node: Node, wanted: Known, member: str) -> Found:
         """The members of a table that are of the right kind; the faults of the others."""
-        found = {}
+        found: Found = {}
         if node.kind != "table":
             self.fault("shape", node.line, member or "the document", f"is {kind_of(node)}, and a table is wanted")
             return found
@@ -75,15 +86,15 @@ class Lint:
                 self.fault("shape", node.line, f"{member}.{name}" if member else name, "is missing" + (FORMAT if (member, name) == ("", "format") else ""))
         return found
 
-    def take(self, found, node, kind, name):
+    def take(self, found: Found, node: Node, kind: str, name: str) -> bool:
         """Takes a member as this one if it is of the right kind, and answers whether it is."""
         if node.kind == kind:
             found[name] = node
         return node.kind == kind
 
-    def rows(self, node, wanted, member):
+    def rows(self, node: Optional[Node], wanted: Known, member: str) -> Rows:
         """The tables of an array of tables, with the names by which they are spoken of."""
-        found = []
+        found: Rows = []
         for n, it in enumerate(node.value if node else [], 1):
             path = f"{member}[{n}]"
             made = self.members(it, wanted, path)
@@ -91,7 +102,7 @@ class Lint:
             found.append((f"{path} ({name})" if name else path, made, it))
         return found
 
-    def document(self):
+    def document(self) -> None:
         said, table = self.root.value.get("format"), self.root.value.get("table")
         has_tables = table and table.kind == "array" and all(it.kind == "table" for it in table.value)
         if said and not (said.kind == "number" and said.value in (1, 2)):
@@ -104,14 +115,14 @@ class Lint:
         else:
             self.one()
 
-    def one(self):
+    def one(self) -> None:
         found = self.members(self.root, ONE_TABLE, "")
         if "table" in found:
             self.name(found["table"], "table", is_reserved=False)
         self.table(found, "", self.root)
         self.counters(found, "", ("first_revision",))
 
-    def several(self):
+    def several(self) -> None:
         found = self.members(self.root, SEVERAL, "")
         tables = self.rows(found.get("table"), NAMED_TABLE, "table")
         if "table" in found and not 1 <= len(tables) <= 16:
@@ -125,7 +136,7 @@ class Lint:
 
     # A table
 
-    def table(self, found, prefix, node):
+    def table(self, found: Found, prefix: str, node: Node) -> None:
         columns = self.rows(found.get("column"), COLUMN, f"{prefix}column")
         indexes = self.rows(found.get("index"), INDEX, f"{prefix}index")
         for path, it, _ in [*columns, *indexes]:
@@ -147,20 +158,20 @@ class Lint:
         if rows and not 1 <= rows.value <= MOST_ROWS:
             self.fault("number", rows.line, f"{prefix}max_rows", f"is {rows.value}, and 1 to {MOST_ROWS} is wanted")
 
-    def counters(self, found, prefix, names):
+    def counters(self, found: Found, prefix: str, names: Sequence[str]) -> None:
         for name in names:
             if name in found and found[name].value < 0:
                 self.fault("number", found[name].line, f"{prefix}{name}", f"is {found[name].value}, which is below 0")
 
-    def name(self, node, path, is_reserved):
+    def name(self, node: Node, path: str, is_reserved: bool) -> None:
         if not NAME.fullmatch(node.value):
             what = f"`{node.value}` is no name: 1 to 32 of a to z, 0 to 9 and _, no digit first"
             self.fault("name", node.line, path, what)
         elif is_reserved and node.value == "id":
             self.fault("name", node.line, path, "`id` is the index and member that every table has")
 
-    def twice(self, rows, member):
-        seen = {}
+    def twice(self, rows: Rows, member: str) -> None:
+        seen: Dict[str, int] = {}
         for path, it, _ in rows:
             if "name" not in it:
                 continue
@@ -169,7 +180,7 @@ class Lint:
                 self.fault("twice", name.line, f"{path}.name", f"`{name.value}` is taken already, in line {seen[name.value]}")
             seen.setdefault(name.value, name.line)
 
-    def index(self, path, it, node, columns):
+    def index(self, path: str, it: Found, node: Node, columns: Optional[Sequence[str]]) -> None:
         kind = it["kind"].value if "kind" in it else None
         if kind is not None and kind not in KINDS:
             self.fault("kind", it["kind"].line, f"{path}.kind", f"`{kind}` is no kind; kinds are {', '.join(KINDS)}")
@@ -188,12 +199,12 @@ class Lint:
         if parts and len(parts) > 4:
             self.fault("limit", it["key"].line, f"{path}.key", f"has {len(parts)} parts, and at most 4 are wanted")
 
-    def key(self, path, it, node, columns, kind):
+    def key(self, path: str, it: Found, node: Node, columns: Optional[Sequence[str]], kind: str) -> None:
         if "key" not in it or not it["key"].value:
             line = it["key"].line if "key" in it else node.line
             self.fault("key", line, f"{path}.key", "is empty" if "key" in it else f"is missing; {article(kind)} {kind} index has one")
             return
-        seen = set()
+        seen: Set[str] = set()
         for part in it["key"].value:
             name = part.value[1:] if part.value.startswith("-") else part.value
             if part.value.startswith("-") and kind == "hashed":
@@ -205,19 +216,19 @@ class Lint:
             seen.add(name)
 
 
-def article(word):
+def article(word: str) -> str:
     return "an" if word[0] in "aeiou" else "a"
 
 
-def kind_named(kind):
+def kind_named(kind: str) -> str:
     return {"table": "a table", "array": "an array", "text": "a text", "number": "a whole number", "boolean": "true or false"}.get(kind, "another value")
 
 
-def kind_of(node):
+def kind_of(node: Node) -> str:
     return kind_named(node.kind)
 
 
-def hint(name, member):
+def hint(name: str, member: str) -> str:
     """A member of the whole table that stands below a header belongs to the part above it."""
     part = re.search(r"(column|index|table)\[\d+\]$", member)
     if part and name in ({**ONE_TABLE, **SEVERAL} if part[1] != "table" else SEVERAL):
@@ -225,7 +236,7 @@ def hint(name, member):
     return ""
 
 
-def places(data):
+def places(data: bytes) -> List[Placed]:
     """The faults of a document, those of the first check first."""
     if len(data) > LARGEST_FILE:
         return [("file", 1, "the file", f"has {len(data)} bytes, and at most {LARGEST_FILE} are read; comments count")]
@@ -238,7 +249,7 @@ def places(data):
     return sorted(lint.faults, key=lambda it: (WORDS.index(it[0]), it[1]))
 
 
-def lint_file(path, file):
+def lint_file(path: str, file: str) -> bool:
     """Prints what is wrong with a schema, and answers whether it is sound."""
     ran = subprocess.run([path, "--check", "--schema", file], capture_output=True, text=True)
     if ran.returncode == 0:
@@ -264,7 +275,7 @@ def lint_file(path, file):
     return False
 
 
-def main(found=None):
+def main(found: Optional[Callable[[], str]] = None) -> int:
     """The exit status. `found` names the program where no option does; without it the environment's MI_SERVER does, or the PATH."""
     parser = argparse.ArgumentParser()
     parser.add_argument("--program")

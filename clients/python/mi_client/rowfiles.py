@@ -140,7 +140,7 @@ def read_csv(file: IO[bytes], name: str, table: Table) -> Iterator[Item]:
     text = io.TextIOWrapper(file, encoding="utf-8-sig", newline="")
     lines = csv.reader(text, strict=True)
     try:
-        names = next(lines, [])
+        names: List[str] = next(lines, [])
         strange = [it for it in names if it != "id" and table.column(it) is None]
         lacking = [it.name for it in table.columns if it.name not in names]
         if strange or lacking:
@@ -166,7 +166,8 @@ def read_csv(file: IO[bytes], name: str, table: Table) -> Iterator[Item]:
 
 
 def _taking(table: Table, name: str) -> Callable[[str], Any]:
-    return {"int": _int, "text": str, "flag": _flag}[table.type_of(name)]
+    by_type: Dict[str, Callable[[str], Any]] = {"int": _int, "text": str, "flag": _flag}
+    return by_type[table.type_of(name)]
 
 
 def _int(text: str) -> int:

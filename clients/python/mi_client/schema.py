@@ -124,7 +124,9 @@ class Schema:
 
     def table(self, name: Optional[str] = None) -> Optional[Table]:
         """The table of this name, or the first one."""
-        return self.tables[0] if name is None else next((it for it in self.tables if it.name == name), None)
+        if name is None:
+            return self.tables[0]
+        return next((it for it in self.tables if it.name == name), None)
 
     def key(self, index: str, key: Key, table: Optional[str] = None) -> Sequence[Any]:
         """The values of a key. One that is given by columns is put in order; where index or table isn't there, the server says so."""

@@ -3,7 +3,7 @@ the linter says where one is at fault; what a document means for the server is t
 from __future__ import annotations
 
 import re
-from typing import Any, List, NoReturn
+from typing import Any, List, NoReturn, Optional
 
 BARE = re.compile(r"[A-Za-z0-9_-]+")
 NUMBER = re.compile(r"[+-]?(0x[0-9A-Fa-f_]+|0o[0-7_]+|0b[01_]+|[0-9][0-9_]*)(?![0-9A-Za-z_.:+-])")
@@ -204,13 +204,14 @@ class Reader:
                 table = table.value[-1]
             if table.kind != "table" or not table.is_open:
                 raise Fault(line, f"`{part}` is no table that members can be added to")
-        found = table.value.get(path[-1])
+        found: Optional[Node] = table.value.get(path[-1])
         if is_array:
             found = found or table.value.setdefault(path[-1], Node("array", [], line))
             if found.kind != "array" or not found.is_open:
                 raise Fault(line, f"`{path[-1]}` is there already, in line {found.line}, and is no array of `[[{path[-1]}]]`")
             found.value.append(Node("table", {}, line))
-            return found.value[-1]
+            made: Node = found.value[-1]
+            return made
         if found and (found.kind != "table" or found.is_headed or not found.is_open):
             raise Fault(line, f"`{path[-1]}` is there already, in line {found.line}")
         found = found or table.value.setdefault(path[-1], Node("table", {}, line))
