@@ -20,14 +20,15 @@ FAULTS = {
     ),
     "look-up-without-lease": ("leading.py", " and (holds or not replies[0].is_look)", "", "stop leader"),
     "nothing-is-compared": (
-        "log.py", '"compare": [is_new(self._key(number)), is_made_at(self._leader, term.number)],', '"compare": [],', "stop leader",
+        "log.py", '"compare": [is_new(key), is_made_at(self._leader, term.number), is_value(self._front, front.written())],', '"compare": [],',
+        "stop leader",
     ),
     "unanswered-is-done": (
         "log.py", "                await asyncio.sleep(AGAIN_SECONDS)\n\n    # Members", '                return {"succeeded": True}\n\n    # Members',
         "kill etcd,stop etcd",
     ),
     "entry-is-passed-over": (
-        "following.py", "for _, value in entries for line", "for number, value in entries if number % 40 for line", "kill leader,kill member",
+        "following.py", "for _, entry in taken for line", "for front, entry in taken if front.number % 40 for line", "kill leader,kill member",
     ),
 }
 FAILURES = 12

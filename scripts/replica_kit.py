@@ -19,6 +19,7 @@ import program
 CLIENT = f"{program.TOP}/clients/python"
 sys.path.insert(0, CLIENT)
 from mi_replica.etcd import Rejected, Unreachable  # noqa: E402
+from mi_replica.front import Front  # noqa: E402
 from mi_replica.log import Log  # noqa: E402
 
 LONGEST_START = 120
@@ -234,6 +235,7 @@ class Recorder(threading.Thread):
         super().__init__(daemon=True)
         self._name, self._urls, self._ends = name, urls, threading.Event()
         self.entries, self.gap, self.first = [], None, 1
+        self._front = None
 
     def run(self):
         asyncio.run(self._run())
@@ -255,11 +257,13 @@ class Recorder(threading.Thread):
         """Whether there is more."""
         found = await log.read(len(self.entries))
         self.first = found.first
-        for number, value in found.entries:
-            if number != len(self.entries) + 1:
-                self.gap = self.gap or f"entry {len(self.entries) + 1} has left the log before it was read, which has {number}"
+        for it in found.entries:
+            self._front = self._front or Front(0, it.before)
+            if (it.number, it.before) != (self._front.number + 1, self._front.sum):
+                self.gap = self.gap or f"entry {self._front.number + 1} has left the log before it was read, or stands on others: it has {it.number}"
                 return False
-            self.entries.append(value)
+            self._front = self._front.with_entry(it.lines)
+            self.entries.append(it.lines)
         return found.more
 
     def end(self):

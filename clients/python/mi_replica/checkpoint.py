@@ -1,9 +1,11 @@
-"""A member's checkpoint: a file NAME.<identity>.<20 digits>.journal with all lines up to the end of the entry of this number of the ledger of
-this identity. It is a journal, so `scripts/journal.py` checks it, counts it and makes it shorter, in place; and a server that is asked its
-lines has the database. A file of this name is written whole: it gets the name once it and what it has are on the disk."""
+"""A member's checkpoint: a file NAME.<identity>.<20 digits>.<16 digits>.<16 digits>.journal with all lines up to the end of the entry of the first
+number of the ledger of this identity; the sum of the log up to there, and what the file's own bytes come to, stand behind it. It is a journal, so
+`scripts/journal.py` checks it and counts it; and a server that is asked its lines has the database. A file of this name is written whole: it gets the
+name once it and what it has are on the disk. Whoever changes it gives it another name, or it is damaged."""
 from __future__ import annotations
 
 import contextlib
+import hashlib
 import json
 import os
 import re
@@ -11,8 +13,9 @@ import shutil
 import subprocess
 import sys
 import tempfile
-from typing import Iterable, Iterator, List, Optional, Tuple
+from typing import Iterable, Iterator, List, NamedTuple, Optional, Tuple
 
+from mi_replica.front import SUM_DIGITS, Front
 from mi_replica.log import OtherLedger
 
 HEADER_FORMAT = 1
@@ -28,76 +31,115 @@ def header(revision: int, schema: str) -> bytes:
     return json.dumps({"journal": HEADER_FORMAT, "revision": revision, "schema": schema}, separators=(",", ":")).encode() + b"\n"
 
 
+def digest_of(path: str) -> str:
+    """What the bytes of a file come to: the first digits of their SHA-256."""
+    found = hashlib.sha256()
+    with open(path, "rb") as file:
+        for piece in iter(lambda: file.read(PIECE), b""):
+            found.update(piece)
+    return found.hexdigest()[:SUM_DIGITS]
+
+
+class Damaged(Exception):
+    """A checkpoint isn't what was written."""
+
+
+class Checkpoint(NamedTuple):
+    """Up to where a file has the log, what its bytes come to, and where it is."""
+
+    front: Front
+    digest: str
+    path: str
+
+    def check(self) -> None:
+        """Raises Damaged where the file isn't the one that was written, and OSError where it can't be read."""
+        found = digest_of(self.path)
+        if found != self.digest:
+            raise Damaged(f"the bytes of {self.path} come to {found}")
+
+
 class Folder:
     """Where the checkpoints of one member stand, of which only the newest is kept. Raises OtherLedger where one is another ledger's."""
 
     def __init__(self, path: str, name: str, identity: str) -> None:
         os.makedirs(path, exist_ok=True)
         self.path, self._name = path, f"{name}.{identity}"
-        self._pattern = re.compile(re.escape(self._name) + r"\.(\d{20})\.journal")
+        self._pattern = re.compile(re.escape(self._name) + rf"\.(\d{{20}})\.([0-9a-f]{{{SUM_DIGITS}}})\.([0-9a-f]{{{SUM_DIGITS}}})\.journal")
         for it in os.listdir(path):
             if it.startswith(f"{name}.new."):  # (which a member that was killed has left)
                 os.unlink(f"{path}/{it}")
-            elif re.fullmatch(re.escape(name) + r"\.([^.]*\.)?\d{20}\.journal", it) and not self._pattern.fullmatch(it):
+            elif re.fullmatch(re.escape(name) + r"\.([^.]*\.)?\d{20}\.([^.]*\.){0,2}journal", it) and not self._pattern.fullmatch(it):
                 raise OtherLedger(
                     f"{path}/{it} is a checkpoint of another ledger: {name} in etcd has the identity {identity}. Name another --folder, or move"
                     " that file away: then this member takes what the ledger in etcd has"
                 )
         self._temporary = f"{name}.new."
 
-    def newest(self) -> Tuple[int, Optional[str]]:
-        """The entry up to which there is a checkpoint, and its file; 0 where there is none."""
-        found = [int(it[1]) for it in map(self._pattern.fullmatch, os.listdir(self.path)) if it]
-        return (max(found), self.file(max(found))) if found else (0, None)
+    def _all(self) -> List[Checkpoint]:
+        found = filter(None, map(self._pattern.fullmatch, os.listdir(self.path)))
+        return [Checkpoint(Front(int(it[1]), it[2]), it[3], f"{self.path}/{it[0]}") for it in found]
 
-    def file(self, number: int) -> str:
-        return f"{self.path}/{self._name}.{number:020}.journal"
+    def newest(self) -> Optional[Checkpoint]:
+        return max(self._all(), default=None)
 
-    def set_aside(self, number: int) -> str:
+    def set_aside(self, checkpoint: Checkpoint) -> str:
         """Takes a checkpoint that can't be read for none. It stays beside the others, by a name that is answered; one that was set aside
         before leaves, so that these aren't more and more."""
-        aside = self.file(number) + ASIDE
-        os.replace(self.file(number), aside)
+        aside = checkpoint.path + ASIDE
+        os.replace(checkpoint.path, aside)
         for it in os.listdir(self.path):
             if it.startswith(f"{self._name}.") and it.endswith(ASIDE) and f"{self.path}/{it}" != aside:
                 os.unlink(f"{self.path}/{it}")
         self._sync()
         return aside
 
-    def write(self, number: int, first: bytes, entries: Iterable[Tuple[int, bytes]]) -> None:
-        """Writes a checkpoint up to this entry: the newest one, or the header, and the entries behind it, of which it may have some already."""
-        before, old = self.newest()
-        with self.written(number) as target:
-            made = target.name
-            if old:
-                with open(old, "rb") as source:
-                    shutil.copyfileobj(source, target, PIECE)  # type: ignore[misc]
-            else:
-                target.write(first)
-            for at, value in entries:
-                if at > before + 1:
-                    raise ValueError(f"entry {at} doesn't follow {before}")
-                if at > before:
-                    target.write(value)
-                before = max(at, before)
-            target.flush()
-            shorten(made)
+    def write(self, front: Front, first: bytes, entries: Iterable[Tuple[int, bytes]]) -> Checkpoint:
+        """Writes a checkpoint up to here: the newest one, or the header, and the entries behind it, of which it may have some already. Raises
+        Damaged where that isn't what was written, and ValueError where the entries don't follow."""
+        old = self.newest()
+        with self.new_file() as path:
+            with open(path, "wb") as target:
+                if old:
+                    old.check()
+                    with open(old.path, "rb") as source:
+                        shutil.copyfileobj(source, target, PIECE)
+                else:
+                    target.write(first)
+                before = old.front.number if old else 0
+                for at, lines in entries:
+                    if at > before + 1:
+                        raise ValueError(f"entry {at} doesn't follow {before}")
+                    if at > before:
+                        target.write(lines)
+                    before = max(at, before)
+            shorten(path)
+            return self.keep(path, front)
 
     @contextlib.contextmanager
-    def written(self, number: int) -> "Iterator[tempfile._TemporaryFileWrapper[bytes]]":
-        """A new file that becomes the checkpoint of this number at the end of the block, and then stays."""
-        with tempfile.NamedTemporaryFile(dir=self.path, prefix=self._temporary, delete=False) as target:
-            try:
-                yield target
-                target.flush()
-                with open(target.name, "rb") as it:  # (a shorter one may have taken its place)
-                    os.fsync(it.fileno())
-                os.rename(target.name, self.file(number))
-            except BaseException:
-                os.unlink(target.name)
-                raise
+    def new_file(self) -> Iterator[str]:
+        """An empty file beside the checkpoints, which is gone behind the block unless it was kept."""
+        handle, path = tempfile.mkstemp(dir=self.path, prefix=self._temporary)
+        os.close(handle)
+        try:
+            yield path
+        finally:
+            with contextlib.suppress(FileNotFoundError):
+                os.unlink(path)
+
+    def keep(self, path: str, front: Front, digest: str = "") -> Checkpoint:
+        """Makes a file the checkpoint up to here, and the only one. Raises ValueError where its bytes don't come to a digest that is given."""
+        found = digest_of(path)
+        if digest not in ("", found):
+            raise ValueError(f"its bytes come to {found}, and not to {digest}")
+        made = Checkpoint(front, found, f"{self.path}/{self._name}.{front.number:020}.{front.sum}.{found}.journal")
+        with open(path, "rb") as file:
+            os.fsync(file.fileno())
+        os.rename(path, made.path)
         self._sync()
-        self._remove_but(number)
+        for it in self._all():
+            if it.path != made.path:
+                os.unlink(it.path)
+        return made
 
     def _sync(self) -> None:
         handle = os.open(self.path, os.O_RDONLY | os.O_DIRECTORY)
@@ -105,11 +147,6 @@ class Folder:
             os.fsync(handle)
         finally:
             os.close(handle)
-
-    def _remove_but(self, number: int) -> None:
-        for it in map(self._pattern.fullmatch, os.listdir(self.path)):
-            if it and int(it[1]) != number:
-                os.unlink(f"{self.path}/{it[0]}")
 
 
 def shorten(path: str) -> None:

@@ -83,22 +83,23 @@ async def serve(options: argparse.Namespace) -> int:
 async def status(options: argparse.Namespace) -> int:
     log = Log(options.etcd.split(","), options.name)
     try:
-        found, last, members = await asked(log, len(options.etcd.split(",")))
+        found, members = await asked(log, len(options.etcd.split(",")))
     finally:
         log.close()
     print(f"{options.name}: " + (f"{found.leader.said['address']} leads in term {found.leader.term}" if found.leader else "nobody leads"))
-    print(f"  the log has the entries {found.first} to {last}" if last else "  the log is empty")
+    last = found.front.number
+    print(f"  the log has the entries {found.first} to {last}" if found.first <= last else f"  the log has none of its {last} entries any more")
     for name in sorted(members):
         it = members[name]
         print(f"  {name:<24} {it['role']:<9} applied {it['applied']:<10} checkpoint {it['checkpoint']}")
     return 0 if found.leader else 1
 
 
-async def asked(log: Log, tries: int) -> Tuple[Snapshot, int, Dict[str, Dict[str, Any]]]:
+async def asked(log: Log, tries: int) -> Tuple[Snapshot, Dict[str, Dict[str, Any]]]:
     """What etcd says, by one of its members."""
     while True:
         try:
-            return await log.read(0, 1), await log.last(), await log.members()
+            return await log.read(0, 1), await log.members()
         except Unreachable:
             tries -= 1
             if not tries:

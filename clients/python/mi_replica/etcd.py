@@ -54,7 +54,7 @@ class Etcd:
 
     def __init__(self, urls: Sequence[str], timeout: float) -> None:
         self._places = [place(it) for it in urls]
-        self._timeout, self._at = timeout, 0
+        self.timeout, self._at = timeout, 0
         self._streams: Optional[Streams] = None
         self._lock = asyncio.Lock()
 
@@ -62,7 +62,7 @@ class Etcd:
         """The answer. Raises Unreachable and Rejected."""
         async with self._lock:
             try:
-                found = await asyncio.wait_for(self._exchange(path, body), self._timeout)
+                found = await asyncio.wait_for(self._exchange(path, body), self.timeout)
             except (OSError, EOFError, ValueError, asyncio.TimeoutError, asyncio.LimitOverrunError) as error:
                 self.turn()
                 raise Unreachable(f"etcd: {error or 'no answer in time'}") from error
@@ -111,7 +111,7 @@ class Etcd:
         streams: Optional[Streams] = None
         try:
             streams = await self._opened()
-            status, _ = await asyncio.wait_for(asked(streams, "/v3/watch", body), self._timeout)
+            status, _ = await asyncio.wait_for(asked(streams, "/v3/watch", body), self.timeout)
             if status != 200:
                 raise Unreachable(f"etcd: a watch was answered {status}")
             rest, pieces = b"", chunks(streams[0])
@@ -187,11 +187,6 @@ def ranged(key: bytes, end: bytes = b"", limit: int = 0) -> Message:
     return {"request_range": {"key": text64(key), "limit": str(limit), **more}}
 
 
-def counted(key: bytes) -> Message:
-    """How many keys of this name there are, 0 or 1, without the value."""
-    return {"request_range": {"key": text64(key), "count_only": True}}
-
-
 def deleted(key: bytes, end: bytes) -> Message:
     return {"request_delete_range": {"key": text64(key), "range_end": text64(end)}}
 
@@ -208,11 +203,6 @@ class Pair:
 def pairs(answer: Message, which: int) -> List[Pair]:
     """What the range at this place of a transaction found."""
     return [Pair(it) for it in answer["responses"][which].get("response_range", {}).get("kvs", [])]
-
-
-def count(answer: Message, which: int) -> int:
-    """How many keys the range at this place of a transaction counted."""
-    return int(answer["responses"][which].get("response_range", {}).get("count", 0))
 
 
 def revision(answer: Message) -> int:

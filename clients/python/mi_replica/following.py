@@ -7,8 +7,9 @@ from typing import Callable, Iterator, List, Optional, Tuple
 
 from mi_replica import lines as known
 from mi_replica.clients import Client, Clients
-from mi_replica.log import AGAIN_SECONDS, MOST_BYTES, Leader, Log, OtherLedger, Snapshot
 from mi_replica.etcd import Unreachable
+from mi_replica.front import Entry, Front
+from mi_replica.log import AGAIN_SECONDS, MOST_BYTES, Leader, Log, OtherLedger, Snapshot
 from mi_replica.own import Own
 from mi_replica.tasks import end
 
@@ -34,9 +35,9 @@ class Behind(Exception):
         self.first = first
 
 
-def lines_of(value: bytes) -> List[bytes]:
+def lines_of(lines: bytes) -> List[bytes]:
     """The lines of an entry, each with its newline."""
-    return [it + b"\n" for it in value.split(b"\n")[:-1]]
+    return [it + b"\n" for it in lines.split(b"\n")[:-1]]
 
 
 async def replay(own: Own, lines: List[bytes], place: str) -> None:
@@ -47,12 +48,12 @@ async def replay(own: Own, lines: List[bytes], place: str) -> None:
 
 
 class Following:
-    def __init__(self, own: Own, log: Log, clients: Clients, number: int) -> None:
-        """`number` is the entry up to which the own server has the log."""
-        self._own, self._log, self._clients, self.number = own, log, clients, number
+    def __init__(self, own: Own, log: Log, clients: Clients, front: Front, had: Front) -> None:
+        """`front` is up to where the own server has the log, and `had` up to where an earlier one has had it, which may be farther."""
+        self._own, self._log, self._clients, self.front, self._had = own, log, clients, front, had
         self.leader: Optional[Leader] = None
         self._is_done = False
-        self.on_entry: Callable[[int, bytes], None] = lambda number, value: None
+        self.on_entry: Callable[[Front, bytes], None] = lambda front, lines: None
         self.on_member: Callable[[], bytes] = lambda: b"{}"
 
     async def until_vacant(self) -> None:
@@ -74,42 +75,54 @@ class Following:
         """Asks the own server all that the log has. Answers how that stood at the last look."""
         while True:
             try:
-                found = await self._log.read(self.number)
+                found = await self._log.read(self.front.number)
             except Unreachable:
                 await asyncio.sleep(AGAIN_SECONDS)
                 continue
-            if found.first > self.number + 1:
+            most = max(self.front.number, self._had.number)
+            if found.front.number < most:
+                raise OtherLedger(f"etcd's log ends before entry {most}, up to which this member has had it: it has lost what was acknowledged")
+            if found.first > self.front.number + 1:
                 raise Behind(found.first)
-            if not found.is_known:
-                raise OtherLedger(f"etcd's log ends before entry {self.number}, up to which this member has it: it has lost what was acknowledged")
+            for it in (found.front, self._had):
+                self._compare(self.front, it)
             await self._apply(found.entries)
             self.leader = found.leader
             if not found.more:
                 return found
 
-    async def _apply(self, entries: List[Tuple[int, bytes]]) -> None:
-        """Asks the own server entries, together where they are short."""
-        taken: List[Tuple[int, bytes]] = []
-        size = 0
-        for number, value in entries:
-            if number <= self.number + len(taken):
+    @staticmethod
+    def _compare(front: Front, other: Front) -> None:
+        """Raises OtherLedger where two fronts of one number aren't the same."""
+        if front.number == other.number and front != other:
+            raise OtherLedger(f"etcd's log isn't the one that this member has: up to entry {front.number} it has other entries")
+
+    async def _apply(self, entries: List[Entry]) -> None:
+        """Asks the own server entries, together where they are short, each of which stands on what this member has."""
+        taken: List[Tuple[Front, bytes]] = []
+        front, size = self.front, 0
+        for it in entries:
+            if it.number <= front.number:
                 continue
-            if number != self.number + len(taken) + 1:
-                raise Behind(number)
-            taken.append((number, value))
-            size += len(value)
+            if it.number != front.number + 1:
+                raise Behind(it.number)
+            self._compare(front, Front(front.number, it.before))
+            front, size = front.with_entry(it.lines), size + len(it.lines)
+            self._compare(front, self._had)
+            taken.append((front, it.lines))
             if size > MOST_BYTES:
                 await self._apply_at_once(taken)
                 taken, size = [], 0
         await self._apply_at_once(taken)
 
-    async def _apply_at_once(self, entries: List[Tuple[int, bytes]]) -> None:
-        lines = [line for _, value in entries for line in lines_of(value)]
+    async def _apply_at_once(self, taken: List[Tuple[Front, bytes]]) -> None:
+        """Asks entries, each with how far the log goes behind it."""
+        lines = [line for _, entry in taken for line in lines_of(entry)]
         if lines:
-            await replay(self._own, lines, f"entries {entries[0][0]} to {entries[-1][0]}")
-        for number, value in entries:
-            self.number = number
-            self.on_entry(number, value)
+            await replay(self._own, lines, f"entries {taken[0][0].number} to {taken[-1][0].number}")
+        for front, entry in taken:
+            self.front = front
+            self.on_entry(front, entry)
 
     # The log
 

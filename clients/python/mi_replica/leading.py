@@ -6,11 +6,12 @@ from __future__ import annotations
 import asyncio
 import collections
 import re
-from typing import Awaitable, Callable, Deque, List, NamedTuple, Optional, Tuple
+from typing import Callable, Deque, List, NamedTuple, Optional, Tuple
 
 from mi_replica.clients import Client, Clients
 from mi_replica.lines import REVISION, UNDO, belongs, is_of_member, may_start
 from mi_replica.etcd import Unreachable
+from mi_replica.front import Front
 from mi_replica.log import AGAIN_SECONDS, MOST_BYTES, Log, Term
 from mi_replica.own import Gone, Own, held
 from mi_replica.tasks import first_ended
@@ -46,10 +47,10 @@ class Reply(NamedTuple):
 
 
 class Leading:
-    def __init__(self, own: Own, log: Log, clients: Clients, term: Term, number: int, most_lines: int = 0) -> None:
-        """`number` is the last entry of the log, which the own server has executed. At most `most_lines` make an entry, where that isn't 0."""
+    def __init__(self, own: Own, log: Log, clients: Clients, term: Term, front: Front, most_lines: int = 0) -> None:
+        """`front` is up to where the log goes, which the own server has executed. At most `most_lines` make an entry, where that isn't 0."""
         self._own, self._log, self._clients, self._term = own, log, clients, term
-        self.number, self._most_lines = number, most_lines
+        self.front, self._most_lines = front, most_lines
         self.holder: Optional[Client] = None
         self._held = 0
         self._executed = self._committed = 0
@@ -57,7 +58,7 @@ class Leading:
         self._pending_bytes = 0
         self._replies: Deque[Reply] = collections.deque()
         self._more, self._room = asyncio.Event(), asyncio.Event()
-        self.on_entry: Callable[[int, bytes], None] = lambda number, value: None
+        self.on_entry: Callable[[Front, bytes], None] = lambda front, lines: None
         self.on_member: Callable[[], bytes] = lambda: b"{}"
 
     async def run(self) -> None:
@@ -153,11 +154,10 @@ class Leading:
                 self._more.clear()
                 await self._more.wait()
             lines = self._taken()
-            value = b"".join(lines)
-            await self._log.append(self.number + 1, value, self._term)
-            self.number += 1
+            entry = b"".join(lines)
+            self.front = await self._log.append(self.front, entry, self._term)
             self._committed += len(lines)
-            self.on_entry(self.number, value)
+            self.on_entry(self.front, entry)
             self._room.set()
             self.release()
 

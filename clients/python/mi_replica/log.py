@@ -1,7 +1,8 @@
 """A ledger's log in etcd: its entries, who may append, and what members say of themselves. An entry is lines of a journal, and the
 entries one behind the other are one journal. It knows nothing of servers and clients.
 
-    NAME/log/<20 digits>   an entry, from 1 on
+    NAME/log/<20 digits>   an entry, from 1 on: the sum of the log before it in a line of 16 digits, and its lines
+    NAME/front             the number of the last entry, and the sum of the log up to it
     NAME/leader            who may append, while its lease lives; the revision at which the key was made is the leader's term
     NAME/first             the first entry that is still there: 20 digits, so that values are in the order of their numbers
     NAME/identity          16 random digits from the ledger's beginning: etcd begun anew has a ledger of this name with others
@@ -9,27 +10,31 @@ entries one behind the other are one journal. It knows nothing of servers and cl
     NAME.members/ID        what a member says of itself, while its lease lives
 
 etcd may do a request late that was given up for want of an answer: its member stood still, or the network kept it. So each transaction that
-changes something compares what it stands on, and one that others have overtaken is refused: an entry is new, the first entry is a later one than it
-was, the leader's key is as this member has last known it."""
+changes something compares what it stands on, and one that others have overtaken is refused: an entry is new and the log goes up to the front that it
+stands on, the first entry is a later one than it was, the leader's key is as this member has last known it."""
 from __future__ import annotations
 
 import asyncio
 import json
 import secrets
 import time
-from typing import Any, AsyncIterator, Dict, List, NamedTuple, Optional, Sequence, Tuple
+from typing import Any, AsyncIterator, Dict, List, NamedTuple, Optional, Sequence
 
-from mi_replica.etcd import Etcd, Message, Pair, Rejected, Unreachable, behind, count, counted, deleted, is_changed_at, is_made_at, is_new, is_value
-from mi_replica.etcd import pairs, put, ranged, revision, text64
+from mi_replica.etcd import Etcd, Message, Pair, Rejected, Unreachable, behind, deleted, is_changed_at, is_made_at, is_new, is_value, pairs, put
+from mi_replica.etcd import ranged, revision, text64
+from mi_replica.front import SUM_DIGITS, Entry, Front
 
 MOST_BYTES = 1_000_000
-"""The most bytes of an entry: etcd takes requests of 1,572,864 bytes unless it is told otherwise."""
+"""The most bytes of an entry's lines: etcd takes requests of 1,572,864 bytes unless it is told otherwise."""
 LEAST_PAGE, MOST_PAGE = 8, 512
 PAGE_BYTES = 4 << 20
 """So many entries are read at once, and about so many bytes, as the entries before let expect."""
 NOT_FOUND = 5
 """The code of an answer where there is no such lease."""
 REQUEST_SECONDS = 2.0
+"""A request that has no answer for so long is asked of another member of etcd."""
+TERM_PARTS = 3
+"""One that prolongs a term or begins it waits for such a part of the term at most, so that it outlasts a member of etcd that stands still."""
 AGAIN_SECONDS = 0.1
 COMPACTED = 1_000
 """etcd forgets so many revisions at once."""
@@ -78,21 +83,21 @@ class Term:
 
 
 class Snapshot(NamedTuple):
-    """What stood in etcd at one moment: the entries behind a number (some of them, where `more`), and who may append. `is_known` says that
-    the entry of this number is there itself, or was and has left the log."""
+    """What stood in etcd at one moment: the entries behind a number (some of them, where `more`), the first that is still there, how far
+    all of them go, and who may append."""
 
-    entries: List[Tuple[int, bytes]]
+    entries: List[Entry]
     more: bool
     first: int
+    front: Front
     leader: Optional[Leader]
     revision: int
-    is_known: bool = True
 
 
 class News(NamedTuple):
     """What changed: an entry that was appended, or else who leads."""
 
-    entry: Optional[Tuple[int, bytes]] = None
+    entry: Optional[Entry] = None
     leads: Optional[Leader] = None
 
 
@@ -108,7 +113,8 @@ def leader_of(found: Sequence[Pair]) -> Optional[Leader]:
 class Log:
     def __init__(self, urls: Sequence[str], name: str) -> None:
         self._prefix, self._members = f"{name}/".encode(), f"{name}.members/".encode()
-        self._leader, self._first, self._schema, self._identity = (self._prefix + it for it in (b"leader", b"first", b"schema", b"identity"))
+        keys = (b"leader", b"first", b"front", b"schema", b"identity")
+        self._leader, self._first, self._front, self._schema, self._identity = (self._prefix + it for it in keys)
         self.name, self.identity = name, ""
         """The identity is that of the ledger that was agreed on. Behind that nothing is read of another, or put into it."""
         self._entries = self._prefix + b"log/"
@@ -123,8 +129,12 @@ class Log:
     def _key(self, number: int) -> bytes:
         return self._entries + b"%020d" % number
 
-    def _number(self, key: bytes) -> int:
-        return int(key[len(self._entries):])
+    def _entry(self, it: Pair) -> Entry:
+        return Entry.read(int(it.key[len(self._entries):]), it.value)
+
+    def begin(self) -> Front:
+        """The front of the ledger that was agreed on while it had no entries."""
+        return Front(0, self.identity)
 
     def _here(self, asked: Message) -> Message:
         """A transaction that isn't done in another ledger of this name."""
@@ -134,25 +144,16 @@ class Log:
     async def read(self, after: int, limit: int = 0) -> Snapshot:
         """The entries behind this number, as they stand, `limit` of them at most. Raises Unreachable and OtherLedger."""
         limit = limit or self._page
-        parts = [ranged(self._key(after + 1), behind(self._entries), limit + 1), ranged(self._leader), ranged(self._first)]
-        parts += [ranged(self._identity), counted(self._key(after))]
+        parts = [ranged(self._key(after + 1), behind(self._entries), limit + 1)]
+        parts += map(ranged, (self._leader, self._first, self._identity, self._front))
         answer = await self._reading.post("/v3/kv/txn", {"success": parts})
         if self.identity and [it.value.decode() for it in pairs(answer, 3)] != [self.identity]:
             raise OtherLedger(f"etcd was begun anew: its ledger {self.name} isn't the one any more that this member has been in. Start it again")
-        found, begin = pairs(answer, 0), pairs(answer, 2)
-        first = int(begin[0].value) if begin else 1
-        entries = [(self._number(it.key), it.value) for it in found]
-        average = sum(len(value) for _, value in entries) // max(1, len(entries)) or 1
+        entries, begin, front = [self._entry(it) for it in pairs(answer, 0)], pairs(answer, 2), pairs(answer, 4)
+        average = sum(len(it.lines) for it in entries) // max(1, len(entries)) or 1
         self._page = max(LEAST_PAGE, min(MOST_PAGE, PAGE_BYTES // average))
-        is_known = after < first or count(answer, 4) > 0
-        return Snapshot(entries[:limit], len(entries) > limit, first, leader_of(pairs(answer, 1)), revision(answer), is_known)
-
-    async def last(self) -> int:
-        """The number of the last entry; 0 where there is none."""
-        newest = {"key": text64(self._entries), "range_end": text64(behind(self._entries)), "limit": "1"}
-        order = {"sort_order": "DESCEND", "sort_target": "KEY", "keys_only": True}
-        answer = await self._reading.post("/v3/kv/txn", {"success": [{"request_range": {**newest, **order}}]})
-        return max((self._number(it.key) for it in pairs(answer, 0)), default=0)
+        first, last = int(begin[0].value) if begin else 1, Front.read(front[0].value) if front else self.begin()
+        return Snapshot(entries[:limit], len(entries) > limit, first, last, leader_of(pairs(answer, 1)), revision(answer))
 
     async def watch(self, start: int, silence: float) -> AsyncIterator[List[News]]:
         """What changes from this revision on, until nothing has for so many seconds, or the revision is too old for etcd."""
@@ -167,30 +168,32 @@ class Log:
         if it.key == self._leader:
             return News() if is_gone else News(leads=leader_of([it]))
         if it.key.startswith(self._entries) and not is_gone:
-            return News(entry=(self._number(it.key), it.value))
+            return News(entry=self._entry(it))
         return None
 
     # Appending
 
-    async def append(self, number: int, value: bytes, term: Term) -> None:
-        """Appends an entry, asking until etcd has answered: it is committed behind this. Raises Lost where the term has ended; then
-        the entry may be there or not."""
+    async def append(self, front: Front, lines: bytes, term: Term) -> Front:
+        """Appends an entry to the log that goes up to this front, asking until etcd has answered: it is committed behind this. Answers how far
+        the log goes then. Raises Lost where the term has ended, or the log isn't that one; then the entry may be there or not."""
+        key, entry, grown = self._key(front.number + 1), Entry(front.number + 1, front.sum, lines).written(), front.with_entry(lines)
         asked = {
-            "compare": [is_new(self._key(number)), is_made_at(self._leader, term.number)],
-            "success": [put(self._key(number), value)],
-            "failure": [ranged(self._key(number)), ranged(self._leader)],
+            "compare": [is_new(key), is_made_at(self._leader, term.number), is_value(self._front, front.written())],
+            "success": [put(key, entry), put(self._front, grown.written())],
+            "failure": [ranged(key), ranged(self._leader)],
         }
         answer = await self._until_answered(self._appending, "/v3/kv/txn", self._here(asked))
-        if answer.get("succeeded"):
-            return
-        found, leader = pairs(answer, 0), leader_of(pairs(answer, 1))
-        # (in this term nobody else appends: an entry of this number is the one that an unanswered request has put there)
-        if not (found and leader and leader.term == term.number and found[0].value == value):
-            raise Lost("another member has appended, or the lease has ended")
+        if not answer.get("succeeded"):
+            found, leader = pairs(answer, 0), leader_of(pairs(answer, 1))
+            # (in this term nobody else appends: an entry of this number is the one that an unanswered request has put there)
+            if not (found and leader and leader.term == term.number and found[0].value == entry):
+                raise Lost("another member has appended, the lease has ended, or the log is another one")
+        return grown
 
     async def elect(self, said: Said, seconds: int, margin: float) -> Optional[Term]:
         """Asks to be the leader. Answers the term, or None where another one is. Raises Unreachable; asked again, it knows an election
         that was won and not answered by what the member says, which is to be of this election alone."""
+        self._electing.timeout = min(REQUEST_SECONDS, seconds / TERM_PARTS)
         value, began = json.dumps(said).encode(), clock()
         won = put(self._leader, value, await self._granted(seconds))
         asked = {"compare": [is_new(self._leader)], "success": [won], "failure": [ranged(self._leader)]}
@@ -279,10 +282,11 @@ class Log:
     async def agree(self, schema: str) -> str:
         """What identifies the ledger's schema: this one, where no member came before. The ledger is begun then, with an identity of its own.
         Raises OtherLedger."""
-        made = secrets.token_hex(8)
+        made = secrets.token_hex(SUM_DIGITS // 2)
+        begin = {self._identity: made.encode(), self._first: b"%020d" % 1, self._front: Front(0, made).written()}
         asked = {
             "compare": [is_new(self._schema)],
-            "success": [put(self._schema, schema.encode()), put(self._identity, made.encode()), put(self._first, b"%020d" % 1)],
+            "success": [put(self._schema, schema.encode()), *(put(key, value) for key, value in begin.items())],
             "failure": [ranged(self._schema), ranged(self._identity)],
         }
         answer = await self._until_answered(self._reading, "/v3/kv/txn", asked)

@@ -3,18 +3,21 @@ term has ended. What it is told by others is in `log.py`; what is kept on its di
 from __future__ import annotations
 
 import asyncio
+import contextlib
 import hashlib
 import json
 import os
+import re
 import secrets
 import sys
 import tempfile
 import time
 from typing import Any, Dict, List, NamedTuple, Optional, Sequence, Tuple
 
-from mi_replica.checkpoint import Folder, batches, header
+from mi_replica.checkpoint import PIECE, Checkpoint, Damaged, Folder, batches, header
 from mi_replica.clients import Clients
 from mi_replica.etcd import Rejected, Unreachable
+from mi_replica.front import SUM_DIGITS, Front
 from mi_replica.following import Behind, Diverged, Following, replay
 from mi_replica.leading import Leading
 from mi_replica.lines import MEMORY, REVISION, said
@@ -40,10 +43,6 @@ END_SECONDS = 5.0
 
 class OtherSchema(Exception):
     """The ledger belongs to another schema."""
-
-
-class Damaged(Exception):
-    """A checkpoint isn't what was written."""
 
 
 class Settings(NamedTuple):
@@ -86,14 +85,18 @@ class Member:
         self._clients = Clients()
         self._clients.on_checkpoint = self._send_checkpoint
         self._temporary = tempfile.TemporaryDirectory(prefix="mi_replica-")
-        self._role, self._leader, self._term, self._number = "starting", "", 0, 0
+        self._role, self._leader, self._term = "starting", "", 0
+        self._front = self._had = self._log.begin()
+        """Up to where its server has the log, and up to where one of its servers has had it: etcd may not have less, or others."""
         self._schema, self._header = "", b""
         self._tail: List[Tuple[int, bytes]] = []
         self._tail_bytes = 0
-        self._checkpoint = 0
-        """The entry up to which it has a checkpoint that it has loaded or written, so one that others may count on."""
+        self._checkpoint: Optional[Checkpoint] = None
+        """One that it has loaded or written, so one that others may count on."""
         self._writing: Optional["asyncio.Future[None]"] = None
         self._rests_until = 0.0
+        self._damage: Optional[Damaged] = None
+        """What a checkpoint of its own turned out to be, while it ran."""
 
     async def run(self) -> None:
         """Until it is cancelled. Raises OSError where the port is taken, OtherSchema and OtherLedger."""
@@ -113,6 +116,7 @@ class Member:
         if found != self._schema:
             raise OtherSchema(f"{self._settings.name} belongs to the schema {found}, and this one is {self._schema}")
         self._folder = Folder(self._settings.folder or self._temporary.name, self._settings.name, self._log.identity)
+        self._had = self._log.begin()
         while True:
             own = own_of(self._settings.program, self._settings.schema, self._settings.body)
             try:
@@ -131,8 +135,8 @@ class Member:
     async def _once(self, own: Own) -> None:
         """From a fresh server to the end of a term."""
         await own.start()
-        self._number = await self._load(own)
-        following = Following(own, self._log, self._clients, self._number)
+        self._front = await self._load(own)
+        following = Following(own, self._log, self._clients, self._front, self._had)
         following.on_entry, following.on_member = self._took, lambda: self._status(following)
         self._role = "follower"
         while True:
@@ -146,29 +150,32 @@ class Member:
             found = await following.catch_up()
             if not found.leader or found.leader.term != term.number:
                 raise Lost("the lease ended before the log was read")
-            await self._lead(own, following.number, term)
+            await self._lead(own, following.front, term)
         finally:
             self._clients.cut_all()
             await self._log.resign(term)
 
-    async def _load(self, own: Own) -> int:
-        """Asks the server the newest checkpoint, and answers up to which entry that goes. One that can't be read, or that the server refuses,
+    async def _load(self, own: Own) -> Front:
+        """Asks the server the newest checkpoint, and answers up to where that goes. One that isn't what was written, or that the server refuses,
         is set aside, so that the next server begins with what others have."""
         if self._writing:
             await asyncio.wait([self._writing])
         fresh = json.loads((await own.ask([REVISION]))[0])
         self._header = self._header or header(fresh["revision"], self._schema)
-        number, path = self._folder.newest()
+        newest = self._folder.newest()
+        self._tail, self._tail_bytes, self._checkpoint, self._damage = [], 0, None, None
+        if not newest:
+            return self._log.begin()
         try:
-            for lines in batches(path) if path else ():
-                await replay(own, lines, str(path))
-        except (ValueError, Diverged) as error:
+            await asyncio.get_running_loop().run_in_executor(None, newest.check)
+            for lines in batches(newest.path):
+                await replay(own, lines, newest.path)
+        except (Damaged, ValueError, Diverged) as error:
             if isinstance(error, Diverged) and error.reply == MEMORY:
                 raise
-            self._checkpoint = 0
-            raise Damaged(f"{error}; the checkpoint is set aside as {self._folder.set_aside(number)}") from error
-        self._tail, self._tail_bytes, self._checkpoint = [], 0, number
-        return number
+            raise Damaged(f"{error}; the checkpoint is set aside as {self._folder.set_aside(newest)}") from error
+        self._checkpoint = newest
+        return newest.front
 
     async def _elected(self) -> Optional[Term]:
         """The term, where this member was elected."""
@@ -180,9 +187,9 @@ class Member:
             except Unreachable:
                 await asyncio.sleep(AGAIN_SECONDS)
 
-    async def _lead(self, own: Own, number: int, term: Term) -> None:
+    async def _lead(self, own: Own, front: Front, term: Term) -> None:
         self._role, self._leader = "leader", self._address
-        leading = Leading(own, self._log, self._clients, term, number, self._settings.most_lines)
+        leading = Leading(own, self._log, self._clients, term, front, self._settings.most_lines)
         leading.on_entry, leading.on_member = self._took, self._status
         forgetting = asyncio.ensure_future(self._forget(term))
         try:
@@ -198,8 +205,9 @@ class Member:
         return said({**self._said(), "ok": True})
 
     def _said(self) -> Dict[str, Any]:
+        checkpoint = self._checkpoint.front.number if self._checkpoint else 0
         return {
-            "address": self._address, "applied": self._number, "checkpoint": self._checkpoint, "leader": self._leader, "role": self._role,
+            "address": self._address, "applied": self._front.number, "checkpoint": checkpoint, "leader": self._leader, "role": self._role,
             "term": self._term,
         }
 
@@ -218,26 +226,30 @@ class Member:
 
     # Checkpoints
 
-    def _took(self, number: int, value: bytes) -> None:
-        """An entry that the own server has and the log too."""
-        self._number = number
+    def _took(self, front: Front, lines: bytes) -> None:
+        """An entry that the own server has and the log too. Raises Damaged where the last checkpoint turned out to be that."""
+        self._front = front
+        self._had = max(self._had, front)
+        if self._damage:
+            raise self._damage
         if self._settings.folder:
-            self._tail.append((number, value))
-            self._tail_bytes += len(value)
+            self._tail.append((front.number, lines))
+            self._tail_bytes += len(lines)
             if self._tail_bytes >= self._settings.checkpoint and not self._writing and clock() >= self._rests_until:
                 self._writing = asyncio.ensure_future(self._write())
 
     async def _write(self) -> None:
         """Writes a checkpoint of what it has, while it goes on. Where that fails the entries are kept for the next one."""
-        number, taken, size = self._number, self._tail, self._tail_bytes
+        front, taken, size = self._front, self._tail, self._tail_bytes
         self._tail, self._tail_bytes = [], 0
         try:
-            await asyncio.get_running_loop().run_in_executor(None, self._folder.write, number, self._header, taken)
-            self._checkpoint = number
+            self._checkpoint = await asyncio.get_running_loop().run_in_executor(None, self._folder.write, front, self._header, taken)
         except (OSError, ValueError) as error:
             self._tail, self._tail_bytes = taken + self._tail, size + self._tail_bytes
             self._rests_until = clock() + REST_SECONDS
             note(f"no checkpoint, and {self._tail_bytes} bytes that wait for one in memory; the next is tried in {REST_SECONDS:.0f} s: {error}")
+        except Damaged as error:  # (others may not count on it any more)
+            self._checkpoint, self._damage = None, error
         finally:
             self._writing = None
 
@@ -256,19 +268,22 @@ class Member:
                 note(f"the log stays as it is: {error}")
 
     async def _send_checkpoint(self, writer: asyncio.StreamWriter) -> None:
-        """Sends the checkpoint that it tells of, behind a line that says of which ledger it is and how long."""
-        number, identity = self._checkpoint, self._log.identity
-        try:
-            file = open(self._folder.file(number), "rb") if number else None
-        except OSError:  # (a newer one has just taken its place)
-            file = None
-        if not file:
-            writer.write(b'{"error":"checkpoint","ok":false}\n')
-            return
-        with file:
-            members = {"bytes": os.fstat(file.fileno()).st_size, "entry": number, "identity": identity, "ok": True}
-            writer.write(said(members) + b"\n")
-            for piece in iter(lambda: file.read(1 << 18), b""):
+        """Sends the checkpoint that it tells of, behind a line that says up to where it has the log, of which ledger, and what it is."""
+        it = self._checkpoint
+        with contextlib.ExitStack() as opened:
+            try:
+                file = opened.enter_context(open(it.path, "rb")) if it else None
+            except OSError:  # (a newer one has just taken its place)
+                file = None
+            if not it or not file:
+                writer.write(b'{"error":"checkpoint","ok":false}\n')
+                return
+            members = {"bytes": os.fstat(file.fileno()).st_size, "digest": it.digest, "entry": it.front.number, "sum": it.front.sum}
+            writer.write(said({**members, "identity": self._log.identity, "ok": True}) + b"\n")
+            while True:
+                piece = file.read(PIECE)
+                if not piece:
+                    break
                 writer.write(piece)
                 await writer.drain()
 
@@ -295,23 +310,28 @@ class Member:
         reader, writer = await asyncio.wait_for(asyncio.open_connection(host, int(port)), SILENT_SECONDS)
         try:
             writer.write(b'{"cmd":"checkpoint"}\n')
-            number, left = offered(await asyncio.wait_for(reader.readline(), SILENT_SECONDS), self._log.identity, least)
-            with self._folder.written(number) as target:
-                while left:
-                    piece = await asyncio.wait_for(reader.readexactly(min(left, 1 << 16)), SILENT_SECONDS)
-                    target.write(piece)
-                    left -= len(piece)
-            note(f"has the checkpoint of {address} up to entry {number}")
+            front, digest, left = offered(await asyncio.wait_for(reader.readline(), SILENT_SECONDS), self._log.identity, least)
+            with self._folder.new_file() as path:
+                with open(path, "wb") as target:
+                    while left:
+                        piece = await asyncio.wait_for(reader.readexactly(min(left, 1 << 16)), SILENT_SECONDS)
+                        target.write(piece)
+                        left -= len(piece)
+                self._folder.keep(path, front, digest)
+            note(f"has the checkpoint of {address} up to entry {front.number}")
         finally:
             writer.transport.abort()
 
 
-def offered(line: bytes, identity: str, least: int) -> Tuple[int, int]:
-    """The entry and the bytes of a checkpoint, as a member says before it sends it. Raises ValueError where that is of another ledger, or
-    doesn't go as far as this entry."""
+def offered(line: bytes, identity: str, least: int) -> Tuple[Front, str, int]:
+    """Up to where a checkpoint has the log, what its bytes come to and how many they are, as a member says before it sends it. Raises
+    ValueError where that is of another ledger, or doesn't go as far as this entry."""
     found = json.loads(line)
     if not isinstance(found, dict) or not found.get("ok"):
         raise ValueError(f"it answers {line[:80]!r}")
     if found.get("identity") != identity or int(found["entry"]) < least:
         raise ValueError(f"its checkpoint is of the ledger {found.get('identity')} up to entry {found.get('entry')}")
-    return int(found["entry"]), int(found["bytes"])
+    sums = [str(found["sum"]), str(found["digest"])]
+    if not all(re.fullmatch(rf"[0-9a-f]{{{SUM_DIGITS}}}", it) for it in sums):
+        raise ValueError(f"it answers {line[:200]!r}")
+    return Front(int(found["entry"]), sums[0]), sums[1], int(found["bytes"])

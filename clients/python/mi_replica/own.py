@@ -169,8 +169,8 @@ class Service(Own):
             return await self._wires[1].ask(lines)
 
     async def close(self) -> None:
-        for it in self._wires:
-            it.close()
+        for wire in self._wires:
+            wire.close()
         for ran in (self._guard, self._process):
             if ran:
                 ran.kill()

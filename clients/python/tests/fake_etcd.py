@@ -96,8 +96,7 @@ class FakeEtcd:
             for it in found:
                 del self.keys[it]
             return {}
-        found, count = found[: int(asked.get("limit", 0)) or None], len(found)
-        return {"response_range": {"count": str(count), "kvs": [] if asked.get("count_only") else [self._shown(it) for it in found]}}
+        return {"response_range": {"kvs": [self._shown(it) for it in found[: int(asked.get("limit", 0)) or None]]}}
 
     def _shown(self, name: bytes) -> Message:
         key, text = self.keys[name], lambda it: base64.b64encode(it).decode()
@@ -107,10 +106,13 @@ class FakeEtcd:
         """As an etcd whose data was removed."""
         self.__init__()  # type: ignore[misc]
 
-    def forget(self, name: str, entries: int) -> None:
-        """Loses the entries of a ledger behind this one, as an etcd does that was put back to what it was."""
-        for it in [it for it in self.keys if f"{name}/log/{entries:020}".encode() < it < behind(f"{name}/log/".encode())]:
+    def put_back(self, name: str, entries: int) -> None:
+        """Has the log of a ledger up to this entry alone, as an etcd whose data was put back to what it was."""
+        first, *_ = lost = sorted(it for it in self.keys if f"{name}/log/{entries:020}".encode() < it < behind(f"{name}/log/".encode()))
+        front = b"%020d %s" % (entries, self.keys[first].value.partition(b"\n")[0])
+        for it in lost:
             del self.keys[it]
+        self.keys[f"{name}/front".encode()] = self.keys[f"{name}/front".encode()]._replace(value=front)
 
 
 def etcds(log: Log) -> Tuple[Etcd, ...]:

@@ -1,7 +1,6 @@
-"""Members of a ledger without etcd: which lines are a journal's, cutting bytes into lines, checkpoints, and what a leader lets out when.
+"""Members of a ledger without etcd: which lines are a journal's, cutting bytes into lines, and what a leader lets out when.
 With etcd `scripts/replica_test.py` tests them."""
 import asyncio
-import os
 import socket
 import subprocess
 import sys
@@ -14,16 +13,15 @@ import kit
 
 from mi_client import Ended, Server, connect_leader
 from mi_replica import lines as known
-from mi_replica.checkpoint import TOOL, Folder, batches, header
 from mi_replica.clients import Clients
 from mi_replica.etcd import behind
 from mi_replica.following import Diverged, Following, replay
+from mi_replica.front import Front
 from mi_replica.leading import Leading
-from mi_replica.log import Leader, Lost, OtherLedger, Term, clock
-from mi_replica.member import schema_hash
+from mi_replica.log import Leader, Lost, Term, clock
 from mi_replica.own import Piped
 
-HEADER = header(0, "00")
+BEGIN = Front(0, "0a")
 INSERT = b'{"cmd":"insert","row":{"owner":"%s","balance":1,"vip":false}}\n'
 
 
@@ -67,54 +65,6 @@ class Lines(unittest.TestCase):
         self.assertEqual(behind(b"a/"), b"a0")
 
 
-class Checkpoints(unittest.TestCase):
-    def test_one_grows_by_entries_and_the_newest_is_kept(self) -> None:
-        path = kit.folder(self)
-        with open(f"{path}/led.new.torn", "w", encoding="utf-8"):
-            pass
-        folder = Folder(path, "led", "0a")
-        self.assertEqual((folder.newest(), os.listdir(path)), ((0, None), []))
-        folder.write(2, HEADER, [(1, INSERT % b"a"), (2, INSERT % b"b")])
-        with self.assertRaises(ValueError):
-            folder.write(4, HEADER, [(4, INSERT % b"d")])
-        # (an entry that is there already isn't put in again)
-        folder.write(5, HEADER, [(2, INSERT % b"b"), (3, b'{"cmd":"start"}\n' + INSERT % b"c"), (4, b'{"cmd":"undo"}\n'), (5, INSERT % b"d")])
-        self.assertEqual(os.listdir(path), [f"led.0a.{5:020}.journal"])
-        found = [line for some in batches(str(folder.newest()[1])) for line in some]
-        block = [] if os.path.isfile(TOOL) else [b'{"cmd":"start"}\n', INSERT % b"c", b'{"cmd":"undo"}\n']
-        self.assertEqual(found, [INSERT % b"a", INSERT % b"b", *block, INSERT % b"d"])
-
-    @unittest.skipUnless(os.path.isfile(TOOL), "needs scripts/journal.py")
-    def test_one_is_a_journal(self) -> None:
-        folder = Folder(kit.folder(self), "led", "0a")
-        folder.write(1, HEADER, [(1, INSERT % b"a")])
-        words = [sys.executable, TOOL, "check", str(folder.newest()[1]), "--replay", kit.program()]
-        ran = subprocess.run(words, capture_output=True, text=True, timeout=60)
-        self.assertEqual(ran.returncode, 0, ran.stderr)
-
-    def test_damaged_ones_are_refused(self) -> None:
-        for text in (b"", b"no header\n", HEADER + b"torn", HEADER + b"\n", HEADER + INSERT % b"a" + b"\r\n"):
-            path = f"{kit.folder(self)}/it"
-            with open(path, "wb") as file:
-                file.write(text)
-            self.assertRaises(ValueError, lambda path=path: list(batches(path)))
-
-    def test_those_of_another_ledger_are_refused(self) -> None:
-        path = kit.folder(self)
-        Folder(path, "led", "0a").write(1, HEADER, [(1, INSERT % b"a")])
-        for name, identity, is_well in (("led", "0a", True), ("led-2", "0b", True), ("led", "0b", False)):
-            if is_well:
-                self.assertEqual(Folder(path, name, identity).newest()[0], int(name == "led"))
-            else:
-                self.assertRaises(OtherLedger, Folder, path, name, identity)
-        os.rename(f"{path}/led.0a.{1:020}.journal", f"{path}/led.{1:020}.journal")  # (without any identity)
-        self.assertRaises(OtherLedger, Folder, path, "led", "0a")
-
-    def test_schemas_are_told_apart(self) -> None:
-        one, other = kit.written(self, "a"), kit.written(self, "b")
-        self.assertEqual(len({schema_hash(None), schema_hash(one), schema_hash(other)}), 3)
-
-
 class FakeLog:
     """A log whose entries are committed once `may` is set, or which a member has lost."""
 
@@ -123,12 +73,13 @@ class FakeLog:
         self.is_lost, self.is_ended, self.is_reached = False, False, True
         self.may.set()
 
-    async def append(self, number: int, value: bytes, term: int) -> None:
+    async def append(self, front: Front, lines: bytes, term: int) -> Front:
         await self.may.wait()
         if self.is_lost:
             raise Lost("by the test")
-        assert number == len(self.entries) + 1
-        self.entries.append(value)
+        assert front == BEGIN if not self.entries else front.number == len(self.entries)
+        self.entries.append(lines)
+        return front.with_entry(lines)
 
     async def prolong(self, term: Term) -> None:
         if self.is_ended:
@@ -175,7 +126,7 @@ class Scene:
 
     def lead(self, most_lines: int = 0) -> None:
         term = Term(1, b"", 1, 0.5)
-        leading = Leading(self.own, self.log, self.clients, term, 0, most_lines)  # type: ignore[arg-type]
+        leading = Leading(self.own, self.log, self.clients, term, BEGIN, most_lines)  # type: ignore[arg-type]
         leading.on_member = lambda: b'{"role":"leader"}'
         self.running = asyncio.ensure_future(leading.run())
 
@@ -369,7 +320,7 @@ class Looks(unittest.TestCase):
         async def played() -> None:
             scene = Scene()
             await scene.begin((INSERT % b"a",))
-            following = Following(scene.own, scene.log, scene.clients, 0)  # type: ignore[arg-type]
+            following = Following(scene.own, scene.log, scene.clients, BEGIN, BEGIN)  # type: ignore[arg-type]
             following.leader = Leader(1, {"address": "127.0.0.1:5"})
             scene.running = asyncio.ensure_future(following._answer())
             try:

@@ -1,14 +1,9 @@
 """A ledger's log in etcd where requests are done late, and where etcd isn't the one that it was: a fake one, and etcd itself where it is installed."""
 import asyncio
-import json
-import shutil
 import socket
 import subprocess
 import sys
-import tempfile
-import time
 import unittest
-import urllib.request
 from typing import Any, Awaitable, Callable, List, Tuple
 from unittest import mock
 
@@ -16,9 +11,12 @@ import kit
 
 from fake_etcd import FakeEtcd, Way, etcds
 from mi_replica.clients import Clients
-from mi_replica.etcd import Unreachable, place
+from mi_replica.etcd import Unreachable, behind, deleted, place, put
 from mi_replica.following import Behind, Following
-from mi_replica.log import Log, Lost, OtherLedger, Term
+from mi_replica.front import Entry, Front
+from mi_replica.leading import PARTS
+from mi_replica.log import AGAIN_SECONDS, Log, Lost, OtherLedger, Snapshot, Term
+from one_etcd import OneEtcd, needs_etcd
 
 NOWHERE = "http://127.0.0.1:1"
 ME = {"address": "one", "once": "1"}
@@ -31,11 +29,28 @@ class Own:
         return [b'{"id":0,"ok":true}'] * len(lines)
 
 
-async def caught_up(log: Log, number: int) -> int:
-    """Where a member is that had the log up to here and has read on."""
-    following = Following(Own(), log, Clients(), number)  # type: ignore[arg-type]
+async def caught_up(log: Log, front: Front, had: Front) -> Front:
+    """Where a member is that has the log up to here and has read on; it had it up to `had`."""
+    following = Following(Own(), log, Clients(), front, had)  # type: ignore[arg-type]
     await following.catch_up()
-    return following.number
+    return following.front
+
+
+async def again(log: Log, number: int) -> Snapshot:
+    """What the log has behind this entry, once etcd is there again."""
+    while True:
+        try:
+            return await log.read(number)
+        except Unreachable:
+            await asyncio.sleep(AGAIN_SECONDS)
+
+
+async def appended(log: Log, term: Term, front: Front, what: str, count: int) -> List[Front]:
+    """How far the log goes behind so many more entries, and behind each before."""
+    fronts = [front]
+    for n in range(count):
+        fronts.append(await log.append(fronts[-1], b"%s %d\n" % (what.encode(), n + 1), term))
+    return fronts
 
 
 class Late:
@@ -52,8 +67,7 @@ class Late:
             await log.agree("schema")
             term = await log.elect(ME, 10, 0.5)
             assert term
-            for n in range(1, 21):
-                await log.append(n, b"entry %d\n" % n, term)
+            self.fronts = await appended(log, term, log.begin(), "entry", 20)
             await act(log, way, term)
             await log.resign(term)
             log.close()
@@ -69,7 +83,7 @@ class Late:
             self.assertFalse(await way.late())
             self.assertEqual((await log.read(20)).first, 21)
             with self.assertRaises(Behind):  # (it was away, and may not take a log without entries for the whole)
-                await caught_up(log, 12)
+                await caught_up(log, self.fronts[12], self.fronts[12])
 
         self.play(act)
 
@@ -81,7 +95,7 @@ class Late:
                 await asyncio.sleep(0.02)
                 self.assertEqual(await way.late(), done_late)
                 await asked
-            self.assertEqual([n for n, _ in (await log.read(0)).entries][:1], [11])
+            self.assertEqual([it.number for it in (await log.read(0)).entries][:1], [11])
 
         self.play(act)
 
@@ -132,15 +146,49 @@ class Late:
 
         self.play(act)
 
+    async def put_back(self: Any, log: Log, number: int) -> None:
+        """Etcd has the log up to this entry alone, as where its data was put back."""
+        lost, front = deleted(log._key(number + 1), behind(log._entries)), put(log._front, self.fronts[number].written())
+        await log._reading.post("/v3/kv/txn", {"success": [lost, front]})
+
+    def test_each_entry_says_what_it_stands_on(self: Any) -> None:
+        async def act(log: Log, way: Way, term: Term) -> None:
+            found = await log.read(0, 3)
+            self.assertEqual(found.entries, [Entry(n, self.fronts[n - 1].sum, b"entry %d\n" % n) for n in (1, 2, 3)])
+            self.assertEqual((found.front, len({it.sum for it in self.fronts})), (self.fronts[20], 21))
+            self.assertEqual([Front.read(it.written()) for it in self.fronts], self.fronts)
+
+        self.play(act)
+
     def test_a_log_that_ends_before_what_a_member_has(self: Any) -> None:
         async def act(log: Log, way: Way, term: Term) -> None:
-            self.assertEqual([await caught_up(log, it) for it in (0, 7, 20)], [20, 20, 20])
-            with self.assertRaises(OtherLedger):
-                await caught_up(log, 21)
+            fronts = self.fronts
+            more = fronts[20].with_entry(b"lost\n")
+            self.assertEqual([await caught_up(log, fronts[it], fronts[20]) for it in (0, 7, 20)], [fronts[20]] * 3)
+            for has in (more, fronts[0], fronts[20]):
+                with self.assertRaisesRegex(OtherLedger, "ends before entry 21,"):
+                    await caught_up(log, has, more)
             await log.forget(20, term)
-            self.assertEqual(await caught_up(log, 20), 20)
-            with self.assertRaises(OtherLedger):
-                await caught_up(log, 21)
+            self.assertEqual(await caught_up(log, fronts[20], fronts[20]), fronts[20])
+            with self.assertRaisesRegex(OtherLedger, "ends before entry 21,"):
+                await caught_up(log, more, more)
+
+        self.play(act)
+
+    def test_a_log_that_was_put_back_and_has_others(self: Any) -> None:
+        """As many as a member has had, and more. Whoever goes on with it has none of the lost ones."""
+        async def act(log: Log, way: Way, term: Term) -> None:
+            fronts = self.fronts
+            await self.put_back(log, 15)
+            with self.assertRaises(Lost):
+                await log.append(fronts[20], b"on\n", term)
+            for count in (5, 1):
+                others = await appended(log, term, (await log.read(15)).front, "other", count)
+                for has, had in ((20, 20), (15, 20), (0, 20), (17, 17), (17, 20)):
+                    with self.assertRaisesRegex(OtherLedger, "it has other entries"):
+                        await caught_up(log, fronts[has], fronts[had])
+            for has in (0, 15):
+                self.assertEqual(await caught_up(log, fronts[has], fronts[15]), others[-1])
 
         self.play(act)
 
@@ -186,25 +234,23 @@ class InFake(Late, unittest.TestCase):
             await old.agree("schema")
             term = await old.elect(ME, 10, 0.5)
             assert term
-            for n in range(1, 4):
-                await old.append(n, b"old %d\n" % n, term)
+            before = await appended(old, term, old.begin(), "old", 3)
             self.etcd.wipe()
             await new.agree("schema")
             again = await new.elect({**ME, "address": "two"}, 10, 0.5)
             assert again
             self.assertEqual((again.number, old.identity == new.identity), (term.number, False))
-            for n in range(1, 6):
-                await new.append(n, b"new %d\n" % n, again)
+            fronts = await appended(new, again, new.begin(), "new", 5)
             with self.assertRaises(OtherLedger):
-                await caught_up(old, 3)
-            for refused in (old.append(6, b"old 6\n", term), old.prolong(term), old.forget(3, term)):
+                await caught_up(old, before[3], before[3])
+            for refused in (old.append(before[3], b"old 4\n", term), old.prolong(term), old.forget(3, term)):
                 with self.assertRaises(Lost):
                     await refused
             await old.say("one", {"checkpoint": 3}, 0)
             await old.resign(term)
             self.assertEqual(await new.members(), {})
             self.assertEqual(((await new.read(0)).leader or (0,))[0], again.number)
-            self.assertEqual(await caught_up(new, 0), 5)
+            self.assertEqual(await caught_up(new, new.begin(), new.begin()), fronts[5])
 
         asyncio.run(asyncio.wait_for(played(), 60))
 
@@ -220,43 +266,77 @@ class InFake(Late, unittest.TestCase):
         asyncio.run(played())
 
 
-@unittest.skipUnless(shutil.which("etcd"), "needs etcd")
+@needs_etcd
 class InEtcd(Late, unittest.TestCase):
     """The same, of etcd itself: so it is as the fake one has it."""
 
     @classmethod
     def setUpClass(cls) -> None:
-        ports = []
-        for _ in range(2):
-            with socket.socket() as it:
-                it.bind(("127.0.0.1", 0))
-                ports.append(it.getsockname()[1])
-        cls.count, cls.url, peer = 0, *(f"http://127.0.0.1:{it}" for it in ports)
-        cls.folder = tempfile.TemporaryDirectory()
-        words = ["etcd", "--name", "e", "--data-dir", f"{cls.folder.name}/e", "--log-level", "error", "--initial-cluster", f"e={peer}"]
-        words += ["--listen-client-urls", cls.url, "--advertise-client-urls", cls.url, "--listen-peer-urls", peer, "--initial-advertise-peer-urls", peer]
-        cls.ran = subprocess.Popen(words, stdin=subprocess.DEVNULL, stdout=subprocess.DEVNULL, stderr=subprocess.DEVNULL)
-        end = time.monotonic() + 60
-        while time.monotonic() < end and not cls.is_well():
-            time.sleep(0.1)
-
-    @classmethod
-    def is_well(cls) -> bool:
-        try:
-            with urllib.request.urlopen(f"{cls.url}/health", timeout=2) as answer:
-                return bool(json.load(answer)["health"] == "true")
-        except (OSError, ValueError):
-            return False
+        cls.count, cls.etcd = 0, OneEtcd()
 
     @classmethod
     def tearDownClass(cls) -> None:
-        cls.ran.kill()
-        cls.ran.wait()
-        cls.folder.cleanup()
+        cls.etcd.close()
 
-    def log(self) -> Log:
+    def log(self, *others: str) -> Log:
         type(self).count += 1
-        return Log([self.url], f"led{self.count}")
+        return Log([*others, self.etcd.url], f"led{self.count}")
+
+    def test_a_term_outlasts_a_member_that_stands_still(self) -> None:
+        """Which takes requests and answers none."""
+        async def played(seconds: int, still: str) -> None:
+            log = self.log(still)
+            log._reading.turn()
+            await log.agree("schema")
+            with self.assertRaises(Unreachable):
+                await log.elect(ME, seconds, 0.5)
+            term = await log.elect(ME, seconds, 0.5)
+            assert term
+            await asyncio.sleep(seconds / PARTS)
+            log._electing.turn()
+            with self.assertRaises(Unreachable):
+                await log.prolong(term)
+            await asyncio.sleep(AGAIN_SECONDS)
+            self.assertTrue(term.holds())
+            await log.prolong(term)
+            await log.resign(term)
+            log.close()
+
+        with socket.create_server(("127.0.0.1", 0)) as it:
+            for seconds in (2, 3):
+                asyncio.run(asyncio.wait_for(played(seconds, f"http://127.0.0.1:{it.getsockname()[1]}"), 60))
+
+
+@needs_etcd
+class PutBack(unittest.TestCase):
+    def test_etcd_that_begins_with_data_of_before(self) -> None:
+        """And gets other entries, as many as it has lost: a member that has those finds it, one of before doesn't."""
+        async def played(etcd: OneEtcd) -> None:
+            log = Log([etcd.url], "led")
+            await log.agree("schema")
+            term = await log.elect(ME, 60, 0.5)
+            assert term
+            fronts = await appended(log, term, log.begin(), "entry", 3)
+            etcd.save()
+            lost = await appended(log, term, fronts[3], "lost", 2)
+            etcd.put_back()
+            self.assertEqual((await again(log, 0)).front, fronts[3])
+            with self.assertRaisesRegex(OtherLedger, "ends before entry 5"):
+                await caught_up(log, lost[2], lost[2])
+            with self.assertRaises(Lost):
+                await log.append(lost[2], b"lost 3\n", term)
+            others = await appended(log, term, fronts[3], "other", 2)
+            for has in (lost[2], fronts[1]):
+                with self.assertRaisesRegex(OtherLedger, "up to entry 5 it has other entries"):
+                    await caught_up(log, has, lost[2])
+            self.assertEqual(await caught_up(log, fronts[1], fronts[3]), others[2])
+            log.close()
+
+        etcd = OneEtcd()
+        try:
+            asyncio.run(asyncio.wait_for(played(etcd), 120))
+        finally:
+            etcd.close()
 
 
 class Places(unittest.TestCase):

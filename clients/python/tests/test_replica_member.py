@@ -2,110 +2,22 @@
 other members."""
 import asyncio
 import contextlib
+import hashlib
 import io
-import json
 import os
-import socket
-import sys
 import unittest
-from typing import Any, AsyncIterator, Awaitable, Callable, Dict, List
+from typing import Any, Callable, Dict, List
 from unittest import mock
 
 import kit
+from member_kit import INSERT, LONG, NOWHERE, OWNERS, SIZE, Test, changed, lines_in
 
-from fake_etcd import FakeEtcd, etcds
 from mi_replica import cli
 from mi_replica import lines as known
-from mi_replica.checkpoint import Folder, batches, header
+from mi_replica.checkpoint import Folder, digest_of, header
 from mi_replica.following import Diverged
+from mi_replica.front import Front
 from mi_replica.log import OtherLedger, Term
-from mi_replica.member import Member, Settings
-
-NOWHERE = "http://127.0.0.1:1"
-INSERT = b'{"cmd":"insert","row":{"owner":"%s","balance":1,"vip":false}}\n'
-SIZE = b'{"cmd":"size"}\n'
-OWNERS = (b"a", b"b", b"c", b"d")
-LONG = 20.0
-
-
-def free_port() -> int:
-    with socket.socket() as it:
-        it.bind(("127.0.0.1", 0))
-        return int(it.getsockname()[1])
-
-
-def lines_in(folder: str) -> List[bytes]:
-    """The lines of the one checkpoint of a folder."""
-    path, = [f"{folder}/{it}" for it in os.listdir(folder) if it.endswith(".journal")]
-    return [line for some in batches(path) for line in some]
-
-
-class Running:
-    """A member of the ledger `led` that runs, and its client. What it notes is kept."""
-
-    def __init__(self, etcd: FakeEtcd, folder: str, checkpoint: int = 1) -> None:
-        self.port = free_port()
-        settings = Settings([NOWHERE], "led", kit.program(), self.port, folder=folder, checkpoint=checkpoint, body="pipes")
-        self.member = Member(settings)
-        etcd.serve(*etcds(self.member._log), self.member._lease._etcd)
-        self.task = asyncio.ensure_future(self.member.run())
-
-    async def ask(self, line: bytes) -> Dict[str, Any]:
-        """The reply to a line, once it leads."""
-        while not self.task.done():
-            if self.member._role == "leader":
-                reader, writer = await asyncio.open_connection("127.0.0.1", self.port)
-                writer.write(line)
-                found: Dict[str, Any] = json.loads(await reader.readline())
-                writer.close()
-                return found
-            await asyncio.sleep(0.02)
-        self.task.result()
-        raise AssertionError("the member has ended")
-
-    async def insert(self, *owners: bytes) -> None:
-        """An entry of each, behind the checkpoint that the one before has begun."""
-        for it in owners:
-            assert (await self.ask(INSERT % it))["ok"]
-            while self.member._writing:
-                await asyncio.sleep(0.01)
-
-    async def until_checkpoint(self, number: int) -> None:
-        """Until it tells of a checkpoint up to this entry."""
-        while (await self.ask(b'{"cmd":"member"}\n'))["checkpoint"] != number:
-            await asyncio.sleep(0.02)
-
-    async def end(self) -> None:
-        self.task.cancel()
-        await asyncio.gather(self.task, return_exceptions=True)
-        self.member._temporary.cleanup()
-        await asyncio.sleep(0.02)
-
-
-class Test(unittest.TestCase):
-    def setUp(self) -> None:
-        self.etcd, self.notes = FakeEtcd(), []  # type: FakeEtcd, List[str]
-        self.folder = f"{kit.folder(self)}/m"
-        patched = mock.patch("mi_replica.member.note", self.notes.append)
-        patched.start()
-        self.addCleanup(patched.stop)
-
-    def play(self, act: Callable[[], Awaitable[None]]) -> None:
-        asyncio.run(asyncio.wait_for(act(), 3 * LONG))
-
-    @contextlib.asynccontextmanager
-    async def running(self, folder: str = "", checkpoint: int = 1) -> AsyncIterator[Running]:
-        made = Running(self.etcd, folder or self.folder, checkpoint)
-        try:
-            yield made
-        finally:
-            await made.end()
-
-    async def with_checkpoint(self, *owners: bytes) -> None:
-        """A member has run and left a checkpoint with rows of these owners."""
-        async with self.running() as it:
-            await it.insert(*owners)
-            await it.until_checkpoint(len(owners))
 
 
 class Ledgers(Test):
@@ -130,8 +42,35 @@ class Ledgers(Test):
     def test_a_member_whose_log_has_lost_entries_refuses(self) -> None:
         async def act() -> None:
             await self.with_checkpoint(b"a", b"b", b"c")
-            self.etcd.forget("led", 2)
+            self.etcd.put_back("led", 2)
             async with self.running() as it:
+                with self.assertRaisesRegex(OtherLedger, "ends before entry 3"):
+                    await asyncio.wait_for(asyncio.shield(it.task), LONG)
+
+        self.play(act)
+
+    def test_a_member_whose_log_has_others_refuses(self) -> None:
+        """As many as its checkpoint has, and more."""
+        async def act() -> None:
+            await self.with_checkpoint(b"a", b"b", b"c")
+            self.etcd.put_back("led", 2)
+            async with self.running(kit.folder(self)) as other:
+                for owner in (b"x", b"y"):
+                    await other.insert(owner)
+                    async with self.running() as it:
+                        with self.assertRaisesRegex(OtherLedger, "up to entry 3 it has other entries"):
+                            await asyncio.wait_for(asyncio.shield(it.task), LONG)
+
+        self.play(act)
+
+    def test_a_leader_whose_log_was_put_back_ends(self) -> None:
+        """Without any checkpoint: it knows up to where it has had the log."""
+        async def act() -> None:
+            async with self.running(checkpoint=1 << 20) as it:
+                await it.insert(b"a", b"b", b"c")
+                self.etcd.put_back("led", 2)
+                with contextlib.suppress(ValueError):  # (it cuts the connection without a reply)
+                    await it.ask(INSERT % b"d")
                 with self.assertRaisesRegex(OtherLedger, "ends before entry 3"):
                     await asyncio.wait_for(asyncio.shield(it.task), LONG)
 
@@ -198,16 +137,16 @@ class Writing(Test):
 
 
 class Reading(Test):
-    def damaged(self, change: Callable[[bytes], bytes]) -> None:
-        """A member whose checkpoint was changed by this begins from the log, tells of none meanwhile, and writes another."""
+    def damaged(self, change: Callable[[bytes], bytes], is_named: bool = False) -> None:
+        """A member whose checkpoint was changed by this begins from the log, tells of none meanwhile, and writes another. The file may have the
+        name of what it became."""
         async def act() -> None:
             await self.with_checkpoint(b"a", b"b", b"c")
             name, = os.listdir(self.folder)
-            with open(f"{self.folder}/{name}", "r+b") as file:
-                text = change(file.read())
-                file.seek(0)
-                file.write(text)
-                file.truncate()
+            changed(f"{self.folder}/{name}", change)
+            if is_named:
+                name, old = ".".join([*name.split(".")[:4], digest_of(f"{self.folder}/{name}"), "journal"]), name
+                os.rename(f"{self.folder}/{old}", f"{self.folder}/{name}")
             async with self.running(checkpoint=4 * len(INSERT % b"a")) as it:
                 self.assertEqual(it.member._said()["checkpoint"], 0)
                 self.assertEqual(await it.ask(SIZE), {"ok": True, "size": 3})
@@ -223,14 +162,44 @@ class Reading(Test):
     def test_one_that_is_torn_is_set_aside(self) -> None:
         self.damaged(lambda text: text[:-5])
 
-    def test_one_that_is_empty_is_set_aside(self) -> None:
-        self.damaged(lambda text: b"")
+    def test_one_that_lacks_whole_lines_is_set_aside(self) -> None:
+        self.damaged(lambda text: text[:-len(INSERT % b"c")])
 
-    def test_one_with_an_empty_line_is_set_aside(self) -> None:
-        self.damaged(lambda text: text + b"\n")
+    def test_one_with_other_lines_is_set_aside(self) -> None:
+        self.damaged(lambda text: text.replace(b'"balance":1', b'"balance":2'))
+
+    def test_one_that_is_no_journal_is_set_aside(self) -> None:
+        """Though its name says so."""
+        for change in (lambda text: b"", lambda text: text + b"\n", lambda text: text[:-5]):
+            with self.subTest(change=change):
+                self.setUp()
+                self.damaged(change, is_named=True)
 
     def test_one_that_the_server_refuses_is_set_aside(self) -> None:
-        self.damaged(lambda text: text.replace(b'"b"', b'"a"'))
+        self.damaged(lambda text: text.replace(b'"b"', b'"a"'), is_named=True)
+
+    def test_one_that_is_damaged_while_its_member_runs(self) -> None:
+        """Is found when the next one is to grow from it: the member begins anew from the log."""
+        async def act() -> None:
+            async with self.running() as it:
+                await it.insert(b"a", b"b")
+                await it.until_checkpoint(2)
+                name, = os.listdir(self.folder)
+                changed(f"{self.folder}/{name}", lambda text: text[:-len(INSERT % b"b")])
+                await it.insert(b"c")
+                self.assertEqual(it.member._said()["checkpoint"], 0)
+                with contextlib.suppress(ValueError):  # (its connection is cut without a reply, and the line is in the log)
+                    await it.ask(INSERT % b"d")
+                await it.until(SIZE, {"ok": True, "size": 4})
+                self.assertTrue(os.path.isfile(f"{self.folder}/{name}.damaged"))
+                await it.until_checkpoint(4)
+                await it.insert(b"e")
+                await it.until_checkpoint(5)
+            kept, = [f"{self.folder}/{it}" for it in os.listdir(self.folder) if it.endswith(".journal")]
+            self.assertEqual(lines_in(self.folder), [INSERT % owner for owner in (*OWNERS, b"e")])
+            self.assertEqual(kept.split(".")[-2], digest_of(kept))
+
+        self.play(act)
 
     def test_one_for_which_there_is_no_room_stays(self) -> None:
         async def act() -> None:
@@ -249,10 +218,10 @@ class Reading(Test):
     def test_of_several_that_were_set_aside_the_newest_stays(self) -> None:
         folder = Folder(self.folder, "led", "0a")
         for n in (1, 2):
-            folder.write(n, header(0, "00"), [(at, INSERT % b"a") for at in range(1, n + 1)])
-            self.assertEqual(folder.set_aside(n), f"{self.folder}/led.0a.{n:020}.journal.damaged")
-            self.assertEqual(folder.newest(), (0, None))
-        self.assertEqual(os.listdir(self.folder), [f"led.0a.{2:020}.journal.damaged"])
+            made = folder.write(Front(n, "0" * 16), header(0, "00"), [(at, INSERT % b"a") for at in range(1, n + 1)])
+            self.assertEqual(folder.set_aside(made), f"{made.path}.damaged")
+            self.assertIsNone(folder.newest())
+        self.assertEqual(os.listdir(self.folder), [f"{os.path.basename(made.path)}.damaged"])
 
 
 class Others(Test):
@@ -281,10 +250,12 @@ class Others(Test):
             async with self.running() as it:
                 await it.ask(SIZE)
                 mine = getattr(it.member._log, "identity", "")
-                offer = {"bytes": len(whole), "entry": 7, "identity": mine, "ok": True}
+                digest = hashlib.sha256(whole).hexdigest()[:16]
+                offer: Dict[str, Any] = {"bytes": len(whole), "digest": digest, "entry": 7, "identity": mine, "ok": True, "sum": "0" * 16}
                 said = known.said
                 told = ["127.0.0.1:1", await self.listening(is_over=False), await self.listening(b'{"error":"checkpoint","ok":false}\n')]
-                for other in ({**offer, "identity": "00"}, {**offer, "entry": 5}):
+                for other in ({"identity": "00"}, {"entry": 5}, {"digest": "0" * 16}, {"digest": "../x"}, {"sum": ""}):
+                    other = {**offer, **other}
                     told.append(await self.listening(said(other) + b"\n", whole))
                 told += [await self.listening(said(offer) + b"\n", whole[:-9]), await self.listening(b"[]\n"), await self.listening(b"5\n")]
                 told += [await self.listening(said({"ok": True, "identity": mine}) + b"\n"), await self.listening()]
@@ -310,8 +281,10 @@ class Others(Test):
             async with self.running() as it:
                 self.assertEqual((await it.ask(SIZE))["size"], 2)
                 found = await it.ask(b'{"cmd":"checkpoint"}\n')
+                made = it.member._folder.newest()
                 self.assertEqual((found["entry"], found["identity"]), (2, it.member._log.identity))
-                it.member._checkpoint = 0  # (as before it was loaded)
+                self.assertEqual(made, (Front(2, found["sum"]), found["digest"], made and made.path))
+                it.member._checkpoint = None  # (as before it was loaded)
                 self.assertEqual(await it.ask(b'{"cmd":"checkpoint"}\n'), {"error": "checkpoint", "ok": False})
 
         self.play(act)
@@ -325,7 +298,7 @@ class Others(Test):
                 key, log = self.etcd.keys[b"led/leader"], it.member._log
                 await log.forget(3, Term(key.made, key.value, 3, 0.5))
                 async with self.running(kit.folder(self)) as other:
-                    while other.member._number != 3:
+                    while other.member._front.number != 3:
                         await asyncio.sleep(0.02)
                     self.assertEqual(other.member._said()["checkpoint"], 3)
 
@@ -333,4 +306,4 @@ class Others(Test):
 
 
 if __name__ == "__main__":
-    sys.exit(unittest.main())
+    unittest.main()
