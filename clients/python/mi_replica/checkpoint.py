@@ -22,6 +22,8 @@ HEADER_FORMAT = 1
 PIECE = 1 << 18
 ASIDE = ".damaged"
 """What the name of a checkpoint that can't be read ends in, so that it is none any more."""
+REPLACED = ".replaced"
+"""And of one whose place another member's took: that may stand on others, if etcd's data was put back and those have left the log."""
 TOOL = os.path.normpath(f"{os.path.dirname(os.path.realpath(__file__))}/../../../scripts/journal.py")
 """What drops blocks that were undone. A checkout has it; where it isn't there checkpoints stay whole."""
 
@@ -82,20 +84,20 @@ class Folder:
     def newest(self) -> Optional[Checkpoint]:
         return max(self._all(), default=None)
 
-    def set_aside(self, checkpoint: Checkpoint) -> str:
-        """Takes a checkpoint that can't be read for none. It stays beside the others, by a name that is answered; one that was set aside
-        before leaves, so that these aren't more and more."""
-        aside = checkpoint.path + ASIDE
+    def set_aside(self, checkpoint: Checkpoint, ending: str = ASIDE) -> str:
+        """Takes a checkpoint for none. It stays beside the others, by a name that is answered; one that was set aside so before leaves,
+        so that these aren't more and more."""
+        aside = checkpoint.path + ending
         os.replace(checkpoint.path, aside)
         for it in os.listdir(self.path):
-            if it.startswith(f"{self._name}.") and it.endswith(ASIDE) and f"{self.path}/{it}" != aside:
+            if it.startswith(f"{self._name}.") and it.endswith(ending) and f"{self.path}/{it}" != aside:
                 os.unlink(f"{self.path}/{it}")
         self._sync()
         return aside
 
     def write(self, front: Front, first: bytes, entries: Iterable[Tuple[int, bytes]]) -> Checkpoint:
         """Writes a checkpoint up to here: the newest one, or the header, and the entries behind it, of which it may have some already. Raises
-        Damaged where that isn't what was written, and ValueError where the entries don't follow."""
+        Damaged where that isn't what was written, or isn't there any more, so that the entries don't follow."""
         old = self.newest()
         with self.new_file() as path:
             with open(path, "wb") as target:
@@ -108,7 +110,7 @@ class Folder:
                 before = old.front.number if old else 0
                 for at, lines in entries:
                     if at > before + 1:
-                        raise ValueError(f"entry {at} doesn't follow {before}")
+                        raise Damaged(f"entry {at} doesn't follow {before}, up to where the checkpoint in {self.path} goes")
                     if at > before:
                         target.write(lines)
                     before = max(at, before)
@@ -127,7 +129,8 @@ class Folder:
                 os.unlink(path)
 
     def keep(self, path: str, front: Front, digest: str = "") -> Checkpoint:
-        """Makes a file the checkpoint up to here, and the only one. Raises ValueError where its bytes don't come to a digest that is given."""
+        """Makes a file the checkpoint up to here, and the only one. Where a digest is given, it is another member's: ValueError is raised
+        where its bytes don't come to that, and the one before is set aside."""
         found = digest_of(path)
         if digest not in ("", found):
             raise ValueError(f"its bytes come to {found}, and not to {digest}")
@@ -136,8 +139,10 @@ class Folder:
             os.fsync(file.fileno())
         os.rename(path, made.path)
         self._sync()
-        for it in self._all():
-            if it.path != made.path:
+        for it in sorted(self._all()):
+            if it.path != made.path and digest:
+                self.set_aside(it, REPLACED)
+            elif it.path != made.path:
                 os.unlink(it.path)
         return made
 

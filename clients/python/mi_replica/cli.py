@@ -88,7 +88,8 @@ async def status(options: argparse.Namespace) -> int:
         log.close()
     print(f"{options.name}: " + (f"{found.leader.said['address']} leads in term {found.leader.term}" if found.leader else "nobody leads"))
     last = found.front.number
-    print(f"  the log has the entries {found.first} to {last}" if found.first <= last else f"  the log has none of its {last} entries any more")
+    none = f"the log has none of its {last} entries any more" if last else "the log is empty"
+    print(f"  the log has the entries {found.first} to {last}" if found.first <= last else f"  {none}")
     for name in sorted(members):
         it = members[name]
         print(f"  {name:<24} {it['role']:<9} applied {it['applied']:<10} checkpoint {it['checkpoint']}")

@@ -3,7 +3,7 @@ state by so much as it has not read yet. Whatever changes is refused, with the l
 from __future__ import annotations
 
 import asyncio
-from typing import Callable, Iterator, List, Optional, Tuple
+from typing import Any, Callable, Coroutine, Iterator, List, Optional, Tuple, TypeVar
 
 from mi_replica import lines as known
 from mi_replica.clients import Client, Clients
@@ -16,6 +16,7 @@ from mi_replica.tasks import end
 SILENCE_SECONDS = 2.0
 """A watch that says nothing for so long is begun anew: its member of etcd may be gone."""
 MOST_ASKED = 500
+T = TypeVar("T")
 SLOW_SECONDS = 0.02
 
 
@@ -58,18 +59,23 @@ class Following:
 
     async def until_vacant(self) -> None:
         """Follows the log until there is no leader, and answers look-ups meanwhile. Raises Behind, Diverged, Gone and OtherLedger."""
+        await self.answering(self._follow())
+
+    async def answering(self, awaited: Coroutine[Any, Any, T]) -> T:
+        """What this comes to, while look-ups are answered: etcd may leave it waiting."""
         self._is_done = False
-        tasks = [asyncio.ensure_future(it) for it in (self._follow(), self._answer())]
+        task, answers = asyncio.ensure_future(awaited), asyncio.ensure_future(self._answer())
         try:
-            done, _ = await asyncio.wait(tasks, return_when=asyncio.FIRST_COMPLETED)
+            done, _ = await asyncio.wait([task, answers], return_when=asyncio.FIRST_COMPLETED)
             for it in done:
                 it.result()
             # (the lines that are being answered are answered to the end)
             self._is_done = True
             self._clients.wake()
-            await tasks[1]
+            await answers
+            return task.result()
         finally:
-            await end(tasks)
+            await end([task, answers])
 
     async def catch_up(self) -> Snapshot:
         """Asks the own server all that the log has. Answers how that stood at the last look."""

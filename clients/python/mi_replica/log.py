@@ -11,7 +11,8 @@ entries one behind the other are one journal. It knows nothing of servers and cl
 
 etcd may do a request late that was given up for want of an answer: its member stood still, or the network kept it. So each transaction that
 changes something compares what it stands on, and one that others have overtaken is refused: an entry is new and the log goes up to the front that it
-stands on, the first entry is a later one than it was, the leader's key is as this member has last known it."""
+stands on, the first entry is a later one than it was, the leader's key is as this member has last known it. (What a member says of itself compares
+the ledger alone, and is said again whenever it changes.)"""
 from __future__ import annotations
 
 import asyncio
@@ -65,8 +66,8 @@ class Term:
     transaction of the revision `changed`. Once one is answered, those that were sent before it compare an older revision and are refused
     for good. Those that are sent behind it have leases that were granted behind its beginning. So the key's lease is always one that was
     granted behind the beginning of the last answered request, and the key is there until that lease ends. How long an answer is waited
-    for (REQUEST_SECONDS) has no part in this: it decides how soon another member of etcd is asked, so how long a lease outlives one that
-    stands still."""
+    for (TERM_PARTS) has no part in this: it decides how soon another member of etcd is asked, so whether a term outlasts one that stands
+    still."""
 
     def __init__(self, number: int, value: bytes, seconds: int, margin: float) -> None:
         self.number, self.value, self.seconds = number, value, seconds
@@ -154,6 +155,11 @@ class Log:
         self._page = max(LEAST_PAGE, min(MOST_PAGE, PAGE_BYTES // average))
         first, last = int(begin[0].value) if begin else 1, Front.read(front[0].value) if front else self.begin()
         return Snapshot(entries[:limit], len(entries) > limit, first, last, leader_of(pairs(answer, 1)), revision(answer))
+
+    async def has(self, front: Front) -> bool:
+        """Whether the log goes on from this front, or ends there. One whose next entry has left is none to go on from."""
+        found = await self.read(front.number, 1)
+        return found.front == front or [(it.number, it.before) for it in found.entries] == [(front.number + 1, front.sum)]
 
     async def watch(self, start: int, silence: float) -> AsyncIterator[List[News]]:
         """What changes from this revision on, until nothing has for so many seconds, or the revision is too old for etcd."""
@@ -287,15 +293,15 @@ class Log:
         asked = {
             "compare": [is_new(self._schema)],
             "success": [put(self._schema, schema.encode()), *(put(key, value) for key, value in begin.items())],
-            "failure": [ranged(self._schema), ranged(self._identity)],
+            "failure": [ranged(self._schema), ranged(self._identity), ranged(self._front)],
         }
         answer = await self._until_answered(self._reading, "/v3/kv/txn", asked)
         if answer.get("succeeded"):
             self.identity = made
             return schema
         found = pairs(answer, 1)
-        if not found:
-            raise OtherLedger(f"the ledger {self.name} has no identity in etcd: an earlier mi_replica began it. Begin one of another name")
+        if not found or not pairs(answer, 2):
+            raise OtherLedger(f"the ledger {self.name} has no identity or no front in etcd: an earlier mi_replica began it. Begin one of another name")
         self.identity = found[0].value.decode()
         return pairs(answer, 0)[0].value.decode()
 

@@ -21,7 +21,7 @@ from mi_replica.front import SUM_DIGITS, Front
 from mi_replica.following import Behind, Diverged, Following, replay
 from mi_replica.leading import Leading
 from mi_replica.lines import MEMORY, REVISION, said
-from mi_replica.log import AGAIN_SECONDS, Lease, Log, Lost, Term, clock
+from mi_replica.log import AGAIN_SECONDS, Lease, Log, Lost, OtherLedger, Term, clock
 from mi_replica.own import Gone, Own, own_of
 from mi_replica.tasks import end, first_ended
 
@@ -136,12 +136,13 @@ class Member:
         """From a fresh server to the end of a term."""
         await own.start()
         self._front = await self._load(own)
+        self._had = max(self._had, self._front, key=lambda it: it.number)
         following = Following(own, self._log, self._clients, self._front, self._had)
         following.on_entry, following.on_member = self._took, lambda: self._status(following)
         self._role = "follower"
         while True:
             await following.until_vacant()
-            term = await self._elected()
+            term = await following.answering(self._elected())
             if term:
                 break
         self._term = term.number
@@ -244,14 +245,24 @@ class Member:
         self._tail, self._tail_bytes = [], 0
         try:
             self._checkpoint = await asyncio.get_running_loop().run_in_executor(None, self._folder.write, front, self._header, taken)
-        except (OSError, ValueError) as error:
+        except (OSError, Damaged) as error:
+            if isinstance(error, Damaged):
+                self._checkpoint = None  # (others may not count on it any more)
+                self._damage = error if await self._is_elsewhere() else None
             self._tail, self._tail_bytes = taken + self._tail, size + self._tail_bytes
-            self._rests_until = clock() + REST_SECONDS
-            note(f"no checkpoint, and {self._tail_bytes} bytes that wait for one in memory; the next is tried in {REST_SECONDS:.0f} s: {error}")
-        except Damaged as error:  # (others may not count on it any more)
-            self._checkpoint, self._damage = None, error
+            if not self._damage:
+                self._rests_until = clock() + REST_SECONDS
+                note(f"no checkpoint, and {self._tail_bytes} bytes that wait for one in memory; the next is tried in {REST_SECONDS:.0f} s: {error}")
         finally:
             self._writing = None
+
+    async def _is_elsewhere(self) -> bool:
+        """Whether there is what it has without its checkpoint and its server: in the log, or in another member's checkpoint."""
+        try:
+            first, told = (await self._log.read(self._front.number, 1)).first, await self._log.members()
+        except (Unreachable, Rejected, OtherLedger):
+            return False
+        return first == 1 or any(it["checkpoint"] >= first - 1 for name, it in told.items() if name != self._address)
 
     async def _forget(self, term: Term) -> None:
         """Takes entries out of the log that enough members have in their checkpoints."""
@@ -289,6 +300,8 @@ class Member:
 
     async def _fetch(self, first: int) -> None:
         """Takes a checkpoint of another member that goes up to where the log begins, of the first that gives it."""
+        if self._writing:  # (which makes the older one that it writes the only one)
+            await asyncio.wait([self._writing])
         try:
             told = await self._log.members()
         except (Unreachable, Rejected) as error:
@@ -301,7 +314,7 @@ class Member:
             try:
                 await asyncio.wait_for(self._fetch_from(name, first - 1), FETCH_SECONDS)
                 return
-            except (OSError, EOFError, ValueError, KeyError, TypeError, asyncio.TimeoutError) as error:
+            except (OSError, EOFError, ValueError, KeyError, TypeError, Rejected, asyncio.TimeoutError) as error:
                 note(f"no checkpoint was taken from {name}: {error or 'no answer in time'}")
         await asyncio.sleep(PAUSE_SECONDS)
 
@@ -311,13 +324,15 @@ class Member:
         try:
             writer.write(b'{"cmd":"checkpoint"}\n')
             front, digest, left = offered(await asyncio.wait_for(reader.readline(), SILENT_SECONDS), self._log.identity, least)
+            if not await self._log.has(front):
+                raise ValueError(f"etcd's log doesn't go on from its checkpoint up to entry {front.number}")
             with self._folder.new_file() as path:
                 with open(path, "wb") as target:
                     while left:
                         piece = await asyncio.wait_for(reader.readexactly(min(left, 1 << 16)), SILENT_SECONDS)
                         target.write(piece)
                         left -= len(piece)
-                self._folder.keep(path, front, digest)
+                await asyncio.get_running_loop().run_in_executor(None, self._folder.keep, path, front, digest)
             note(f"has the checkpoint of {address} up to entry {front.number}")
         finally:
             writer.transport.abort()

@@ -9,9 +9,11 @@ from typing import Any, AsyncIterator, Awaitable, Callable, Dict, List
 from unittest import mock
 
 import kit
-from fake_etcd import FakeEtcd, etcds
+from fake_etcd import FakeEtcd, Post, etcds
 
 from mi_replica.checkpoint import batches
+from mi_replica.etcd import Message
+from mi_replica.log import Term
 from mi_replica.member import Member, Settings
 
 NOWHERE = "http://127.0.0.1:1"
@@ -65,6 +67,16 @@ class Running:
         self.task.result()
         raise AssertionError("the member has ended")
 
+    async def look(self, line: bytes) -> Dict[str, Any]:
+        """The reply to a line, whatever its role."""
+        reader, writer = await asyncio.open_connection("127.0.0.1", self.port)
+        try:
+            writer.write(line)
+            found: Dict[str, Any] = json.loads(await asyncio.wait_for(reader.readline(), LONG))
+            return found
+        finally:
+            writer.close()
+
     async def insert(self, *owners: bytes) -> None:
         """An entry of each, behind the checkpoint that the one before has begun."""
         for it in owners:
@@ -83,6 +95,26 @@ class Running:
     async def until_checkpoint(self, number: int) -> None:
         """Until it tells of a checkpoint up to this entry."""
         while (await self.ask(b'{"cmd":"member"}\n'))["checkpoint"] != number:
+            await asyncio.sleep(0.02)
+
+    def cut(self) -> asyncio.Event:
+        """Cuts its log off from etcd until the event is set."""
+        passes = asyncio.Event()
+
+        def through(post: Post) -> Any:
+            async def posted(path: str, body: Message) -> Message:
+                await passes.wait()
+                return await post(path, body)
+
+            return posted
+
+        for it in etcds(self.member._log):
+            it.post = through(it.post)  # type: ignore[method-assign]
+        return passes
+
+    async def has_told(self, number: int) -> None:
+        """Until etcd knows that it has a checkpoint up to this entry."""
+        while (await self.member._log.members()).get(f"127.0.0.1:{self.port}", {}).get("checkpoint") != number:
             await asyncio.sleep(0.02)
 
     async def end(self) -> None:
@@ -110,6 +142,11 @@ class Test(unittest.TestCase):
             yield made
         finally:
             await made.end()
+
+    async def forget(self, it: Running, number: int) -> None:
+        """The entries up to this one leave the log, by the member that leads."""
+        key = self.etcd.keys[b"led/leader"]
+        await it.member._log.forget(number, Term(key.made, key.value, 3, 0.5))
 
     async def with_checkpoint(self, *owners: bytes) -> None:
         """A member has run and left a checkpoint with rows of these owners."""

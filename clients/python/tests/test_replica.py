@@ -14,7 +14,7 @@ import kit
 from mi_client import Ended, Server, connect_leader
 from mi_replica import lines as known
 from mi_replica.clients import Clients
-from mi_replica.etcd import behind
+from mi_replica.etcd import behind, place
 from mi_replica.following import Diverged, Following, replay
 from mi_replica.front import Front
 from mi_replica.leading import Leading
@@ -300,6 +300,24 @@ class Finding(unittest.TestCase):
     def test_a_plain_server_is_no_member(self) -> None:
         with Server(kit.program(), clients=1) as server, self.assertRaises(Ended):
             connect_leader([server.port], wait=1)
+
+
+class Places(unittest.TestCase):
+    def test_a_place_is_named_whole(self) -> None:
+        for url, wanted in (("http://10.0.0.5:2379", ("10.0.0.5", 2379)), ("http://[::1]:80", ("::1", 80)), ("http://e-1.x:1", ("e-1.x", 1))):
+            self.assertEqual(place(url), wanted)
+        for url in ("10.0.0.5:2379", "https://10.0.0.5:2379", "10.0.0.5", "localhost:23791", "http://10.0.0.5", "http://a:0", "http://a:65536", "",
+                    "http://a:1/", "http://a:1/v3", "http://u@a:1", " http://a:1", "http://a:1\n", "http://:1", "http://::1:80", "ftp://a:1"):
+            with self.assertRaisesRegex(ValueError, "isn't http://HOST:PORT", msg=url):
+                place(url)
+
+    def test_others_are_refused_by_name(self) -> None:
+        for urls in ("10.0.0.5:2379", "https://10.0.0.5:2379", "http://127.0.0.1:1,"):
+            for more in (["--status"], ["--listen", "8001"]):
+                words = [sys.executable, "-m", "mi_replica", "--etcd", urls, "--name", "a", *more]
+                ran = subprocess.run(words, capture_output=True, text=True, env=kit.environment(), timeout=60)
+                self.assertEqual(ran.returncode, 2, ran.stderr)
+                self.assertIn(f"--etcd: {urls.split(',')[-1]!r} isn't http://HOST:PORT", ran.stderr.splitlines()[-1])
 
 
 class Options(unittest.TestCase):

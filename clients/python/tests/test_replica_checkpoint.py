@@ -28,7 +28,7 @@ class Checkpoints(unittest.TestCase):
         folder = Folder(path, "led", "0a")
         self.assertEqual((folder.newest(), os.listdir(path)), (None, []))
         folder.write(front(2), HEADER, [(1, INSERT % b"a"), (2, INSERT % b"b")])
-        with self.assertRaises(ValueError):
+        with self.assertRaises(Damaged):
             folder.write(front(4), HEADER, [(4, INSERT % b"d")])
         # (an entry that is there already isn't put in again)
         made = folder.write(front(5), HEADER, [(2, INSERT % b"b"), (3, b'{"cmd":"start"}\n' + INSERT % b"c"), (4, b'{"cmd":"undo"}\n'), (5, INSERT % b"d")])
@@ -61,6 +61,17 @@ class Checkpoints(unittest.TestCase):
                 else:
                     self.assertRaises(ValueError, folder.keep, made, front(1), digest)
             self.assertEqual(len(os.listdir(path)), int(is_kept))
+
+    def test_one_whose_place_anothers_took_stays_aside(self) -> None:
+        path = kit.folder(self)
+        folder = Folder(path, "led", "0a")
+        for number in (1, 2):
+            mine = folder.write(front(number), HEADER, [(at, INSERT % b"%d" % at) for at in (1, 2)])
+            with folder.new_file() as made:
+                taken = folder.keep(made, front(9), digest_of(os.devnull))
+            self.assertEqual(sorted(os.listdir(path)), sorted(map(os.path.basename, (f"{mine.path}.replaced", taken.path))))
+            self.assertEqual(folder.newest(), taken)
+            os.unlink(taken.path)
 
     @unittest.skipUnless(os.path.isfile(TOOL), "needs scripts/journal.py")
     def test_one_is_a_journal(self) -> None:

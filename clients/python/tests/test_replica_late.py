@@ -1,17 +1,16 @@
 """A ledger's log in etcd where requests are done late, and where etcd isn't the one that it was: a fake one, and etcd itself where it is installed."""
 import asyncio
+import contextlib
+import io
 import socket
-import subprocess
-import sys
 import unittest
 from typing import Any, Awaitable, Callable, List, Tuple
 from unittest import mock
 
-import kit
-
 from fake_etcd import FakeEtcd, Way, etcds
+from mi_replica import cli
 from mi_replica.clients import Clients
-from mi_replica.etcd import Unreachable, behind, deleted, place, put
+from mi_replica.etcd import Unreachable, behind, deleted, put
 from mi_replica.following import Behind, Following
 from mi_replica.front import Entry, Front
 from mi_replica.leading import PARTS
@@ -187,8 +186,14 @@ class Late:
                 for has, had in ((20, 20), (15, 20), (0, 20), (17, 17), (17, 20)):
                     with self.assertRaisesRegex(OtherLedger, "it has other entries"):
                         await caught_up(log, fronts[has], fronts[had])
+            with self.assertRaisesRegex(OtherLedger, "up to entry 20 it has other entries"):
+                await caught_up(log, others[0], fronts[20])
             for has in (0, 15):
                 self.assertEqual(await caught_up(log, fronts[has], fronts[15]), others[-1])
+            stand = [await log.has(it) for it in (*fronts, *others, others[-1].with_entry(b"more\n"))]
+            self.assertEqual(stand, [True] * 16 + [False] * 5 + [True] * 2 + [False])
+            await log.forget(18, term)
+            self.assertEqual([await log.has(it) for it in (fronts[17], fronts[18], others[0], others[1])], [False, False, True, True])
 
         self.play(act)
 
@@ -259,9 +264,41 @@ class InFake(Late, unittest.TestCase):
             log = self.log()
             self.assertEqual(await log.agree("schema"), "schema")
             self.assertEqual(await self.log().agree("another"), "schema")
-            del self.etcd.keys[b"led/identity"]
-            with self.assertRaisesRegex(OtherLedger, "another name"):
-                await self.log().agree("schema")
+            for key in (b"led/front", b"led/identity"):
+                kept = self.etcd.keys.pop(key)
+                with self.assertRaisesRegex(OtherLedger, "another name"):
+                    await self.log().agree("schema")
+                self.etcd.keys[key] = kept
+
+        asyncio.run(played())
+
+
+class Status(unittest.TestCase):
+    def test_how_the_log_stands(self) -> None:
+        etcd = FakeEtcd()
+
+        def made(urls: List[str], name: str) -> Log:
+            log = Log(urls, name)
+            etcd.serve(*etcds(log))
+            return log
+
+        async def told() -> str:
+            out = io.StringIO()
+            with mock.patch("mi_replica.cli.Log", made), contextlib.redirect_stdout(out):
+                await cli.status(cli.parser().parse_args(["--etcd", NOWHERE, "--name", "led", "--status"]))
+            return out.getvalue().splitlines()[1].strip()
+
+        async def played() -> None:
+            log = made([NOWHERE], "led")
+            self.assertEqual(await told(), "the log is empty")
+            await log.agree("schema")
+            self.assertEqual(await told(), "the log is empty")
+            term = await log.elect(ME, 10, 0.5)
+            assert term
+            await appended(log, term, log.begin(), "entry", 2)
+            self.assertEqual(await told(), "the log has the entries 1 to 2")
+            await log.forget(2, term)
+            self.assertEqual(await told(), "the log has none of its 2 entries any more")
 
         asyncio.run(played())
 
@@ -337,24 +374,6 @@ class PutBack(unittest.TestCase):
             asyncio.run(asyncio.wait_for(played(etcd), 120))
         finally:
             etcd.close()
-
-
-class Places(unittest.TestCase):
-    def test_a_place_is_named_whole(self) -> None:
-        for url, wanted in (("http://10.0.0.5:2379", ("10.0.0.5", 2379)), ("http://[::1]:80", ("::1", 80)), ("http://e-1.x:1", ("e-1.x", 1))):
-            self.assertEqual(place(url), wanted)
-        for url in ("10.0.0.5:2379", "https://10.0.0.5:2379", "10.0.0.5", "localhost:23791", "http://10.0.0.5", "http://a:0", "http://a:65536", "",
-                    "http://a:1/", "http://a:1/v3", "http://u@a:1", " http://a:1", "http://a:1\n", "http://:1", "http://::1:80", "ftp://a:1"):
-            with self.assertRaisesRegex(ValueError, "isn't http://HOST:PORT", msg=url):
-                place(url)
-
-    def test_others_are_refused_by_name(self) -> None:
-        for urls in ("10.0.0.5:2379", "https://10.0.0.5:2379", "http://127.0.0.1:1,"):
-            for more in (["--status"], ["--listen", "8001"]):
-                words = [sys.executable, "-m", "mi_replica", "--etcd", urls, "--name", "a", *more]
-                ran = subprocess.run(words, capture_output=True, text=True, env=kit.environment(), timeout=60)
-                self.assertEqual(ran.returncode, 2, ran.stderr)
-                self.assertIn(f"--etcd: {urls.split(',')[-1]!r} isn't http://HOST:PORT", ran.stderr.splitlines()[-1])
 
 
 if __name__ == "__main__":

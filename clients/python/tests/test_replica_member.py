@@ -5,6 +5,8 @@ import contextlib
 import hashlib
 import io
 import os
+import shutil
+import threading
 import unittest
 from typing import Any, Callable, Dict, List
 from unittest import mock
@@ -14,10 +16,11 @@ from member_kit import INSERT, LONG, NOWHERE, OWNERS, SIZE, Test, changed, lines
 
 from mi_replica import cli
 from mi_replica import lines as known
-from mi_replica.checkpoint import Folder, digest_of, header
+from mi_replica.checkpoint import Folder, digest_of, header, shorten
+from mi_replica.etcd import Unreachable
 from mi_replica.following import Diverged
 from mi_replica.front import Front
-from mi_replica.log import OtherLedger, Term
+from mi_replica.log import OtherLedger
 
 
 class Ledgers(Test):
@@ -73,6 +76,39 @@ class Ledgers(Test):
                     await it.ask(INSERT % b"d")
                 with self.assertRaisesRegex(OtherLedger, "ends before entry 3"):
                     await asyncio.wait_for(asyncio.shield(it.task), LONG)
+
+        self.play(act)
+
+    def test_one_knows_what_it_has_loaded(self) -> None:
+        """Also where its checkpoint is gone when it begins anew."""
+        async def act() -> None:
+            await self.with_checkpoint(b"a", b"b", b"c")
+            async with self.running(checkpoint=1 << 20) as it:
+                self.assertEqual((await it.ask(SIZE))["size"], 3)
+                os.unlink(f"{self.folder}/{os.listdir(self.folder)[0]}")
+                self.etcd.put_back("led", 2)
+                with contextlib.suppress(ValueError):
+                    await it.ask(INSERT % b"d")
+                with self.assertRaisesRegex(OtherLedger, "ends before entry 3"):
+                    await asyncio.wait_for(asyncio.shield(it.task), LONG)
+
+        self.play(act)
+
+    def test_what_is_lost_stays_where_the_log_begins_behind_it(self) -> None:
+        """Then a member can't know that it has other entries."""
+        async def act() -> None:
+            await self.with_checkpoint(b"a", b"b", b"c")
+            name, = os.listdir(self.folder)
+            self.etcd.put_back("led", 2)
+            async with self.running(kit.folder(self)) as other:
+                await other.insert(b"x", b"y", b"z")
+                await other.has_told(5)
+                await self.forget(other, 5)
+                async with self.running() as it:
+                    while it.member._said()["checkpoint"] != 5:
+                        await asyncio.sleep(0.02)
+            os.rename(f"{self.folder}/{name}.replaced", f"{kit.folder(self)}/{name}")
+            self.assertEqual(len(os.listdir(self.folder)), 1)
 
         self.play(act)
 
@@ -201,6 +237,47 @@ class Reading(Test):
 
         self.play(act)
 
+    def test_one_that_is_gone_while_its_member_runs(self) -> None:
+        async def act() -> None:
+            async with self.running() as it:
+                await it.insert(b"a", b"b")
+                await it.until_checkpoint(2)
+                os.unlink(f"{self.folder}/{os.listdir(self.folder)[0]}")
+                await it.insert(b"c")
+                self.assertEqual(it.member._said()["checkpoint"], 0)
+                with contextlib.suppress(ValueError):  # (its connection is cut without a reply, and the line is in the log)
+                    await it.ask(INSERT % b"d")
+                await it.until(SIZE, {"ok": True, "size": 4})
+                await it.until_checkpoint(4)
+            self.assertEqual(lines_in(self.folder), [INSERT % owner for owner in OWNERS])
+
+        self.play(act)
+
+    def test_a_member_goes_on_where_no_other_has_what_it_has(self) -> None:
+        """Entries have left the log, and its own checkpoint is damaged: its server has them. It begins anew once another member has them."""
+        async def act() -> None:
+            async with self.running() as it:
+                await it.insert(b"a", b"b")
+                await it.until_checkpoint(2)
+                name, = os.listdir(self.folder)
+                copy = kit.folder(self)
+                shutil.copy(f"{self.folder}/{name}", copy)
+                await self.forget(it, 2)
+                changed(f"{self.folder}/{name}", lambda text: text[:-9])
+                await it.insert(b"c", b"d")
+                self.assertEqual(await it.ask(SIZE), {"ok": True, "size": 4})
+                self.assertEqual(it.member._said()["checkpoint"], 0)
+                async with self.running(copy, checkpoint=1 << 20) as other:
+                    await other.has_told(2)
+                    for owner in (b"e", b"f"):
+                        with contextlib.suppress(ValueError):  # (its connection may be cut without a reply)
+                            await it.insert(owner)
+                    while not os.path.isfile(f"{self.folder}/{name}.damaged") or it.member._front.number < 6:
+                        await asyncio.sleep(0.02)
+
+        with mock.patch("mi_replica.member.REST_SECONDS", 0.0):
+            self.play(act)
+
     def test_one_for_which_there_is_no_room_stays(self) -> None:
         async def act() -> None:
             await self.with_checkpoint(b"a")
@@ -261,6 +338,7 @@ class Others(Test):
                 told += [await self.listening(said({"ok": True, "identity": mine}) + b"\n"), await self.listening()]
                 last, low = await self.listening(said(offer) + b"\n", whole), await self.listening(said(offer) + b"\n", whole)
                 stand = {**dict.fromkeys([*told, last], {"checkpoint": 7}), low: {"checkpoint": 6 - 1}}
+                it.member._log.has = mock.AsyncMock(return_value=True)  # type: ignore[method-assign]
                 it.member._log.members = mock.AsyncMock(return_value=stand)  # type: ignore[method-assign]
                 await asyncio.wait_for(it.member._fetch(7), LONG)
                 self.assertEqual(lines_in(self.folder), [INSERT % b"a"])
@@ -289,18 +367,91 @@ class Others(Test):
 
         self.play(act)
 
+    def test_none_is_taken_from_one_that_has_what_is_lost(self) -> None:
+        """And hasn't looked since etcd's data was put back: it has others than the log goes on from."""
+        async def act() -> None:
+            async with self.running() as lost:
+                await lost.insert(*OWNERS)
+                await lost.has_told(4)
+                passes = lost.cut()
+                self.etcd.put_back("led", 2)
+                del self.etcd.keys[b"led/leader"]
+                async with self.running(kit.folder(self)) as other:
+                    await other.insert(b"x", b"y", b"z")
+                    await self.forget(other, 3)
+                    async with self.running(kit.folder(self)) as it:
+                        while not any("go on from its checkpoint up to entry 4" in text for text in self.notes):
+                            await asyncio.sleep(0.02)
+                        await other.has_told(5)
+                        while it.member._front.number != 5:
+                            await asyncio.sleep(0.02)
+                passes.set()
+
+        self.play(act)
+
+    def test_one_that_is_being_written_takes_no_newer_ones_place(self) -> None:
+        async def act() -> None:
+            goes_on = threading.Event()
+
+            def slow(path: str) -> None:
+                if path.startswith(self.folder):
+                    goes_on.wait(LONG)
+                shorten(path)
+
+            with mock.patch("mi_replica.checkpoint.shorten", slow):
+                async with self.running(kit.folder(self)) as other:
+                    await other.insert(b"a")
+                    async with self.running() as it:
+                        while not it.member._writing:
+                            await asyncio.sleep(0.02)
+                        passes = it.cut()
+                        await other.insert(b"b", b"c")
+                        await other.has_told(3)
+                        await self.forget(other, 3)
+                        passes.set()
+                        while "takes a checkpoint: the log begins with entry 4" not in self.notes:
+                            await asyncio.sleep(0.02)
+                        await asyncio.sleep(0.2)
+                        goes_on.set()
+                        while it.member._said()["checkpoint"] != 3:
+                            await asyncio.sleep(0.02)
+                        self.assertEqual(len([text for text in self.notes if "has the checkpoint of" in text]), 1)
+
+        self.play(act)
+
     def test_a_member_with_an_empty_folder_takes_one(self) -> None:
         """Where the log begins behind what it has, from a member that has it."""
         async def act() -> None:
             async with self.running() as it:
                 await it.insert(b"a", b"b", b"c")
                 await it.until_checkpoint(3)
-                key, log = self.etcd.keys[b"led/leader"], it.member._log
-                await log.forget(3, Term(key.made, key.value, 3, 0.5))
+                await self.forget(it, 3)
                 async with self.running(kit.folder(self)) as other:
                     while other.member._front.number != 3:
                         await asyncio.sleep(0.02)
                     self.assertEqual(other.member._said()["checkpoint"], 3)
+
+        self.play(act)
+
+
+class Following(Test):
+    def test_look_ups_are_answered_while_no_election_is(self) -> None:
+        """As where etcd has no room, or two of three are gone behind the leader."""
+        async def act() -> None:
+            async with self.running() as it:
+                await it.insert(b"a")
+                async with self.running(kit.folder(self)) as other:
+                    while other.member._front.number != 1:
+                        await asyncio.sleep(0.02)
+                    electing = other.member._log._electing
+                    post, electing.post = electing.post, mock.AsyncMock(side_effect=Unreachable("no answer in time"))  # type: ignore[method-assign]
+                    await it.end()
+                    while not electing.post.called:  # type: ignore[attr-defined]
+                        await asyncio.sleep(0.02)
+                    self.assertEqual(await other.look(SIZE), {"ok": True, "size": 1})
+                    self.assertEqual(await other.look(INSERT % b"b"), {"error": "leader", "leader": "", "ok": False})
+                    electing.post = post  # type: ignore[method-assign]
+                    await other.insert(b"b")
 
         self.play(act)
 
