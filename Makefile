@@ -4,15 +4,16 @@
 PYTHON ?= python3
 RT ?= rt
 PREFIX ?= /usr/local
-SEED ?= 1
-LINES ?= 2000
-SECONDS ?= 30
-FAILURES ?= 200
-CLIENTS ?= 64
-DAMAGED ?= 0.07
-ROWS ?=
-QUICK ?=
-PROGRAM ?=
+# (of these the words of make alone count: a shell may have LINES in its environment, which are the terminal's)
+SEED = 1
+LINES = 2000
+SECONDS = 30
+FAILURES = 200
+CLIENTS = 64
+DAMAGED = 0.07
+ROWS =
+QUICK =
+PROGRAM =
 ROOT = $(DESTDIR)$(PREFIX)
 SHARE = $(ROOT)/share/weltiyo
 

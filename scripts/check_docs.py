@@ -36,6 +36,7 @@ sys.path.insert(0, f"{TOP}/clients/python")
 from mi_client import Database, Ended, Server  # noqa: E402
 
 FENCE = re.compile(r"^(`{3,})(.*)$")
+OTHER_FENCE = re.compile(r"^(\s+`{3,}|\s*~{3,})")
 COMMAND = re.compile(r'^\s*(\d*>\s*)?\{\s*"cmd"')
 ASKED = re.compile(r"^(\d*)> (.*)$")
 RAN = re.compile(r"^Ran (\d+) tests? in ", re.MULTILINE)
@@ -65,6 +66,8 @@ def blocks_of(file):
     while at < len(lines):
         fence = FENCE.match(lines[at])
         if not fence:
+            if OTHER_FENCE.match(lines[at]):
+                raise Differs(f"line {at + 1}: a fence that is indented or isn't of backquotes, so nothing checks it")
             at += 1
             continue
         end = at + 1
@@ -208,11 +211,21 @@ class Documents:
     def unknown(self, block):
         raise Differs("a command line in a block that isn't `replies`, so nothing checks it")
 
+    def not_run(self, block):
+        raise Differs("an output of nothing that is run, so nothing checks it")
+
     def document(self, file):
         print(f"== {os.path.relpath(file, TOP)}", flush=True)
-        blocks = blocks_of(file)
-        for block, following in zip(blocks, [*blocks[1:], None]):
+        try:
+            blocks = blocks_of(file)
+        except Differs as error:
+            self.failed += 1
+            print(f"{os.path.relpath(file, TOP)}: {error}")
+            return
+        for before, block, following in zip([None, *blocks], blocks, [*blocks[1:], None]):
             self.block(block, following)
+            if block.kind() == "output" and (not before or before.kind() not in ("sh", "python", "js")):
+                self.check(block.place, self.not_run, block)
         self.end_talk()
         self.check(os.path.relpath(file, TOP), self.paths, file)
 

@@ -13,7 +13,7 @@ compact drops whole blocks that were undone, from the start to the undo: an undo
 commit, undo_all and push. A commit inside such a block has ended sessions below it, so it stays; a push stays where the sessions below
 were held. So the database is the same, the open sessions are, and as many of them are held. The file must not be in use meanwhile: it is
 locked, and a file that another program has locked is refused; so are a file whose place the new one takes, and the new one until its name
-stays.
+stays. Where --to names no file yet, one that has come meanwhile keeps its name, and the status is 4. Symbolic links are followed.
 
 Statuses: 0; 2 where the words are wrong; 3 where the journal is damaged, with the number of the first such line, from 1; 4 where a
 file can't be read or written, or is in use. A torn end is said, and is no damage."""
@@ -24,6 +24,9 @@ import contextlib
 import fcntl
 import itertools
 import os
+import re
+import signal
+import stat as modes
 import subprocess
 import sys
 import tempfile
@@ -33,6 +36,7 @@ import time
 from reference import CHANGES, LONGEST_LINE, MOST_SESSIONS, Refusal, form, is_count, is_text, read
 
 FORMAT = 1
+DIGITS = re.compile("[0-9a-f]+")
 SESSIONS = ("start", "undo", "squash", "commit", "undo_all", "push")
 # How the replies to lines that a journal has begin, but for that to a modify which lost its record.
 CHANGED = tuple(b'{"id":|{"ok":true}|{"erased":|{"ok":true,"revision":|{"committed":|{"ok":true,"undone":|{"ok":true,"pushed":'.split(b"|"))
@@ -74,6 +78,10 @@ def header(text):
         raise Damaged(1, f"a journal of format {found['journal']}, and {FORMAT} is known")
     if set(found) != {"journal", "revision", "schema"} or not is_count(found["revision"]) or not is_text(found["schema"]):
         raise Damaged(1, "a header has the members journal, revision and schema")
+    if not DIGITS.fullmatch(found["schema"]):
+        raise Damaged(1, "its hash isn't of hexadecimal digits")
+    if text != f'{{"journal":{FORMAT},"revision":{found["revision"]},"schema":"{found["schema"]}"}}'.encode():
+        raise Damaged(1, "a header that is written in another way, or has something behind it")
     return found["revision"], found["schema"]
 
 
@@ -298,6 +306,8 @@ def claimed(path):
     while True:
         with contextlib.ExitStack() as opened:
             file = opened.enter_context(open(path, "rb"))
+            if not modes.S_ISREG(os.fstat(file.fileno()).st_mode):
+                raise OSError(f"{path} is no regular file")
             lock(file)
             if os.path.samestat(os.fstat(file.fileno()), os.stat(path)):
                 opened.pop_all()
@@ -306,11 +316,13 @@ def claimed(path):
 
 def compact(path, new):
     """The new file has the old one's mode; it takes the old one's place, or the name that is asked for, once it is whole."""
-    new = new or path
-    folder = os.path.dirname(os.path.abspath(new))
+    # (of a link the file that it leads to, whose place is on another disk perhaps)
+    new = os.path.realpath(path if new is None else new)
+    folder = os.path.dirname(new)
     with contextlib.ExitStack() as locked:
         file = locked.enter_context(claimed(path))
-        if os.path.exists(new) and not os.path.samefile(new, path):
+        is_there = os.path.exists(new)
+        if is_there and not os.path.samefile(new, path):
             locked.enter_context(claimed(new))
         journal = Journal(file)
         blocks, _ = blocks_of(journal)
@@ -320,7 +332,12 @@ def compact(path, new):
                 lock(target)
                 os.fchmod(target.fileno(), os.fstat(file.fileno()).st_mode & 0o7777)
                 write_without(file, target, blocks.dropped, end)
-                os.rename(target.name, new)
+                if is_there:
+                    os.rename(target.name, new)
+                else:
+                    # (unlike a rename this fails where a service has begun a journal there meanwhile)
+                    os.link(target.name, new)
+                    os.unlink(target.name)
             except BaseException:
                 os.unlink(target.name)
                 raise
@@ -334,7 +351,7 @@ def words():
     checking = steps.add_parser("check", help="whether each line is whole and a command")
     checking.add_argument("file")
     checking.add_argument("--replay", metavar="PROGRAM", help="asks this mi_server the lines, each of which is to be done")
-    checking.add_argument("--schema", metavar="FILE", help="the schema that it is asked with")
+    checking.add_argument("--schema", metavar="FILE", help="the schema that it is asked with; the hash in the header isn't compared with it")
     steps.add_parser("stat", help="lines by command, sessions, sizes").add_argument("file")
     compacting = steps.add_parser("compact", help="a shorter journal of the same database")
     compacting.add_argument("file")
@@ -343,7 +360,10 @@ def words():
 
 
 def main(given):
-    args = words().parse_args(given)
+    parser = words()
+    args = parser.parse_args(given)
+    if args.step == "check" and args.schema and not args.replay:
+        parser.error("--schema goes with --replay: without it no schema is looked at")
     try:
         if args.step == "check":
             check(args.file, args.replay, args.schema)
@@ -364,4 +384,6 @@ def main(given):
 
 
 if __name__ == "__main__":
+    # (an unfinished file goes then, as at Ctrl-C)
+    signal.signal(signal.SIGTERM, lambda *_: sys.exit(128 + signal.SIGTERM))
     sys.exit(main(sys.argv[1:]))

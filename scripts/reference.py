@@ -222,12 +222,15 @@ def read(line):
     """The JSON of a line."""
     try:
         text = line.decode("utf-8")
-        if depth(text) > DEEPEST:
+        # (most lines have fewer brackets than may nest, and then nobody looks how they stand)
+        if text.count("[") + text.count("{") > DEEPEST and depth(text) > DEEPEST:
             raise ValueError
-        found = json.loads(text, parse_int=whole, parse_float=number, parse_constant=no_constant, object_pairs_hook=pairs)
+        # (only an escape makes a surrogate: no UTF-8 has one)
+        may_have = "\\u" in text
+        found = json.loads(text, parse_int=whole, parse_float=number, parse_constant=no_constant, object_pairs_hook=pairs if may_have else Pairs)
     except ValueError:
         raise Refusal("json") from None
-    if has_surrogate(found):
+    if may_have and has_surrogate(found):
         raise Refusal("json")
     return found
 

@@ -65,6 +65,20 @@ class Told(unittest.TestCase):
         self.documents.short("parts.py")
         self.assertEqual(self.documents.skipped, ["scripts/parts.py, two: left out: it needs more"])
 
+    def documented(self, text):
+        """How many checks of a document passed and failed."""
+        self.write("it.md", text)
+        self.documents.document(f"{self.folder}/scripts/it.md")
+        return self.documents.passed, self.documents.failed
+
+    def test_fences_that_nothing_would_check(self):
+        for fence in ("  ```", "~~~", "   ~~~"):
+            self.documents.passed = self.documents.failed = 0
+            self.assertEqual(self.documented(f"{fence}replies\n> x\ny\n{fence}\n"), (0, 1), fence)
+
+    def test_an_output_of_what_is_not_run(self):
+        self.assertEqual(self.documented("```bash\necho one\n```\n\n```output\ntwo\n```\n"), (1, 1))
+
 
 if __name__ == "__main__":
     unittest.main()

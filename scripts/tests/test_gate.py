@@ -10,6 +10,7 @@ TOP = os.path.dirname(os.path.dirname(os.path.dirname(os.path.realpath(__file__)
 # The targets named in FAILING fail; `test` says its count, if it has one.
 MAKE = """#!/bin/sh
 shift
+[ "$MAKEFLAGS" = i ] && FAILING=
 case "$1" in test) echo "a proof"; [ -n "$COUNT" ] && echo "$COUNT" ;; esac
 case " $FAILING " in *" $1 "*) exit 1 ;; esac
 """
@@ -38,6 +39,9 @@ class Gate(unittest.TestCase):
             ("", "check-docs faults test", (1, "0 passed, 3 failed")),
         ]:
             self.assertEqual(self.ran(count, failing)[:2], want, (count, failing))
+
+    def test_errors_that_make_is_told_to_ignore(self):
+        self.assertEqual(self.ran(failing="check-docs faults", MAKEFLAGS="i")[:2], (1, "40 passed, 2 failed"))
 
     def test_without_a_compiler(self):
         status, last, said = self.ran(CC="/no/compiler")

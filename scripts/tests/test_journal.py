@@ -211,6 +211,51 @@ class Compact(Files):
             self.assertEqual(self.ran("compact", self.path, "--to", new)[0], 4)
         self.assertEqual(self.text(new), first_line() + insert("used") + b"\n")
 
+    def test_one_that_comes_meanwhile_keeps_its_name(self):
+        new, write = f"{self.folder}/new", journal.write_without
+
+        def begun(*how):
+            with open(new, "xb") as file:
+                file.write(first_line() + insert("acknowledged") + b"\n")
+            write(*how)
+
+        self.write([START, UNDO])
+        with unittest.mock.patch("journal.write_without", begun):
+            self.assertEqual(self.ran("compact", self.path, "--to", new)[0], 4)
+        self.assertEqual(self.text(new), first_line() + insert("acknowledged") + b"\n")
+        self.assertEqual(sorted(os.listdir(self.folder)), ["j", "new"])
+
+    def test_an_unfinished_one_goes(self):
+        self.write([START, UNDO])
+        text = (
+            "import os, runpy, signal, sys\n"
+            "os.fsync = lambda _: os.kill(os.getpid(), signal.SIGTERM)\n"
+            f"sys.path.insert(0, {TOP + '/scripts'!r})\n"
+            f"sys.argv = ['journal.py', 'compact', {self.path!r}]\n"
+            f"runpy.run_path({TOP + '/scripts/journal.py'!r}, run_name='__main__')\n"
+        )
+        self.assertEqual(subprocess.run([sys.executable, "-c", text]).returncode, 143)
+        self.assertEqual(os.listdir(self.folder), ["j"])
+
+    def test_links_are_followed(self):
+        os.mkdir(f"{self.folder}/disk")
+        real, link = f"{self.folder}/disk/j", self.path
+        os.symlink(real, link)
+        self.write([START, UNDO])
+        self.assertEqual(self.ran("compact", link), (0, f"{real}: {len(first_line())} bytes, of {len(first_line() + START + UNDO) + 2}\n"))
+        self.assertTrue(os.path.islink(link))
+        self.assertEqual((self.text(real), os.listdir(f"{self.folder}/disk")), (first_line(), ["j"]))
+
+    def test_nothing_but_a_file_is_replaced(self):
+        self.write([START, UNDO])
+        os.mkfifo(f"{self.folder}/pipe")
+        held = os.open(f"{self.folder}/pipe", os.O_RDWR)
+        self.addCleanup(os.close, held)
+        for new in ("/dev/null" if os.getuid() else f"{self.folder}/pipe", self.folder, ""):
+            self.assertEqual(self.ran("compact", self.path, "--to", new)[0], 4, new)
+        self.assertEqual(self.text(), first_line() + START + b"\n" + UNDO + b"\n")
+        self.assertEqual(sorted(os.listdir(self.folder)), ["j", "pipe"])
+
     def test_a_damaged_one_stays(self):
         self.write([START, b"{", UNDO])
         self.assertEqual(self.ran("compact", self.path), (3, f"{self.path}: line 3: no JSON\n"))
@@ -256,10 +301,19 @@ class Check(Files):
             (b'{"journal":2,"revision":0,"schema":""}\n', "a journal of format 2, and 1 is known"),
             (b'{"journal":1,"revision":0}\n', "a header has the members journal, revision and schema"),
             (b'{"journal":1,"revision":-1,"schema":""}\n', "a header has the members journal, revision and schema"),
+            (first_line(schema="x" * 64), "its hash isn't of hexadecimal digits"),
+            (first_line()[:-1] + b"\r\n", "a header that is written in another way, or has something behind it"),
+            (first_line().replace(b":1", b":true"), "a header that is written in another way, or has something behind it"),
         ]:
             with open(self.path, "wb") as file:
                 file.write(text)
             self.assertEqual(self.ran("check", self.path), (3, f"{self.path}: line 1: {why}\n"))
+
+    def test_a_schema_that_nothing_looks_at(self):
+        self.write([START])
+        with self.assertRaises(SystemExit) as ended:
+            self.ran("check", self.path, "--schema", "/no/such")
+        self.assertEqual(ended.exception.code, 2)
 
     def test_a_program_that_answers_too_few(self):
         self.write([START, UNDO])

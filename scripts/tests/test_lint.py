@@ -154,5 +154,13 @@ class Places(unittest.TestCase):
             self.assertEqual(caught.exception.line, line, text)
 
 
+class Programs(unittest.TestCase):
+    def test_one_that_checks_nothing(self):
+        for program_ in ("/bin/true", "/bin/false", TOP, "/no/such"):
+            words = [sys.executable, f"{TOP}/scripts/schema_lint.py", "--program", program_, f"{TOP}/examples/shop.toml"]
+            ran = subprocess.run(words, capture_output=True, text=True)
+            self.assertEqual((ran.returncode, ran.stdout, len(ran.stderr.splitlines())), (2, "", 1), program_)
+
+
 if __name__ == "__main__":
     unittest.main()

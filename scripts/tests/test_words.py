@@ -2,6 +2,7 @@
 import contextlib
 import io
 import os
+import subprocess
 import sys
 import tempfile
 import unittest
@@ -40,6 +41,14 @@ class Words(unittest.TestCase):
     def test_no_crate(self):
         status, said = self.ran(further_edits, "--check", "mi_value", "mi_valeu")
         self.assertEqual((status, said.splitlines()[-1].partition("error: ")[2]), (2, "no crate of this name: mi_valeu"))
+
+    def test_words_of_the_environment(self):
+        """A terminal's LINES don't make `make fuzz` shorter, and no PROGRAM of the environment is installed."""
+        env = {it: value for it, value in os.environ.items() if it not in ("MAKEFLAGS", "MFLAGS", "MAKELEVEL")}
+        env.update(LINES="24", PROGRAM="/bin/true")
+        for words, want in ((["fuzz"], "--lines 2000 "), (["fuzz", "LINES=7"], "--lines 7 "), (["install"], "scripts/program.py proved\n")):
+            ran = subprocess.run(["make", "-C", TOP, "-n", *words], env=env, capture_output=True, text=True)
+            self.assertIn(want, ran.stdout)
 
 
 class Edits(unittest.TestCase):

@@ -252,9 +252,11 @@ def places(data: bytes) -> List[Placed]:
 def lint_file(path: str, file: str) -> bool:
     """Prints what is wrong with a schema, and answers whether it is sound."""
     ran = subprocess.run([path, "--check", "--schema", file], capture_output=True, text=True)
-    if ran.returncode == 0:
+    if (ran.returncode, ran.stdout) == (0, "ok\n"):
         print(f"{file}: ok")
         return True
+    if ran.returncode != 3:
+        raise OSError(f"it has ended with {ran.returncode}, and isn't a `mi_server` that checks schemas")
     said = ran.stderr.strip()
     print(f"{file}: {said}")
     word = said[len("schema: "):] if said.startswith("schema: ") else None
@@ -286,6 +288,9 @@ def main(found: Optional[Callable[[], str]] = None) -> int:
         sound = [lint_file(path, it) for it in options.files]
     except FileNotFoundError:
         print(f"there is no program {path}: name the server by --program", file=sys.stderr)
+        return 2
+    except OSError as error:
+        print(f"{path} can't be asked: {error}", file=sys.stderr)
         return 2
     return 0 if all(sound) else 3
 

@@ -16,6 +16,6 @@ def add_server(parser: argparse.ArgumentParser) -> None:
 
 def opened(options: argparse.Namespace) -> Database:
     """The connection. Raises OSError and Ended; ValueError where the schema is none."""
-    if options.connect:
+    if options.connect is not None:
         return Database.connect(options.connect, schema=options.schema)
     return Database.start(options.program, options.schema)

@@ -8,6 +8,7 @@ from typing import Any, Iterator, List
 import kit
 
 from mi_client import transfer
+from mi_client.opening import opened
 from mi_client.progress import Progress, clock_time
 from mi_client.rowfiles import Item
 from mi_client.transfer import Stopped, load_rows
@@ -191,6 +192,14 @@ class Drawing(unittest.TestCase):
         self.assertEqual(silent.getvalue(), "")
         self.assertEqual([clock_time(it) for it in [0, 59.6, 3661]], ["0:00", "1:00", "1:01:01"])
         self.assertIn("100%", Progress(0, screen).line())
+
+
+class Ports(unittest.TestCase):
+    def test_port_0_starts_no_server(self) -> None:
+        words = ["--connect", "0", "--program", kit.program(), f"{kit.folder(self)}/none"]
+        self.assertEqual(transfer.main_load(words), 1)
+        with self.assertRaises(OSError):
+            opened(Namespace(connect=0, program=kit.program(), schema=None))
 
 
 if __name__ == "__main__":
