@@ -270,6 +270,18 @@ test("whole numbers are exact", () =>
     assert.equal((await db.find("by_balance", [largest])).id, 0);
   }));
 
+test("what would be sent as something else isn't sent", () =>
+  withDatabase(async (db) => {
+    for (const n of [2 ** 60, -(2 ** 53), NaN, Infinity]) await assert.rejects(db.insert(account("ann", n)), TypeError);
+    await assert.rejects(db.modify(0, { add: { balance: 2 ** 60 }, set: { owner: "a", vip: true, other: 5n } }), TypeError);
+    const ids = [await db.insert(account("ann", 2n ** 60n)), await db.insert(account("bob", 2 ** 53 - 1)), await db.insert(account("1234567890123456 null", 0))];
+    await assert.rejects(db.relocate("line", ids[0], { before: NaN }), TypeError);
+    assert.deepEqual((await db.list("line")).rows.map((it) => it.id), ids);
+    await assert.rejects(db.insert(account("cid", 0.1234567890123456)), (error) => error instanceof Refused && error.word === "row");
+    await assert.rejects(db.askLine('{"cmd":"insert","row":{"owner":"x\ud800","balance":1,"vip":false}}'), TypeError);
+    assert.equal(JSON.parse(await db.askLine('{"cmd":"insert","row":{"owner":"x\ud83d\ude00","balance":1,"vip":false}}')).ok, true);
+  }));
+
 test("walks go on page by page", () =>
   withDatabase(async (db) => {
     for (let n = 0; n < 25; n++) await db.insert(account(`owner ${n}`, n % 12));

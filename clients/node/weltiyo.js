@@ -66,12 +66,25 @@ function encode(value) {
 function lineOf(cmd, members) {
   const asked = { cmd };
   for (const name in members) if (members[name] !== undefined && members[name] !== null) asked[name] = members[name];
+  let line;
   try {
-    return JSON.stringify(asked);
+    line = JSON.stringify(asked);
   } catch (error) {
     if (!(error instanceof TypeError)) throw error;
-    return encode(asked); // (there is a BigInt in it)
+    line = encode(asked); // (there is a BigInt in it)
   }
+  if (INEXACT.test(line)) refuseInexact(asked);
+  return line;
+}
+
+/** What may stand in a line for a number that JSON.stringify writes as another one. */
+const INEXACT = /\d{16}|null/;
+
+/** Throws where a value has a number that is sent as another one: whole and beyond 2^53, or none (which would be sent as null). */
+function refuseInexact(value) {
+  if (typeof value === "number" && !(Math.abs(value) <= Number.MAX_SAFE_INTEGER || (Number.isFinite(value) && !Number.isInteger(value))))
+    throw new TypeError(`${value} isn't sent exactly: whole numbers beyond 2^53 are to be sent as BigInt`);
+  if (value && typeof value === "object") for (const it of Object.values(value)) refuseInexact(it);
 }
 
 const LONG = /"(?:[^"\\]|\\.)*"|-?\d{16,}/g;
@@ -322,6 +335,7 @@ class Database {
   /** The reply to one line, both without their newlines. The line has a command: an empty one would have no reply. */
   askLine(line) {
     if (line.includes("\n") || !line.replace(/\r+$/, "")) return Promise.reject(new TypeError("a line has one command and no newline"));
+    if (/\p{Surrogate}/u.test(line)) return Promise.reject(new TypeError("a line has half of a surrogate pair, which would be sent as another text"));
     return this._exchange(line);
   }
 
@@ -538,7 +552,7 @@ class Database {
     let last = null, given = new Set();
     for (let more = true; more; ) {
       const answer = await this.range(index, { ...bounds, reverse, limit: page, table });
-      const rows = answer.rows.filter((it) => !given.has(it.id));
+      const rows = answer.rows.filter((it) => !given.has(it.id) || names.some((name, n) => it[name] !== last[n]));
       more = answer.more;
       for (const row of rows) {
         const key = names.map((name) => row[name]);

@@ -7,6 +7,7 @@ import asyncio
 import collections
 import contextlib
 import contextvars
+import errno
 import os
 import socket
 import time
@@ -71,6 +72,9 @@ class AsyncDatabase:
         while True:
             try:
                 reader, writer = await asyncio.open_connection("127.0.0.1", port)
+                if writer.get_extra_info("sockname") == writer.get_extra_info("peername"):
+                    writer.transport.abort()  # (where nobody listens the system may have chosen this very port, and joined the two ends)
+                    raise ConnectionRefusedError(errno.ECONNREFUSED, os.strerror(errno.ECONNREFUSED))
                 break
             except ConnectionRefusedError:
                 if time.monotonic() >= end:
@@ -270,6 +274,9 @@ class AsyncDatabase:
         """Ends the session of this number and those above it, as far as the connection holds them: what was committed or pushed
         in the block isn't its own any more. Where this fails the connection ends."""
         try:
+            await self._turn(block)
+            if not self._closed_for and self._blocks[-1] is not block:
+                raise RuntimeError("the block of a session ends before one that began later: the connection is closed")
             now = await self._step(block, calls.revision())
             while now.held > 0 and now.revision >= number:
                 await self._step(block, end())

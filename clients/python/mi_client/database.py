@@ -3,6 +3,7 @@ since one asks at a time. Processes may not: after a fork the connection stays w
 from __future__ import annotations
 
 import contextlib
+import errno
 import os
 import socket
 import subprocess
@@ -41,6 +42,7 @@ class Database(Walks):
         self._lock = threading.RLock()
         self._unbroken = _Unbroken(self)
         self._ahead: List[Union[Pipeline, LinesAhead]] = []
+        self._blocks: List[object] = []
         self._closed_for = ""
         _opened.add(self)
 
@@ -57,6 +59,9 @@ class Database(Walks):
         while True:
             try:
                 stream = socket.create_connection((host, port), timeout=timeout)
+                if stream.getsockname() == stream.getpeername():
+                    stream.close()  # (where nobody listens the system may have chosen this very port, and joined the two ends)
+                    raise ConnectionRefusedError(errno.ECONNREFUSED, os.strerror(errno.ECONNREFUSED))
                 break
             except ConnectionRefusedError:
                 if time.monotonic() >= end:
@@ -153,7 +158,7 @@ class Database(Walks):
         """A block of calls that are sent ahead, each of which gives an `Answer`; at most `window` of them are awaited at a
         time. At its end all are answered, and the first refusal that nobody has looked at is raised; where the block raises,
         what was called is sent and answered too, and the exception goes on. Other threads wait until the block has ended."""
-        return _Sending(self, Pipeline(self._dialect, self._step, self._exchange_alone, self._flush, window))
+        return _Sending(self, Pipeline(self._dialect, self._step, self._flush, window))
 
     @contextlib.contextmanager
     def _sending(self, made: LinesAhead) -> Iterator[LinesAhead]:
@@ -196,17 +201,23 @@ class Database(Walks):
         with self._unbroken:
             return self._channel.exchange(line)
 
-    def _step(self, data: bytes, wait: bool) -> List[bytes]:
-        """Queues bytes, writes and reads, and answers the lines that have come."""
+    def _step(self, made: Union[Pipeline, LinesAhead], wait: bool) -> None:
+        """Writes what is handed and reads, and gives the lines that have come."""
         with self._lock, self._unbroken:
-            self._channel.queue(data)
-            self._channel.step(wait)
-            return self._channel.taken()
+            data = made.handed()
+            if wait and data and made.awaited == 1:
+                made.come([self._channel.exchange(data)])  # (which costs less, for one line)
+            elif made.awaited:
+                self._channel.queue(data)
+                self._channel.step(wait)
+                made.come(self._channel.taken())
 
     def _why(self, error: Exception) -> str:
         """Ends the connection, and says what a server of its own wrote to standard error."""
         self._closed_for = str(error) or "the connection broke off"
-        if self._program:
+        if self._program and isinstance(error, TimeoutError):
+            self._program.kill()  # (one that stands still wouldn't end by itself, and its tables go with the connection)
+        elif self._program:
             with contextlib.suppress(OSError):
                 self._closing[0].close()
             said = self._closing[2].read().decode(errors="replace").strip()
@@ -218,7 +229,7 @@ class Database(Walks):
     def _leave_to_parent(self) -> None:
         """In a child after a fork: the descriptors are closed here, so that the server sees the end of the parent alone."""
         self._closed_for = "the connection stayed with the process that opened it; open one in each process"
-        self._of_parent, self._program, self._ahead = self._program, None, []
+        self._of_parent, self._program, self._ahead, self._blocks = self._program, None, [], []
         self._lock = threading.RLock()  # (another thread of the parent may have held it)
         for it in self._closing:
             it.close()

@@ -2,11 +2,12 @@
 from __future__ import annotations
 
 import contextlib
-from typing import TYPE_CHECKING, Any, Callable, Iterator, TypeVar
+from typing import TYPE_CHECKING, Any, Callable, Iterator, List, TypeVar
 
 from mi_client import calls
 from mi_client.calls import Request
 from mi_client.dialect import sent_by
+from mi_client.errors import Ended, Refused
 
 T = TypeVar("T")
 
@@ -22,6 +23,13 @@ else:
 
 class Calls:
     """The commands, by their names; `start` is `begin`, since `Database.start` starts a server of its own."""
+
+    _blocks: List[object]
+    """Of the open sessions, the innermost last."""
+
+    def close(self) -> None:
+        """Ends the connection."""
+        raise NotImplementedError
 
     def send(self, request: Request[T]) -> T:
         """The answer to a request. Raises Refused and Ended."""
@@ -69,20 +77,37 @@ class Calls:
         """A session for a block, which gets its number. Where the block raises, all of it is undone, and the exception goes
         on; else it is squashed, with the sessions that the block left open above it. What the block itself committed or pushed
         stays as it is. Other threads that share the connection wait until the block has ended, so that what they do is never
-        undone with it."""
+        undone with it. Where the block is interrupted while it begins or ends, or ends before one that began later, as a generator's
+        can, the connection ends, so that the server undoes what it holds: what came later would be undone with it."""
+        mine, is_settled = object(), False
         with self.alone():
-            number = self.begin()
             try:
-                yield number
-            except BaseException:
-                if self.is_open():
-                    self._end_session(number, self.undo)
-                raise
-            self._end_session(number, self.squash)
+                try:
+                    number = self.begin()
+                except (Refused, Ended, RuntimeError):
+                    is_settled = True
+                    raise
+                self._blocks.append(mine)
+                try:
+                    yield number
+                except BaseException:
+                    if self.is_open():
+                        self._end_session(mine, number, self.undo)
+                    is_settled = True
+                    raise
+                self._end_session(mine, number, self.squash)
+                is_settled = True
+            finally:
+                if not is_settled:
+                    self.close()
+                if mine in self._blocks:
+                    self._blocks.remove(mine)
 
-    def _end_session(self, number: int, step: Callable[[], int]) -> None:
+    def _end_session(self, block: object, number: int, step: Callable[[], int]) -> None:
         """Ends the session of this number and those above it, as far as the connection holds them: what was committed or pushed
         in the block isn't its own any more."""
+        if self.is_open() and self._blocks[-1] is not block:
+            raise RuntimeError("the block of a session ends before one that began later: the connection is closed")
         now = self.revision()
         while now.held > 0 and now.revision >= number:
             step()

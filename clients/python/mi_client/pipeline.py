@@ -3,7 +3,7 @@ every wait both writes and reads, so neither side can stand still for the other,
 from __future__ import annotations
 
 import collections
-from typing import TYPE_CHECKING, Any, Callable, Deque, Dict, Generic, Iterable, Iterator, List, Optional, TypeVar
+from typing import TYPE_CHECKING, Any, Callable, Deque, Dict, Generic, Iterable, Iterator, List, Optional, Tuple, TypeVar
 
 from mi_client import calls
 from mi_client.calls import Request
@@ -28,12 +28,9 @@ LARGEST_BATCH = 1 << 15
 """The bytes that are written at once; a pipe takes twice as many."""
 
 
-Step = Callable[[bytes, bool], List[bytes]]
-"""Takes bytes to write, writes and reads, waiting for either where it is told to, and answers the replies that have come."""
-
-
-Exchange = Callable[[bytes], bytes]
-"""Writes a line and answers its reply, where nothing else is on its way."""
+Step = Callable[[Any, bool], None]
+"""Writes what is `handed` and reads, waiting for either where it is told to and a reply is awaited; what has `come` is given. All this is
+one call of the connection, so a signal handler or a finalizer that comes in between can't make another one there."""
 
 
 Alone = Callable[[Any], None]
@@ -47,7 +44,8 @@ class LinesAhead:
         if window < 1:
             raise ValueError("a window has room for one line at least")
         self._step, self._alone, self._window = step, alone, window
-        self._awaited = 0
+        self.awaited = 0
+        self._batch: List[bytes] = []
         self._come: Deque[bytes] = collections.deque()
 
     def flush(self) -> None:
@@ -62,35 +60,40 @@ class LinesAhead:
         for line in lines:
             batch.append(line)
             size += len(line)
-            if self._awaited + len(batch) < self._window and size < LARGEST_BATCH:
+            if self.awaited + len(batch) < self._window and size < LARGEST_BATCH:
                 continue
             self._send(batch)
             batch, size = [], 0
             yield from self._given()
-            if self._awaited >= self._window:
+            if self.awaited >= self._window:
                 self._advance(self._window // 2)
                 yield from self._given()
         self._send(batch)
-        while self._awaited or self._come:
+        while self.awaited or self._come:
             yield from self._given()
-            self._advance(max(0, self._awaited - 1))
+            self._advance(max(0, self.awaited - 1))
 
     def _send(self, batch: List[bytes]) -> None:
         self._alone(self)
-        self._awaited += len(batch)
-        self._take(b"".join(batch), False)
+        self._batch = batch
+        self._step(self, False)
 
     def _given(self) -> Iterator[bytes]:
         while self._come:
             yield self._come.popleft()
 
     def _advance(self, left: int) -> None:
-        while self._awaited > left:
-            self._take(b"", True)
+        while self.awaited + len(self._batch) > left:
+            self._step(self, True)
 
-    def _take(self, data: bytes, wait: bool) -> None:
-        replies = self._step(data, wait)
-        self._awaited -= len(replies)
+    def handed(self) -> bytes:
+        """What is to be written next, and is awaited then."""
+        batch, self._batch = self._batch, []
+        self.awaited += len(batch)
+        return b"".join(batch)
+
+    def come(self, replies: List[bytes]) -> None:
+        self.awaited -= len(replies)
         self._come.extend(replies)
 
 
@@ -121,13 +124,13 @@ class Pipeline:
     answered, and the first refusal that nobody has looked at is raised. For one thread: others that share the connection wait
     until the block has ended."""
 
-    def __init__(self, dialect: Dialect, step: Step, exchange: Exchange, alone: Alone, window: int = WINDOW) -> None:
+    def __init__(self, dialect: Dialect, step: Step, alone: Alone, window: int = WINDOW) -> None:
         if window < 1:
             raise ValueError("a window has room for one line at least")
         self.dialect = dialect
-        self._step, self._exchange, self._alone, self._window = step, exchange, alone, window
+        self._step, self._alone, self._window = step, alone, window
         self._is_over = False
-        self._batch: List[bytes] = []
+        self._batch: List[Tuple[bytes, Answer[Any]]] = []
         self._bytes = 0
         self._awaited: Deque[Answer[Any]] = collections.deque()
         self._unseen: Dict[Answer[Any], None] = {}
@@ -139,23 +142,18 @@ class Pipeline:
         line = self.dialect.line(request)
         self._alone(self)
         answer = Answer(self, request)
-        self._batch.append(line)
+        self._batch.append((line, answer))
         self._bytes += len(line)
-        self._awaited.append(answer)
-        if len(self._awaited) >= self._window:
+        if len(self._awaited) + len(self._batch) >= self._window:
             # (half of the window at a time, so that a wait is worth it)
             self._advance(self._window // 2)
         elif self._bytes >= LARGEST_BATCH:
-            self._take(wait=False)
+            self._step(self, False)
         return answer
 
     def flush(self) -> None:
         """Waits until every line has been answered."""
-        if len(self._awaited) == 1 and self._batch:
-            self._give(self._exchange(self._batch.pop()))  # (which costs less, for one line)
-            self._bytes = 0
-        else:
-            self._advance(0)
+        self._advance(0)
 
     def refused(self) -> List[Refused]:
         """The refusals that nobody has looked at yet, in their order, of what has been answered; they are looked at then."""
@@ -170,7 +168,7 @@ class Pipeline:
     def wait_for(self, answer: Answer[Any]) -> None:
         """Waits for one answer, and so for all before it."""
         while not answer.is_there():
-            self._take(wait=True)
+            self._step(self, True)
 
     def looked_at(self, answer: Answer[Any]) -> None:
         """Its refusal isn't raised at the end of the block any more."""
@@ -183,21 +181,25 @@ class Pipeline:
             it.result()
 
     def _advance(self, left: int) -> None:
-        while len(self._awaited) > left:
-            self._take(wait=True)
+        while len(self._awaited) + len(self._batch) > left:
+            self._step(self, True)
 
-    def _take(self, wait: bool) -> None:
-        data = b"".join(self._batch)
-        self._batch.clear()
-        self._bytes = 0
-        for reply in self._step(data, wait):
-            self._give(reply)
+    @property
+    def awaited(self) -> int:
+        return len(self._awaited)
 
-    def _give(self, reply: bytes) -> None:
-        answer = self._awaited.popleft()
-        answer._reply = reply
-        if reply.startswith(REFUSAL):
-            self._unseen[answer] = None
+    def handed(self) -> bytes:
+        """What is to be written next, and is awaited then."""
+        batch, self._batch, self._bytes = self._batch, [], 0
+        self._awaited.extend([answer for _, answer in batch])
+        return b"".join([line for line, _ in batch])
+
+    def come(self, replies: List[bytes]) -> None:
+        for reply in replies:
+            answer = self._awaited.popleft()
+            answer._reply = reply
+            if reply.startswith(REFUSAL):
+                self._unseen[answer] = None
 
     ask = sent(calls.ask)
 

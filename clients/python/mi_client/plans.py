@@ -57,7 +57,7 @@ def walk_range(
     newest = -1
     while True:
         found: Page = yield from one(calls.range(index, bounds["lower"], bounds["upper"], reverse, page, table))
-        new = [it for it in found.rows if it["id"] not in given]
+        new = [it for it in found.rows if it["id"] not in given or [it[name] for name in names] != last]
         for row in new:
             key = [row[name] for name in names]
             if key != last:
@@ -68,7 +68,7 @@ def walk_range(
         if not found.more:
             return
         if not new:
-            if (yield from one(calls.count(index, last, table))) > len(given):
+            if (yield from one(calls.count(index, last, table))) > len(found.rows):  # (some that were given may have left the key)
                 yield from _equals_behind(schema, index, names, last, given, newest, reverse, page, table)
             given = set()  # (behind the key each row is a new one, also one that was moved there)
         bounds[side] = {including if new else beyond: last}

@@ -146,6 +146,9 @@ def read_csv(file: IO[bytes], name: str, table: Table) -> Iterator[Item]:
         if strange or lacking:
             wanted = ", ".join(it.name for it in table.columns)
             raise Faulty(f"{name}:1: the first line has the names of the columns, {wanted}; it has {', '.join(names) or 'none'}")
+        twice = sorted({it for it in names if names.count(it) > 1})
+        if twice:
+            raise Faulty(f"{name}:1: {', '.join(twice)} stands twice in the first line")
         takes = [_taking(table, it) for it in names]
         done = 0
         for fields in lines:

@@ -40,6 +40,10 @@ def rows_in_order(db: Database, table: Optional[str], index: str, lower: Optiona
     """The rows of a table in the order of an index of any kind but hashed. Raises ValueError for those."""
     home = db.schema.table(table) if db.schema else None
     found = home.index(index) if home else None
+    if home is None and index != "id":
+        home_of(db, table)  # (which says what is missing)
+    if home and found is None:
+        raise ValueError(f"{home.name} has no index {index}; indexes are {', '.join(it.name for it in home.indexes)}")
     if found and found.kind == "hashed":
         raise ValueError(f"{index} is hashed and has no order; take another index, or `id`")
     if found and found.kind == "sequenced":
@@ -88,6 +92,8 @@ def behind_loaded(db: Database, items: Iterable[Item]) -> Iterator[Item]:
     there: Dict[Optional[str], Iterator[Row]] = {}
     next_ones: Dict[Optional[str], Optional[Row]] = {}
     for it in items:
+        if it.table is None and db.schema:
+            it = it._replace(table=db.schema.tables[0].name)  # (so that it is one table, named or not)
         if it.table not in there:
             there[it.table] = rows_by_now(db, it.table)
             next_ones[it.table] = next(there[it.table], None)
@@ -115,7 +121,9 @@ def text_of(row: Row) -> str:
 def dumped_tables(db: Database, named: Optional[str]) -> List[Optional[str]]:
     if named:
         return [named]
-    return [it.name for it in db.schema.tables] if db.schema else [None]
+    if db.schema is None:
+        raise NeedsSchema("the tables come from the schema: name it by --schema, or one table by --table")
+    return [it.name for it in db.schema.tables]
 
 
 def dump(db: Database, options: argparse.Namespace) -> int:
@@ -126,21 +134,25 @@ def dump(db: Database, options: argparse.Namespace) -> int:
         tables = tables[tables.index(last[0].get("table")):]
         lower = {"gt": [last[0]["id"]]}
     rows = 0
-    with writing(options.file, bool(last)) as file, Progress(sum(db.size(it) for it in tables)) as progress:
-        for table in tables:
-            for row in rows_in_order(db, table, options.order, lower):
+    # (what is refused is refused before the file is emptied)
+    sources = [(it, rows_in_order(db, it, options.order, None if n else lower)) for n, it in enumerate(tables)]
+    total = sum(db.size(it) for it in tables)
+    with writing(options.file, bool(last)) as file, Progress(total) as progress:
+        for table, source in sources:
+            for row in source:
                 file.write(json_line(row, table))
                 rows += 1
                 progress.step(1)
-            lower = None
     return rows
 
 
 def export(db: Database, options: argparse.Namespace) -> int:
     rows = 0
-    with writing(options.file) as file, Progress(db.size(options.table)) as progress:
-        sheet = CsvWriter(file, home_of(db, options.table)) if format_of(options.file, options.format) == "csv" else None
-        for row in rows_in_order(db, options.table, options.order):
+    home = home_of(db, options.table) if format_of(options.file, options.format) == "csv" else None
+    source, total = rows_in_order(db, options.table, options.order), db.size(options.table)
+    with writing(options.file) as file, Progress(total) as progress:
+        sheet = CsvWriter(file, home) if home else None
+        for row in source:
             if sheet:
                 sheet.write(row)
             else:
