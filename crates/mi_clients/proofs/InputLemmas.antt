@@ -11,6 +11,23 @@ use Rattle.mi_hub.proofs.LineLemmas.{ended_nil, parts_at, marked-long, from_rest
 use Rattle.mi_ledger.proofs.JournalLemmas.{whole_line}
 use Rattle.mi_clients.specs.Lines.{SameLines, EndsAsClosed}
 
+-- where no newline stands there is none behind any front either
+put_front-none : (x : ℕ) (ts : List (List ℕ)) → put_front x ts ≡ [] → ts ≡ []
+put_front-none x [] h = refl
+put_front-none x (t ∷ ts) h = cc
+
+unended_tail : (x : ℕ) (a : List ℕ) → ended (x ∷ a) ≡ [] → ended a ≡ []
+unfolding ended
+unended_tail x a h = by_test (nat_eq x 10) h
+  where
+    by_test : (b : Bool) → cond b ([] ∷ ended a) (put_front x (ended a)) ≡ [] → ended a ≡ []
+    by_test true h = cc
+    by_test false h = put_front-none x (ended a) h
+
+pub unended_back : (a b : List ℕ) → ended (a ++ b) ≡ [] → ended b ≡ []
+unended_back [] b h = h
+unended_back (x ∷ a) b h = unended_back a b (unended_tail x (a ++ b) h)
+
 -- bytes without a newline have no lines, and are all a rest
 unended_lines : (w : List ℕ) → ended w ≡ [] → (lines_of w ≡ []) × (rest_of w ≡ marked w)
 unended_lines w h =

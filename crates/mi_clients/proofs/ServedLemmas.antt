@@ -1,25 +1,26 @@
 -- What connections are owed and sent, one step behind another, and over a row.
-use Rattle.std.proofs.Common.{◌≡◌, ◌⊎◌, inl, inr, ℕ, zero, suc, ◌<◌, List, [], ◌∷◌, ◌++◌, length, nat_eq, cond, ◌≤◌, Option, refl, sym, ap, ◌∙◌, subst}
+use Rattle.std.proofs.Common.{◌≡◌, ◌⊎◌, inl, inr, ℕ, zero, suc, ◌<◌, List, [], ◌∷◌, ◌++◌, length, nat_eq, cond, ◌≤◌, Option, Some, None, false, refl, sym, ap, ◌∙◌, subst}
 use Rattle.std.proofs.Common.{Result, Ok, Err}
 use Rattle.std.proofs.Common.{append-nil, append_assoc, arith}
 use Rattle.std.proofs.lemmas.List.{length-append, get_or_default}
-use Rattle.std.specs.Prelude.{slice_set, slice_index_or, OnOk}
+use Rattle.std.specs.Prelude.{slice_set, slice_index_or, OnOk, IfSome}
 use Rattle.std.specs.List.{remove, All, AllZip, Contains}
-use Rattle.std.specs.Io.KnownBytes.{Appends, Consumes, Keeps}
-use Rattle.std.proofs.KnownBytes.{Appends-nil, Appends-trans}
-use Rattle.mi_clients.specs.Client.{owed, Owes, IsServed, HasRoom, IsAsked, AsksAll, AsksWithin, AsksWhatCame, IsAsFar, HasSent, IsSent, IsOver}
+use Rattle.std.specs.Io.KnownBytes.{Appends, Consumes, Keeps, IsAtEnd}
+use Rattle.std.proofs.KnownBytes.{Appends-nil, Appends-trans, Consumes-kept, Keeps-refl, Keeps-trans}
+use Rattle.mi_clients.specs.Client.{owed, Owes, IsServed, HasRoom, IsAsked, AsksAll, AsksWithin, AsksWhatCame, IsAsFar, HasSent, IsSent, IsOver, IsWhole, GoesOn, IsWoken}
 use Rattle.mi_clients.specs.Input.{waiting}
 use Rattle.mi_clients.specs.declared.client.TheConstants.{MOST_UNSENT}
 use Rattle.mi_hub.specs.Ended.{ended}
 use Rattle.mi_clients.specs.Lines.{SameLines, Ends}
 use Rattle.mi_clients.specs.Output.{Sends}
 use Rattle.mi_ledger.specs.HeldReplies.{bytes_of}
-use Rattle.mi_clients.specs.Row.{ids, inputs, IsNoneOf, AllDiffer, EachServed, EachAsFar, OpenOnlyAsk, IsNew, Joins, LetsGo, NoneIsOver, Serves}
+use Rattle.mi_clients.specs.Row.{ids, inputs, IsNoneOf, AllDiffer, EachServed, EachAsked, EachUnread, StayersAsked, EachAsFar, OpenOnlyAsk, AllOnlyAsk, StayersOnlyAsk, EachWoken, IsNew, Joins, LetsGo, NoneIsOver, Serves}
 use Rattle.mi_clients.specs.Steps.{Step, comes, asks, undoes, goes, reply_to, given_to, GivesOnly, GivesNone, AreAsks, AreUndos}
-use Rattle.mi_clients.specs.Steps.{line_by, asked_by, OnlyAsks, LeavesOthers}
+use Rattle.mi_clients.specs.Steps.{line_by, asked_by, AsksOnly, AsksNone, OnlyAsks, LeavesOthers}
 use Rattle.mi_clients.specs.declared.client.Client.{Client}
 use Rattle.mi_clients.specs.declared.client.Phase.{Phase}
 use Rattle.mi_clients.specs.declared.client.Phase.TheVariants.{Open, Ended, Asked, Broken}
+use Rattle.mi_clients.proofs.InputLemmas.{unended_back}
 use Rattle.mi_clients.proofs.StepLemmas.{none_more}
 use Rattle.mi_clients.proofs.RowLemmas.{same_test, turned, none_at}
 
@@ -116,6 +117,52 @@ taken_in conn xs ys taken given p q =
     asked_join conn xs ys ∙ ap (λ t. t ++ asked_by conn ys) (asks_taken conn xs taken given p)
     ∙ ap (λ t. taken ++ t) (undos_taken conn conn ys q) ∙ append-nil taken
 
+-- one asks, and its sessions are undone: no other asks
+asks_only_lines : (conn : ℕ) (steps : List Step) (taken given : List ℕ) → AreAsks conn steps taken given → AsksOnly conn steps
+asks_only_lines conn [] taken given p = λ k other. refl
+asks_only_lines conn (comes k ∷ steps) taken given p = absurd p
+asks_only_lines conn (asks j line reply ∷ steps) taken given p = λ k other.
+    ap (λ n. cond (nat_eq n k) line [] ++ asked_by k steps) p.0
+    ∙ ap (λ b. cond b line [] ++ asked_by k steps) other
+    ∙ asks_only_lines conn steps p.1 p.2 p.3 k other
+asks_only_lines conn (undoes k reply ∷ steps) taken given p = absurd p
+asks_only_lines conn (goes k ∷ steps) taken given p = absurd p
+
+pub serve_asks_only : (conn : ℕ) (xs ys : List Step) (taken given : List ℕ) → AreAsks conn xs taken given → AreUndos conn ys → AsksOnly conn (xs ++ ys)
+serve_asks_only conn xs ys taken given p q = λ k other.
+    asked_join k xs ys ∙ ap (λ t. t ++ asked_by k ys) (asks_only_lines conn xs taken given p k other) ∙ undos_taken conn k ys q
+
+-- nobody asks
+pub nothing_asked : AsksNone []
+nothing_asked = λ k. refl
+
+pub quiet_join : (xs ys : List Step) → AsksNone xs → AsksNone ys → AsksNone (xs ++ ys)
+quiet_join xs ys p q = λ k. asked_join k xs ys ∙ ap (λ t. t ++ asked_by k ys) (p k) ∙ q k
+
+pub goes_asks_none : (conn : ℕ) (ys : List Step) → AreUndos conn ys → AsksNone (ys ++ goes conn ∷ [])
+goes_asks_none conn ys q = quiet_join ys (goes conn ∷ []) (λ k. undos_taken conn k ys q) (λ k. refl)
+
+-- none of these connections asks
+abbrev AllQuiet : List Step → List ℕ → Type 0
+AllQuiet steps [] = Unit {0}
+AllQuiet steps (k ∷ ks) = (asked_by k steps ≡ []) × AllQuiet steps ks
+
+quiet_none : (ks : List ℕ) → AllQuiet [] ks
+quiet_none [] = tt
+quiet_none (k ∷ ks) = (refl, quiet_none ks)
+
+quiet_more : (conn : ℕ) (xs ys : List Step) (ks : List ℕ) → AllQuiet xs ks → AsksOnly conn ys → IsNoneOf conn ks → AllQuiet (xs ++ ys) ks
+quiet_more conn xs ys [] p only none = tt
+quiet_more conn xs ys (k ∷ ks) p only none = (
+  asked_join k xs ys ∙ ap (λ t. t ++ asked_by k ys) p.0 ∙ only k (turned k conn none.0),
+  quiet_more conn xs ys ks p.1 only none.1,
+)
+
+-- what holds whether it is asked or not
+whether : (o : Option (List ℕ)) (P : Type 0) → P → IfSome o (λ _. P)
+whether None P p = tt
+whether (Some x) P p = p
+
 -- ---- who only asks in steps
 
 only_then : (k : ℕ) (xs ys : List Step) → OnlyAsks k xs → OnlyAsks k ys → OnlyAsks k (xs ++ ys)
@@ -151,6 +198,23 @@ goes_others conn ys q = λ k other. only_then k ys (goes conn ∷ []) (undos_oth
 pub asks_alone : (conn : ℕ) (xs ys : List Step) (taken given : List ℕ) → AreAsks conn xs taken given → ys ≡ [] → OnlyAsks conn (xs ++ ys)
 asks_alone conn xs ys taken given p none =
     only_then conn xs ys (only_asks conn conn xs taken given p) (subst (OnlyAsks conn) (sym none) tt)
+
+-- the same of several connections
+pub only_none : (ks : List ℕ) → AllOnlyAsk [] ks
+only_none [] = tt
+only_none (k ∷ ks) = (tt, only_none ks)
+
+pub only_others : (conn : ℕ) (steps : List Step) (ks : List ℕ) → LeavesOthers conn steps → IsNoneOf conn ks → AllOnlyAsk steps ks
+only_others conn steps [] others none = tt
+only_others conn steps (k ∷ ks) others none = (others k (turned k conn none.0), only_others conn steps ks others none.1)
+
+pub all_only_then : (xs ys : List Step) (ks : List ℕ) → AllOnlyAsk xs ks → AllOnlyAsk ys ks → AllOnlyAsk (xs ++ ys) ks
+all_only_then xs ys [] p q = tt
+all_only_then xs ys (k ∷ ks) p q = (only_then k xs ys p.0 q.0, all_only_then xs ys ks p.1 q.1)
+
+only_front : (steps : List Step) (ks js : List ℕ) → AllOnlyAsk steps (ks ++ js) → AllOnlyAsk steps ks
+only_front steps [] js p = tt
+only_front steps (k ∷ ks) js p = (p.0, only_front steps ks js p.1)
 
 -- ---- one connection
 
@@ -264,16 +328,24 @@ module _ {S : Type 0} where
   open_before b c d (inl broken) settled is = absurd (broken_open c.phase broken (not_ended c d settled is))
   open_before b c d (inr same) settled is = sym same ∙ not_ended c d settled is
 
+  -- one that goes on then went on before
+  pub went_on : (b c d : Client S) (taken : List ℕ) {X : Type 0} → waiting b.input ≡ taken ++ waiting c.input → IsAsFar b c
+      → (d ≡ c) ⊎ ((d.phase ≡ Asked) × X) → d.input ≡ c.input → GoesOn d → GoesOn b
+  went_on b c d taken waits far settled input (inl is) = inl (open_before b c d far settled is)
+  went_on b c d taken waits far settled input (inr some) =
+      inr (λ none. some (ap (λ i. ended (waiting i)) input ∙ unended_back taken (waiting c.input) (ap ended (sym waits) ∙ none)))
+
   -- and no session of it was undone
-  pub open_alone : (c d : Client S) (ys : List Step) {X : Type 0} → (d ≡ c) ⊎ ((d.phase ≡ Asked) × X) → (¬ (c.phase ≡ Ended) → ys ≡ [])
-      → d.phase ≡ Open → ys ≡ []
-  open_alone c d ys settled none is = none (λ ended. ended_open c.phase ended (not_ended c d settled is))
+  pub on_alone : (c d : Client S) (ys : List Step) {X : Type 0} → (d ≡ c) ⊎ ((d.phase ≡ Asked) × X) → (¬ IsWhole c → ys ≡ [])
+      → d.input ≡ c.input → GoesOn d → ys ≡ []
+  on_alone c d ys settled none input (inl is) = none (λ whole. ended_open c.phase whole.0 (not_ended c d settled is))
+  on_alone c d ys settled none input (inr some) = none (λ whole. some (ap (λ i. ended (waiting i)) input ∙ c.lines whole.1))
 
   -- what was read is asked or waits
   pub came_whole : (remaining : S → Option (List ℕ)) (a b c d : Client S) (xs : List Step) (taken given t piece : List ℕ) {X : Type 0}
       → Consumes (remaining a.stream) (remaining b.stream) piece
       → (b.phase ≡ Broken) ⊎ (SameLines (waiting a.input ++ piece) (waiting b.input)
-      ⊎ ((b.phase ≡ Ended) × (piece ≡ []) × Ends (waiting a.input) (waiting b.input)))
+      ⊎ ((b.phase ≡ Ended) × (piece ≡ []) × IsAtEnd (remaining b.stream) × Ends (waiting a.input) (waiting b.input)))
       → waiting b.input ≡ taken ++ waiting c.input → AsksWithin b xs → AreAsks b.conn xs taken given → IsAsFar b c → Owes given b c → Owes [] c d
       → d.input ≡ c.input → (d ≡ c) ⊎ ((d.phase ≡ Asked) × X) → t ≡ taken → AsksWhatCame remaining t a d
   came_whole remaining a b c d xs taken given t piece read came waits within own far owes more input settled is = (
@@ -285,7 +357,8 @@ module _ {S : Type 0} where
       | inr (inr ends) ↦ inr (inr (
         λ is_open. ended_open b.phase ends.0 (open_before b c d far settled is_open),
         ends.1,
-        subst (Ends (waiting a.input)) waits_all ends.2,
+        whether (remaining a.stream) _ (subst (λ s. IsAtEnd (remaining s)) (sym (more.stream ∙ owes.stream)) ends.2),
+        subst (Ends (waiting a.input)) waits_all ends.3,
       ))
     ],
   )
@@ -456,7 +529,159 @@ module _ {S : Type 0} where
   far_set (o ∷ olds) (y ∷ row) zero d x lt one p = (far_then o y x p.0 one, p.1)
   far_set (o ∷ olds) (y ∷ row) (suc i) d x lt one p = (p.0, far_set olds row i d x (omega arith) one p.1)
 
-  -- ---- those that are open only ask
+  -- ---- what came of each
+
+  -- the first so many of a row were asked what came of them, and the others are as they were
+  abbrev pub AskedTo : (S → Option (List ℕ)) → List Step → ℕ → List (Client S) → List (Client S) → Type 0
+  AskedTo remaining steps zero olds row = (row ≡ olds) × AllQuiet steps (ids olds)
+  AskedTo remaining steps (suc i) [] [] = Unit {0}
+  AskedTo remaining steps (suc i) [] (y ∷ row) = ⊥
+  AskedTo remaining steps (suc i) (o ∷ olds) [] = ⊥
+  AskedTo remaining steps (suc i) (o ∷ olds) (y ∷ row) =
+      (y.conn ≡ o.conn) × AsksWhatCame remaining (asked_by o.conn steps) o y × AskedTo remaining steps i olds row
+
+  pub asked_to_none : (remaining : S → Option (List ℕ)) (row : List (Client S)) → AskedTo remaining [] 0 row row
+  asked_to_none remaining row = (refl, quiet_none (ids row))
+
+  pub asked_to_set : (remaining : S → Option (List ℕ)) (xs ys : List Step) (olds row : List (Client S)) (i : ℕ) (d x : Client S) → AllDiffer (ids row)
+      → i < length row → AsksOnly (slice_index_or row i d).conn ys → x.conn ≡ (slice_index_or row i d).conn
+      → AsksWhatCame remaining (asked_by (slice_index_or row i d).conn ys) (slice_index_or row i d) x → AskedTo remaining xs i olds row
+      → AskedTo remaining (xs ++ ys) (suc i) olds (slice_set row i x)
+  asked_to_set remaining xs ys olds [] i d x differ lt only same came p = absurd (omega arith)
+  asked_to_set remaining xs ys olds (y ∷ row) zero d x differ lt only same came p =
+      let quiet : AllQuiet xs (ids (y ∷ row)) = subst (λ os. AllQuiet xs (ids os)) (sym p.0) p.1 in
+      subst (λ os. AskedTo remaining (xs ++ ys) 1 os (x ∷ row)) p.0 (
+        same,
+        subst (λ t. AsksWhatCame remaining t y x) (sym (asked_join y.conn xs ys ∙ ap (λ t. t ++ asked_by y.conn ys) quiet.0)) came,
+        (refl, quiet_more y.conn xs ys (ids row) quiet.1 only differ.0),
+      )
+  asked_to_set remaining xs ys [] (y ∷ row) (suc i) d x differ lt only same came p = absurd p
+  asked_to_set remaining xs ys (o ∷ olds) (y ∷ row) (suc i) d x differ lt only same came p = (
+    p.0,
+    subst (λ t. AsksWhatCame remaining t o y)
+        (sym (asked_join o.conn xs ys ∙ ap (λ t. asked_by o.conn xs ++ t)
+        (only o.conn (subst (λ k. nat_eq (slice_index_or row i d).conn k ≡ false) p.0 (none_at y.conn row i d (omega arith) differ.0)))
+        ∙ append-nil (asked_by o.conn xs))) p.1,
+    asked_to_set remaining xs ys olds row i d x differ.1 (omega arith) only same came p.2,
+  )
+
+  pub asked_to_all : (remaining : S → Option (List ℕ)) (steps : List Step) (olds row : List (Client S)) (i : ℕ) → AskedTo remaining steps i olds row
+      → length row ≤ i → EachAsked remaining steps olds row
+  asked_to_all remaining steps olds [] zero p le = subst (λ os. EachAsked remaining steps os []) p.0 tt
+  asked_to_all remaining steps olds (y ∷ row) zero p le = absurd (omega arith)
+  asked_to_all remaining steps [] [] (suc i) p le = tt
+  asked_to_all remaining steps [] (y ∷ row) (suc i) p le = absurd p
+  asked_to_all remaining steps (o ∷ olds) [] (suc i) p le = absurd p
+  asked_to_all remaining steps (o ∷ olds) (y ∷ row) (suc i) p le = (p.1, asked_to_all remaining steps olds row i p.2 (omega arith))
+
+  pub unread_none : (remaining : S → Option (List ℕ)) (row : List (Client S)) → EachUnread remaining row row
+  unread_none remaining [] = tt
+  unread_none remaining (y ∷ row) = (Keeps-refl _, unread_none remaining row)
+
+  pub unread_set : (remaining : S → Option (List ℕ)) (olds row : List (Client S)) (i : ℕ) (d x : Client S) → i < length row
+      → Keeps (remaining (slice_index_or row i d).stream) (remaining x.stream) → EachUnread remaining olds row
+      → EachUnread remaining olds (slice_set row i x)
+  unread_set remaining [] [] i d x lt one p = absurd (omega arith)
+  unread_set remaining [] (y ∷ row) i d x lt one p = absurd p
+  unread_set remaining (o ∷ olds) [] i d x lt one p = absurd p
+  unread_set remaining (o ∷ olds) (y ∷ row) zero d x lt one p = (Keeps-trans _ _ _ p.0 one, p.1)
+  unread_set remaining (o ∷ olds) (y ∷ row) (suc i) d x lt one p = (p.0, unread_set remaining olds row i d x (omega arith) one p.1)
+
+  -- one was asked what came of it, and then replies are sent
+  came_sent : (remaining : S → Option (List ℕ)) (taken : List ℕ) (x y z : Client S) → AsksWhatCame remaining taken x y
+      → Keeps (remaining y.stream) (remaining z.stream) → z.input ≡ y.input → IsAsFar y z → AsksWhatCame remaining taken x z
+  came_sent remaining taken x y z p kept same far = (
+    p.0,
+    Consumes-kept (remaining x.stream) (remaining y.stream) (remaining z.stream) p.0 p.1 kept,
+    elim p.2 [
+      | inl broken ↦ inl (still_broken far broken.0, broken.1)
+      | inr (inl lines) ↦ inr (inl (subst (λ i. SameLines (waiting x.input ++ p.0) (taken ++ waiting i)) (sym same) lines))
+      | inr (inr ends) ↦ inr (inr (
+        λ is. ends.0 (was_open far is),
+        ends.1,
+        end_kept (remaining x.stream) (remaining y.stream) (remaining z.stream) p.0 p.1 kept ends.2,
+        subst (λ i. Ends (waiting x.input) (taken ++ waiting i)) (sym same) ends.3,
+      ))
+    ],
+  )
+    where
+      still_broken : IsAsFar y z → y.phase ≡ Broken → z.phase ≡ Broken
+      still_broken (inl broken) is = broken
+      still_broken (inr also) is = also ∙ is
+
+      was_open : IsAsFar y z → z.phase ≡ Open → y.phase ≡ Open
+      was_open (inl broken) is = absurd (broken_open z.phase broken is)
+      was_open (inr also) is = sym also ∙ is
+
+      end_kept : (a b c : Option (List ℕ)) (piece : List ℕ) → Consumes a b piece → Keeps b c → IfSome a (λ _. IsAtEnd b) → IfSome a (λ _. IsAtEnd c)
+      end_kept None b c piece p q e = tt
+      end_kept (Some v) None c piece p q e = absurd p
+      end_kept (Some v) (Some w) None piece p q e = absurd q
+      end_kept (Some v) (Some w) (Some u) piece p q e = q ∙ e
+
+  -- the same of a row, of which others go
+  each_came_sent : (contents remaining : S → Option (List ℕ)) (steps : List Step) (a b d : List (Client S)) → EachAsked remaining steps a b
+      → EachServed contents [] b d → EachServed contents steps a b → EachUnread remaining b d → inputs d ≡ inputs b → EachAsFar b d
+      → AllZip (λ old new. (new.conn ≡ old.conn) × AsksWhatCame remaining (asked_by old.conn steps) old new) a d
+  each_came_sent contents remaining steps [] [] [] p sent served kept same far = tt
+  each_came_sent contents remaining steps [] [] (z ∷ d) p sent served kept same far = absurd sent
+  each_came_sent contents remaining steps [] (y ∷ b) d p sent served kept same far = absurd p
+  each_came_sent contents remaining steps (x ∷ a) [] d p sent served kept same far = absurd p
+  each_came_sent contents remaining steps (x ∷ a) (y ∷ b) [] p sent served kept same far = absurd sent
+  each_came_sent contents remaining steps (x ∷ a) (y ∷ b) (z ∷ d) p sent served kept same far = (
+    (sent.0.conn ∙ served.0.conn, came_sent remaining (asked_by x.conn steps) x y z p.0 kept.0 (cc) far.0),
+    each_came_sent contents remaining steps a b d p.1 sent.1 served.1 kept.1 (cc) far.1,
+  )
+
+  pub stayers_asked : (contents remaining : S → Option (List ℕ)) (xs ys : List Step) (a b d e : List (Client S)) → EachAsked remaining xs a b
+      → EachServed contents [] b d → EachServed contents xs a b → EachUnread remaining b d → inputs d ≡ inputs b → EachAsFar b d → LetsGo d e
+      → AsksNone ys → StayersAsked remaining (xs ++ ys) a e
+  stayers_asked contents remaining xs ys a b d e came sent served kept same far left quiet = λ new h.
+      let all = each_came_sent contents remaining xs a b d came sent served kept same far in
+      let r = zip_from (λ old new. (new.conn ≡ old.conn) × AsksWhatCame remaining (asked_by old.conn xs) old new) a d new all (in_from d new (left.from new h)) in (
+        r.0,
+        in_to a r.0 r.1,
+        r.2.0,
+        subst (λ t. AsksWhatCame remaining t r.0 new)
+            (sym (asked_join r.0.conn xs ys ∙ ap (λ t. asked_by r.0.conn xs ++ t) (quiet r.0.conn) ∙ append-nil (asked_by r.0.conn xs))) r.2.1,
+      )
+
+  -- ---- those that were told
+
+  pub woken_same : (c : Client S) → IsWoken c c
+  woken_same c = record { conn = refl; stream = refl; input = refl; held = refl; output = refl; phase = refl; has_lines = refl }
+
+  woken_then : (a b c : Client S) → IsWoken a b → IsWoken b c → IsWoken a c
+  woken_then a b c p q = record {
+    conn = q.conn ∙ p.conn;
+    stream = q.stream ∙ p.stream;
+    input = q.input ∙ p.input;
+    held = q.held ∙ p.held;
+    output = q.output ∙ p.output;
+    phase = q.phase ∙ p.phase;
+    has_lines = q.has_lines ∙ p.has_lines;
+  }
+
+  pub each_woken_none : (row : List (Client S)) → EachWoken row row
+  each_woken_none [] = tt
+  each_woken_none (y ∷ row) = (woken_same y, each_woken_none row)
+
+  pub each_woken_set : (olds row : List (Client S)) (i : ℕ) (d x : Client S) → i < length row → IsWoken (slice_index_or row i d) x → EachWoken olds row
+      → EachWoken olds (slice_set row i x)
+  each_woken_set [] [] i d x lt one p = absurd (omega arith)
+  each_woken_set [] (y ∷ row) i d x lt one p = absurd p
+  each_woken_set (o ∷ olds) [] i d x lt one p = absurd p
+  each_woken_set (o ∷ olds) (y ∷ row) zero d x lt one p = (woken_then o y x p.0 one, p.1)
+  each_woken_set (o ∷ olds) (y ∷ row) (suc i) d x lt one p = (p.0, each_woken_set olds row i d x (omega arith) one p.1)
+
+  pub each_woken_then : (a b c : List (Client S)) → EachWoken a b → EachWoken b c → EachWoken a c
+  each_woken_then [] [] c p q = q
+  each_woken_then [] (y ∷ b) c p q = absurd p
+  each_woken_then (x ∷ a) [] c p q = absurd p
+  each_woken_then (x ∷ a) (y ∷ b) [] p q = absurd q
+  each_woken_then (x ∷ a) (y ∷ b) (z ∷ c) p q = (woken_then x y z p.0 q.0, each_woken_then a b c p.1 q.1)
+
+  -- ---- those that go on only ask
 
   pub opens_none : (row : List (Client S)) → OpenOnlyAsk [] row
   opens_none [] = tt
@@ -474,7 +699,7 @@ module _ {S : Type 0} where
   -- one is served
   pub opens_set : (xs ys : List Step) (row : List (Client S)) (i : ℕ) (d x : Client S) → AllDiffer (ids row) → i < length row
       → LeavesOthers (slice_index_or row i d).conn ys → x.conn ≡ (slice_index_or row i d).conn
-      → (x.phase ≡ Open → (slice_index_or row i d).phase ≡ Open) → (x.phase ≡ Open → OnlyAsks (slice_index_or row i d).conn ys)
+      → (GoesOn x → GoesOn (slice_index_or row i d)) → (GoesOn x → OnlyAsks (slice_index_or row i d).conn ys)
       → OpenOnlyAsk xs row → OpenOnlyAsk (xs ++ ys) (slice_set row i x)
   opens_set xs ys [] i d x differ lt others same before own p = absurd (omega arith)
   opens_set xs ys (y ∷ row) zero d x differ lt others same before own p = (
@@ -496,35 +721,45 @@ module _ {S : Type 0} where
     opens_less xs ys row i d differ.1 (omega arith) others p.1,
   )
 
-  opens_at : (steps : List Step) (row : List (Client S)) (c : Client S) → OpenOnlyAsk steps row → IsIn c row → c.phase ≡ Open → OnlyAsks c.conn steps
+  opens_at : (steps : List Step) (row : List (Client S)) (c : Client S) → OpenOnlyAsk steps row → IsIn c row → GoesOn c → OnlyAsks c.conn steps
   opens_at steps [] c p h = absurd h
-  opens_at steps (y ∷ row) c p (inl is) = subst (λ (x : Client S). x.phase ≡ Open → OnlyAsks x.conn steps) is p.0
+  opens_at steps (y ∷ row) c p (inl is) = subst (λ (x : Client S). GoesOn x → OnlyAsks x.conn steps) is p.0
   opens_at steps (y ∷ row) c p (inr h) = opens_at steps row c p.1 h
 
-  opens_from : (steps : List Step) (row : List (Client S)) → ((c : Client S) → IsIn c row → c.phase ≡ Open → OnlyAsks c.conn steps) → OpenOnlyAsk steps row
+  opens_from : (steps : List Step) (row : List (Client S)) → ((c : Client S) → IsIn c row → GoesOn c → OnlyAsks c.conn steps) → OpenOnlyAsk steps row
   opens_from steps [] f = tt
   opens_from steps (y ∷ row) f = (f y (inl refl), opens_from steps row (λ c h. f c (inr h)))
 
   -- replies are sent
   opens_sent : (contents : S → Option (List ℕ)) (xs : List Step) (b d : List (Client S)) → EachServed contents [] b d → EachAsFar b d
-      → OpenOnlyAsk xs b → OpenOnlyAsk xs d
-  opens_sent contents xs [] [] sent far p = tt
-  opens_sent contents xs [] (z ∷ d) sent far p = absurd sent
-  opens_sent contents xs (y ∷ b) [] sent far p = absurd sent
-  opens_sent contents xs (y ∷ b) (z ∷ d) sent far p = (
-    λ is. subst (λ k. OnlyAsks k xs) (sym sent.0.conn) (p.0 (was_open far.0 is)),
-    opens_sent contents xs b d sent.1 far.1 p.1,
+      → inputs d ≡ inputs b → OpenOnlyAsk xs b → OpenOnlyAsk xs d
+  opens_sent contents xs [] [] sent far same p = tt
+  opens_sent contents xs [] (z ∷ d) sent far same p = absurd sent
+  opens_sent contents xs (y ∷ b) [] sent far same p = absurd sent
+  opens_sent contents xs (y ∷ b) (z ∷ d) sent far same p = (
+    λ on. subst (λ k. OnlyAsks k xs) (sym sent.0.conn) (p.0 (was_on far.0 (cc) on)),
+    opens_sent contents xs b d sent.1 far.1 (cc) p.1,
   )
     where
       was_open : IsAsFar y z → z.phase ≡ Open → y.phase ≡ Open
       was_open (inl broken) is = absurd (broken_open z.phase broken is)
       was_open (inr same) is = sym same ∙ is
 
-  -- those that are open have asked, replies were sent, and others have gone
+      was_on : IsAsFar y z → z.input ≡ y.input → GoesOn z → GoesOn y
+      was_on far same (inl is) = inl (was_open far is)
+      was_on far same (inr some) = inr (λ none. some (ap (λ i. ended (waiting i)) same ∙ none))
+
+  -- those that go on have asked, replies were sent, and others have gone
   pub opens_all : (contents : S → Option (List ℕ)) (xs ys : List Step) (b d e : List (Client S)) → EachServed contents [] b d → EachAsFar b d
-      → OpenOnlyAsk xs b → LetsGo d e → OpenOnlyAsk ys e → OpenOnlyAsk (xs ++ ys) e
-  opens_all contents xs ys b d e sent far p left q = opens_from (xs ++ ys) e (λ c h is.
-      only_then c.conn xs ys (opens_at xs d c (opens_sent contents xs b d sent far p) (in_from d c (left.from c (in_to e c h))) is) (opens_at ys e c q h is))
+      → inputs d ≡ inputs b → OpenOnlyAsk xs b → LetsGo d e → OpenOnlyAsk ys e → OpenOnlyAsk (xs ++ ys) e
+  opens_all contents xs ys b d e sent far same p left q = opens_from (xs ++ ys) e (λ c h on.
+      only_then c.conn xs ys (opens_at xs d c (opens_sent contents xs b d sent far same p) (in_from d c (left.from c (in_to e c h))) on) (opens_at ys e c q h on))
+
+  -- one that stands in a row of which each only asks
+  only_at : (steps : List Step) (row : List (Client S)) (c : Client S) → AllOnlyAsk steps (ids row) → IsIn c row → OnlyAsks c.conn steps
+  only_at steps [] c p h = absurd h
+  only_at steps (y ∷ row) c p (inl is) = subst (λ (x : Client S). OnlyAsks x.conn steps) is p.0
+  only_at steps (y ∷ row) c p (inr h) = only_at steps row c p.1 h
 
   -- ---- those that stay in the row
 
@@ -641,7 +876,16 @@ module _ {S : Type 0} where
   ids_join (x ∷ a) b = ap (λ ks. x.conn ∷ ks) (ids_join a b)
 
   new_before : (c : Client S) (a b comers : List (Client S)) → b ≡ a ++ comers → IsNew c b → IsNew c a
-  new_before c a b comers is p = (p.0, none_front c.conn (ids a) (ids comers) (subst (IsNoneOf c.conn) (ap ids is ∙ ids_join a comers) p.1))
+  new_before c a b comers is p = (p.0, p.1, p.2, none_front c.conn (ids a) (ids comers) (subst (IsNoneOf c.conn) (ap ids is ∙ ids_join a comers) p.3))
+
+  -- those that were there before the others came
+  pub only_before : (steps : List Step) (a b : List (Client S)) → Joins a b → AllOnlyAsk steps (ids b) → AllOnlyAsk steps (ids a)
+  only_before steps a b joins p = only_front steps (ids a) (ids joins.0) (subst (AllOnlyAsk steps) (ap ids joins.1 ∙ ids_join a joins.0) p)
+
+  -- some come, and then those that are there are served
+  pub stayers_ask : (xs ys : List Step) (a c : List (Client S)) → AllOnlyAsk xs (ids a) → OpenOnlyAsk ys c → StayersOnlyAsk (xs ++ ys) a c
+  stayers_ask xs ys a c p q = λ old new here there same on.
+      only_then new.conn xs ys (subst (λ k. OnlyAsks k xs) (sym same) (only_at xs a old p (in_from a old here))) (opens_at ys c new q (in_from c new there) on)
 
   nobody : (c : Client S) → Contains [] c → ⊥
   nobody c h = in_from [] c h

@@ -14,7 +14,8 @@ use Rattle.mi_replay.specs.RunActs.{ActsOfDone}
 use Rattle.mi_replay.proofs.JoinLemmas.{journals_join}
 use Rattle.mi_ledger.specs.Journals.{Journals, Asks, IsWholeLine}
 use Rattle.mi_ledger.proofs.JournalLemmas.{asked_attached}
-use Rattle.mi_clients.specs.Steps.{Step, comes, asks, undoes, goes, undo_bytes, event_of, written_in, DoneBy, Makes, AreAsks, AreUndos}
+use Rattle.mi_ledger.specs.Belongs.{holder_conn}
+use Rattle.mi_clients.specs.Steps.{Step, comes, asks, undoes, goes, undo_bytes, event_of, written_in, UndoesOwn, DoneBy, Makes, AreAsks, AreUndos}
 
 -- ---- nothing
 
@@ -53,6 +54,7 @@ done_then (x ∷ xs) ys does more old mid new p q = (
   p.4,
   done_then xs ys p.2 more p.0 mid new p.5 q,
   ap (λ zs. zs ++ more) p.6 ∙ append_assoc p.1 p.2 more,
+  p.7,
 )
 
 journals_then : (old mid new : HeldDatabase) (a b c : Option (List ℕ)) (does more : List Act) → Journals old mid a b does → Journals mid new b c more
@@ -79,15 +81,15 @@ makes_then xs ys old mid new a b c p q = record {
 -- ---- one step
 
 one_step : (step : Step) (old new : HubState) (acts : List Act) → Done old (event_of step) (written_in step) new
-    → ActsOfDone old (event_of step) (written_in step) acts → DoneBy old (step ∷ []) acts new
-one_step step old new acts done are = (new, acts, [], done, are, (refl, refl), sym (append-nil acts))
+    → ActsOfDone old (event_of step) (written_in step) acts → UndoesOwn old step → DoneBy old (step ∷ []) acts new
+one_step step old new acts done are own = (new, acts, [], done, are, (refl, refl), sym (append-nil acts), own)
 
-pub undo_makes : (conn : ℕ) (line out : List ℕ) (old new : HubState) (a b : Option (List ℕ)) → line ≡ undo_bytes → Asks conn line old new a b out
-    → Makes (undoes conn out ∷ []) old new a b
-undo_makes conn line out old new a b is p = record {
+pub undo_makes : (conn : ℕ) (line out : List ℕ) (old new : HubState) (a b : Option (List ℕ)) → line ≡ undo_bytes
+    → holder_conn old.held.holder ≡ Some conn → Asks conn line old new a b out → Makes (undoes conn out ∷ []) old new a b
+undo_makes conn line out old new a b is holds p = record {
   acts = p.acts;
   done = one_step (undoes conn out) old new p.acts (subst (λ l. Done old (piece conn l) out new) is p.done)
-      (subst (λ l. ActsOfDone old (piece conn l) out p.acts) is p.are);
+      (subst (λ l. ActsOfDone old (piece conn l) out p.acts) is p.are) holds;
   journal = p.journal;
 }
 
@@ -95,7 +97,7 @@ pub leaves_makes : (conn : ℕ) (old new : HubState) (a b : Option (List ℕ)) �
     → Journals old.held new.held a b (leaves conn ∷ []) → Makes (goes conn ∷ []) old new a b
 leaves_makes conn old new a b done journal = record {
   acts = leaves conn ∷ [];
-  done = one_step (goes conn) old new (leaves conn ∷ []) done (record { replies = []; are = refl; each = refl; written = refl });
+  done = one_step (goes conn) old new (leaves conn ∷ []) done (record { replies = []; are = refl; each = refl; written = refl }) tt;
   journal = journal;
 }
 
@@ -103,7 +105,7 @@ pub comes_makes : (conn : ℕ) (old new : HubState) (a b : Option (List ℕ)) �
     → Makes (comes conn ∷ []) old new a b
 comes_makes conn old new a b done kept = record {
   acts = [];
-  done = one_step (comes conn) old new [] done (record { replies = []; are = refl; each = refl; written = refl });
+  done = one_step (comes conn) old new [] done (record { replies = []; are = refl; each = refl; written = refl }) tt;
   journal = subst (λ h. Journals old.held h a b []) (sym (ap (λ (s : HubState). s.held) done.3)) (journal_none old.held a b kept);
 }
 

@@ -1,6 +1,6 @@
 -- What a connection is to be sent, and what becomes of that while some steps are made.
-use Rattle.std.specs.Prelude.{◌≡◌, ◌⊎◌, ◌≤◌, ◌<◌, ℕ, List, [], ◌∷◌, ◌++◌, length, IsTrue, IsFalse, Option}
-use Rattle.std.specs.Io.KnownBytes.{Appends, Consumes}
+use Rattle.std.specs.Prelude.{◌≡◌, ◌⊎◌, ◌≤◌, ◌<◌, ℕ, List, [], ◌∷◌, ◌++◌, length, IsTrue, IsFalse, Option, IfSome}
+use Rattle.std.specs.Io.KnownBytes.{Appends, Consumes, IsAtEnd}
 use Rattle.mi_ledger.specs.HeldReplies.{bytes_of}
 use Rattle.mi_clients.specs.Output.{unsent, HoldsNothing}
 use Rattle.mi_clients.specs.Input.{waiting}
@@ -8,7 +8,7 @@ use Rattle.mi_clients.specs.Lines.{SameLines, Ends}
 use Rattle.mi_clients.specs.Steps.{Step, asks, given_to}
 use Rattle.mi_hub.specs.Ended.{ended}
 use Rattle.mi_clients.specs.declared.client.Client.{Client}
-use Rattle.mi_clients.specs.declared.client.Phase.TheVariants.{Open, Asked, Broken}
+use Rattle.mi_clients.specs.declared.client.Phase.TheVariants.{Open, Ended, Asked, Broken}
 use Rattle.mi_clients.specs.declared.client.TheConstants.{MOST_UNSENT}
 
 -- the replies that its stream hasn't taken: those that were handed out, and then those that are held
@@ -48,9 +48,17 @@ HasRoom c = length (owed c) ≤ MOST_UNSENT
 abbrev pub MayAsk : {S : Type 0} → Client S → Type 0
 MayAsk c = ¬ (c.phase ≡ Broken) × IsTrue c.has_lines × HasRoom c
 
+-- its bytes have ended, and no line of it may wait to be asked
+abbrev pub IsWhole : {S : Type 0} → Client S → Type 0
+IsWhole c = (c.phase ≡ Ended) × IsFalse c.has_lines
+
 -- no whole line of it waits to be asked
 abbrev pub HasNoLine : {S : Type 0} → Client S → Type 0
 HasNoLine c = ended (waiting c.input) ≡ []
+
+-- it goes on: more may come of it, or a whole line of it waits
+abbrev pub GoesOn : {S : Type 0} → Client S → Type 0
+GoesOn c = (c.phase ≡ Open) ⊎ ¬ HasNoLine c
 
 -- no more of its lines can be asked now: its stream has failed, or no whole line waits, or its replies have no room
 abbrev pub IsAsked : {S : Type 0} → Client S → Type 0
@@ -82,7 +90,8 @@ abbrev pub AsksWhatCame : {S : Type 0} → (S → Option (List ℕ)) → List �
 AsksWhatCame remaining taken old new =
     (piece : List ℕ) × Consumes (remaining old.stream) (remaining new.stream) piece
     × (((new.phase ≡ Broken) × (taken ≡ [])) ⊎ (SameLines (waiting old.input ++ piece) (taken ++ waiting new.input)
-    ⊎ (¬ (new.phase ≡ Open) × (piece ≡ []) × Ends (waiting old.input) (taken ++ waiting new.input))))
+    ⊎ (¬ (new.phase ≡ Open) × (piece ≡ []) × IfSome (remaining old.stream) (λ _. IsAtEnd (remaining new.stream))
+    × Ends (waiting old.input) (taken ++ waiting new.input))))
 
 -- it is as far as it was, or it is broken
 abbrev pub IsAsFar : {S : Type 0} → Client S → Client S → Type 0
@@ -95,3 +104,13 @@ HasSent c = (c.phase ≡ Broken) ⊎ (IsFalse c.may_write ⊎ HoldsNothing c.out
 -- the same, and no reply of it is held
 abbrev pub IsSent : {S : Type 0} → Client S → Type 0
 IsSent c = (c.phase ≡ Broken) ⊎ ((bytes_of c.held ≡ []) × (IsFalse c.may_write ⊎ HoldsNothing c.output))
+
+-- its readiness was told, and nothing else of it is another
+pub record IsWoken {S : Type 0} (old new : Client S) : Type 0 where
+  pub conn : new.conn ≡ old.conn
+  pub stream : new.stream ≡ old.stream
+  pub input : new.input ≡ old.input
+  pub held : new.held ≡ old.held
+  pub output : new.output ≡ old.output
+  pub phase : new.phase ≡ old.phase
+  pub has_lines : new.has_lines ≡ old.has_lines

@@ -1,9 +1,11 @@
 -- The connections of a service in a row are those that its hub has attached, in this order, and none has a rest there.
 use Rattle.std.specs.Prelude.{◌≡◌, ◌⊎◌, ℕ, List, [], ◌∷◌, ◌++◌, map, false, ◌==◌, Some, Option}
 use Rattle.std.specs.List.{All, AllZip, Contains}
+use Rattle.std.specs.Io.KnownBytes.{Keeps}
 use Rattle.mi_hub.specs.declared.connection.Connection.{Connection}
-use Rattle.mi_clients.specs.Client.{owed, IsServed, IsOver, IsAsFar, AsksAll}
-use Rattle.mi_clients.specs.Steps.{Step, given_to, OnlyAsks}
+use Rattle.mi_clients.specs.Client.{owed, IsServed, IsOver, IsAsFar, AsksAll, AsksWhatCame, GoesOn, IsWoken}
+use Rattle.mi_clients.specs.Input.{waiting}
+use Rattle.mi_clients.specs.Steps.{Step, given_to, asked_by, OnlyAsks}
 use Rattle.mi_clients.specs.declared.client.Client.{Client}
 use Rattle.mi_clients.specs.declared.client.Phase.TheVariants.{Open}
 use Rattle.mi_clients.specs.declared.input.Input.{Input}
@@ -39,9 +41,17 @@ pub record Attends (row : List ℕ) (attached : List Connection) : Type 0 where
 abbrev pub EachServed : {S : Type 0} → (S → Option (List ℕ)) → List Step → List (Client S) → List (Client S) → Type 0
 EachServed contents steps olds news = AllZip (λ old new. IsServed contents (given_to old.conn steps) old new) olds news
 
--- it has just come: it is owed nothing, and its number is none of the row's
+-- Each connection of a row was asked in these steps what came of it, or that waits.
+abbrev pub EachAsked : {S : Type 0} → (S → Option (List ℕ)) → List Step → List (Client S) → List (Client S) → Type 0
+EachAsked remaining steps olds news = AllZip (λ old new. AsksWhatCame remaining (asked_by old.conn steps) old new) olds news
+
+-- nothing is read of any stream of a row
+abbrev pub EachUnread : {S : Type 0} → (S → Option (List ℕ)) → List (Client S) → List (Client S) → Type 0
+EachUnread remaining olds news = AllZip (λ old new. Keeps (remaining old.stream) (remaining new.stream)) olds news
+
+-- it has just come: more may come of it, nothing of it waits, it is owed nothing, and its number is none of the row's
 abbrev pub IsNew : {S : Type 0} → Client S → List (Client S) → Type 0
-IsNew c row = (owed c ≡ []) × IsNoneOf c.conn (ids row)
+IsNew c row = (c.phase ≡ Open) × (waiting c.input ≡ []) × (owed c ≡ []) × IsNoneOf c.conn (ids row)
 
 -- some connections have come, and stand behind the others, which are as they were
 abbrev pub Joins : {S : Type 0} → List (Client S) → List (Client S) → Type 0
@@ -51,6 +61,11 @@ Joins {S} olds news = (comers : List (Client S)) × (news ≡ olds ++ comers) ×
 pub record LetsGo {S : Type 0} (olds news : List (Client S)) : Type 0 where
   pub from : (c : Client S) → Contains news c → Contains olds c
   pub to : (c : Client S) → Contains olds c → Contains news c ⊎ IsOver c
+
+-- Each connection that is in a row was in it before, and was asked in these steps what came of it, or that waits.
+abbrev pub StayersAsked : {S : Type 0} → (S → Option (List ℕ)) → List Step → List (Client S) → List (Client S) → Type 0
+StayersAsked {S} remaining steps olds news = (new : Client S) → Contains news new
+    → (old : Client S) × Contains olds old × (new.conn ≡ old.conn) × AsksWhatCame remaining (asked_by old.conn steps) old new
 
 -- none of a row is over
 abbrev pub NoneIsOver : {S : Type 0} → List (Client S) → Type 0
@@ -70,7 +85,21 @@ pub record Serves {S : Type 0} (contents : S → Option (List ℕ)) (steps : Lis
 abbrev pub EachAsFar : {S : Type 0} → List (Client S) → List (Client S) → Type 0
 EachAsFar olds news = AllZip (λ old new. IsAsFar old new) olds news
 
--- Of a row those that are open have neither come nor gone in these steps, and no session of theirs was undone.
+-- Of a row those that go on have neither come nor gone in these steps, and no session of theirs was undone.
 abbrev pub OpenOnlyAsk : {S : Type 0} → List Step → List (Client S) → Type 0
 OpenOnlyAsk steps [] = Unit {0}
-OpenOnlyAsk steps (c ∷ row) = (c.phase ≡ Open → OnlyAsks c.conn steps) × OpenOnlyAsk steps row
+OpenOnlyAsk steps (c ∷ row) = (GoesOn c → OnlyAsks c.conn steps) × OpenOnlyAsk steps row
+
+-- each of these connections has neither come nor gone in these steps, and no session of it was undone
+abbrev pub AllOnlyAsk : List Step → List ℕ → Type 0
+AllOnlyAsk steps [] = Unit {0}
+AllOnlyAsk steps (k ∷ ks) = OnlyAsks k steps × AllOnlyAsk steps ks
+
+-- so is each that was in a row before, is there still, and goes on
+abbrev pub StayersOnlyAsk : {S : Type 0} → List Step → List (Client S) → List (Client S) → Type 0
+StayersOnlyAsk {S} steps olds news =
+    (old new : Client S) → Contains olds old → Contains news new → new.conn ≡ old.conn → GoesOn new → OnlyAsks new.conn steps
+
+-- the readiness of some of a row was told, and nothing else of it is another
+abbrev pub EachWoken : {S : Type 0} → List (Client S) → List (Client S) → Type 0
+EachWoken olds news = AllZip (λ old new. IsWoken old new) olds news

@@ -6,6 +6,7 @@ use Rattle.mi_hub.specs.Run.{HubState, Event, attach, piece, cut, Done}
 use Rattle.mi_replay.specs.Acts.{Act}
 use Rattle.mi_replay.specs.RunActs.{ActsOfDone}
 use Rattle.mi_ledger.specs.Journals.{Journals}
+use Rattle.mi_ledger.specs.Belongs.{holder_conn}
 
 -- A connection comes; it asks a line and this is the reply; a session is undone that it leaves behind, and nobody hears the reply; it goes
 -- away.
@@ -33,12 +34,20 @@ written_in (asks conn line reply) = reply
 written_in (undoes conn reply) = reply
 written_in (goes conn) = []
 
--- From old, these steps are made one after another, each of them an event that is done; these are their acts, and new is left.
+-- a session that is undone in a step is the connection's own: it is the holder
+abbrev pub UndoesOwn : HubState → Step → Type 0
+UndoesOwn old (comes conn) = Unit {0}
+UndoesOwn old (asks conn line reply) = Unit {0}
+UndoesOwn old (undoes conn reply) = holder_conn old.held.holder ≡ Some conn
+UndoesOwn old (goes conn) = Unit {0}
+
+-- From old, these steps are made one after another, each of them an event that is done; these are their acts, and new is left. No session is
+-- undone but of the connection that holds it.
 abbrev pub DoneBy : HubState → List Step → List Act → HubState → Type 0
 DoneBy old [] acts new = (acts ≡ []) × (new ≡ old)
 DoneBy old (step ∷ steps) acts new =
     (mid : HubState) × (first : List Act) × (later : List Act) × Done old (event_of step) (written_in step) mid
-    × ActsOfDone old (event_of step) (written_in step) first × DoneBy mid steps later new × (acts ≡ first ++ later)
+    × ActsOfDone old (event_of step) (written_in step) first × DoneBy mid steps later new × (acts ≡ first ++ later) × UndoesOwn old step
 
 -- From old, these steps are made, and new is left; what was appended to the journal meanwhile are whole lines, which are a journal of their acts.
 pub record Makes (steps : List Step) (old new : HubState) (before after : Option (List ℕ)) : Type 0 where
@@ -94,6 +103,14 @@ line_by k (goes conn) = []
 abbrev pub asked_by : ℕ → List Step → List ℕ
 asked_by k [] = []
 asked_by k (step ∷ steps) = line_by k step ++ asked_by k steps
+
+-- in these steps no other connection than this one asks a line
+abbrev pub AsksOnly : ℕ → List Step → Type 0
+AsksOnly conn steps = (k : ℕ) → (conn == k) ≡ false → asked_by k steps ≡ []
+
+-- in these steps no connection asks a line
+abbrev pub AsksNone : List Step → Type 0
+AsksNone steps = (k : ℕ) → asked_by k steps ≡ []
 
 -- in these steps a connection doesn't come, no session of it is undone, and it doesn't go
 abbrev pub OnlyAsks : ℕ → List Step → Type 0

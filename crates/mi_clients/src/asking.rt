@@ -5,11 +5,11 @@ ghost use Rattle.mi_commands.specs.Holder.{held_by, released};
 ghost use Rattle.mi_hub.specs.Connections.{rest_at, others};
 ghost use Rattle.mi_ledger.specs.Belongs.{holder_conn};
 ghost use Rattle.mi_ledger.specs.Ledger.{hub_of, log_of, IsSettled};
-ghost use Rattle.mi_clients.specs.Steps.{Step, asks, Makes, GivesNone, AreAsks, AreUndos, LeavesOthers, HoldsSome};
+ghost use Rattle.mi_clients.specs.Steps.{Step, asks, Makes, GivesNone, AsksNone, AreAsks, AreUndos, LeavesOthers, HoldsSome};
 ghost use Rattle.mi_clients.specs.Input.{waiting};
 ghost use Rattle.mi_ledger.specs.HeldReplies.{bytes_of};
 ghost use Rattle.mi_clients.specs.Output.{unsent};
-ghost use Rattle.mi_clients.specs.Client.{owed, Owes, IsAsked, IsAsFar, AsksWithin};
+ghost use Rattle.mi_clients.specs.Client.{owed, Owes, IsWhole, IsAsked, IsAsFar, AsksWithin};
 ghost use Rattle.mi_hub.specs.Ended.{ended};
 ghost use Rattle.mi_clients.specs.declared.client.Phase.TheVariants as phases;
 
@@ -188,11 +188,11 @@ pub fn settle<D: Sessions + Drop, L: Log + Drop, S>(
     requires here { rest_at client.old.conn (hub_of ledger.old).attached ≡ Some (Some []) }
     ensures undoes { OnOk result ((steps : List Step) × AreUndos client.old.conn steps × Owes [] client.old client.new
         × Makes steps (hub_of ledger.old) (hub_of ledger.new) (L.appended (log_of ledger.old)) (L.appended (log_of ledger.new))
-        × (¬ (client.old.phase ≡ phases.Ended) → steps ≡ [])) }
-    ensures still { (client.old.phase ≡ phases.Ended) ⊎ (ledger.new ≡ ledger.old) }
+        × (¬ IsWhole client.old → steps ≡ [])) }
+    ensures still { IsWhole client.old ⊎ (ledger.new ≡ ledger.old) }
     ensures none { OnOk result ((client.new ≡ client.old)
-        ⊎ ((client.new.phase ≡ phases.Asked) × ((client.old.phase ≡ phases.Ended) × (held_by client.new.conn (hub_of ledger.new).held.holder ≡ 0)))) }
-    ensures left { OnOk result (client.old.phase ≡ phases.Ended → IsFalse client.old.has_lines → HoldsSome (hub_of ledger.old).held.holder
+        ⊎ ((client.new.phase ≡ phases.Asked) × (IsWhole client.old × (held_by client.new.conn (hub_of ledger.new).held.holder ≡ 0)))) }
+    ensures left { OnOk result (IsWhole client.old → HoldsSome (hub_of ledger.old).held.holder
         → (client.new.phase ≡ phases.Asked) × ((hub_of ledger.new).held ≡ released client.old.conn (hub_of ledger.old).held)) }
     ensures input { OnOk result (client.new.input ≡ client.old.input) }
     ensures attached { OnOk result ((hub_of ledger.new).attached ≡ (hub_of ledger.old).attached) }
@@ -215,7 +215,7 @@ pub fn part<D: Sessions + Drop, L: Log + Drop>(
     requires here { rest_at conn (hub_of ledger.old).attached ≡ Some (Some []) }
     ensures goes { OnOk result ((steps : List Step) × GivesNone steps
         × Makes steps (hub_of ledger.old) (hub_of ledger.new) (L.appended (log_of ledger.old)) (L.appended (log_of ledger.new))
-        × LeavesOthers conn steps) }
+        × LeavesOthers conn steps × AsksNone steps) }
     ensures left { OnOk result (HoldsSome (hub_of ledger.old).held.holder → (hub_of ledger.new).held ≡ released conn (hub_of ledger.old).held) }
     ensures still { OnOk result (¬ (holder_conn (hub_of ledger.old).held.holder ≡ Some conn) → (hub_of ledger.new).held ≡ (hub_of ledger.old).held) }
     ensures attached { OnOk result ((hub_of ledger.new).attached ≡ others conn (hub_of ledger.old).attached) }

@@ -1,5 +1,5 @@
 //! A connection: its stream, what came of it and wasn't asked yet, and what it is to be sent. It asks nobody.
-ghost use Rattle.std.specs.Prelude.{◌≡◌, ◌⊎◌, ◌↔◌, ◌++◌, ◌||◌, ℕ, List, [], true, IsTrue, IsFalse};
+ghost use Rattle.std.specs.Prelude.{◌≡◌, ◌<◌, ◌⊎◌, ◌↔◌, ◌++◌, ◌||◌, ℕ, List, [], length, true, IsTrue, IsFalse};
 ghost use Rattle.mi_hub.specs.Ended.{ended};
 ghost use Rattle.mi_clients.specs.Input.{waiting};
 ghost use Rattle.mi_clients.specs.declared.client.Phase.TheVariants as phases;
@@ -60,7 +60,7 @@ pub struct Client<S> {
 }
 
 impl<S> Client<S> {
-    ghost use Rattle.mi_clients.specs.Client.{owed, IsOver, HasRoom, MayAsk, IsAsked, WantsBytes, IsBusy};
+    ghost use Rattle.mi_clients.specs.Client.{owed, IsOver, HasRoom, MayAsk, IsAsked, WantsBytes, IsBusy, IsWoken};
 
     /// A connection that has just come.
     pub(crate) fn new(alloc: Global, conn: u64, stream: S) -> Client<S>
@@ -68,6 +68,7 @@ impl<S> Client<S> {
         S: Drop,
         ensures conn { result.conn ≡ conn }
         ensures stream { result.stream ≡ stream }
+        ensures open { result.phase ≡ phases.Open }
         ensures none { (waiting result.input ≡ []) × (owed result ≡ []) }
     {
         Client {
@@ -135,7 +136,8 @@ impl<S> Client<S> {
 
     /// Its stream is ready again: to be read, to be written to, or closed by its peer or failed, which a read or a write will tell.
     pub fn wake(&mut self, readable: bool, writable: bool, closing: bool)
-        ensures { let reads = self.old.may_read || readable || closing in let writes = self.old.may_write || writable || closing in
+        ensures woken { IsWoken self.old self.new }
+        ensures told { let reads = self.old.may_read || readable || closing in let writes = self.old.may_write || writable || closing in
             self.new ≡ record self.old { may_read = reads; may_write = writes; is_closing = self.old.is_closing || closing } }
     {
         self.may_read = self.may_read || readable || closing;
@@ -145,20 +147,22 @@ impl<S> Client<S> {
 }
 
 impl<S: Duplex> Client<S> {
-    ghost use Rattle.std.specs.Io.KnownBytes.{Keeps, Consumes};
-    ghost use Rattle.mi_clients.specs.Client.{owed, HasSent};
+    ghost use Rattle.std.specs.Io.KnownBytes.{Keeps, Consumes, IsAtEnd};
+    ghost use Rattle.mi_clients.specs.Client.{owed, HasSent, GoesOn};
     ghost use Rattle.mi_clients.specs.Output.{Sends};
     ghost use Rattle.mi_clients.specs.Lines.{SameLines, Ends};
 
     /// Reads one piece, where it is to be read: what comes waits to be asked, or its bytes have ended, or it is broken.
     pub(crate) fn read(&mut self, buffer: &mut [u8])
+        requires room { 0 < length buffer.old }
         ensures piece { (piece : List ℕ) × Consumes (S.remaining self.old.stream) (S.remaining self.new.stream) piece
             × ((self.new.phase ≡ phases.Broken) ⊎ (SameLines (waiting self.old.input ++ piece) (waiting self.new.input)
-            ⊎ ((self.new.phase ≡ phases.Ended) × (piece ≡ []) × Ends (waiting self.old.input) (waiting self.new.input)))) }
+            ⊎ ((self.new.phase ≡ phases.Ended) × (piece ≡ []) × IsAtEnd (S.remaining self.new.stream)
+            × Ends (waiting self.old.input) (waiting self.new.input)))) }
         ensures contents { Keeps (S.contents self.old.stream) (S.contents self.new.stream) }
         ensures owed { owed self.new ≡ owed self.old }
         ensures broken { self.old.phase ≡ phases.Broken → self.new.phase ≡ phases.Broken }
-        ensures opened { self.new.phase ≡ phases.Open → self.old.phase ≡ phases.Open }
+        ensures goes_on { GoesOn self.new → GoesOn self.old }
         ensures conn { self.new.conn ≡ self.old.conn }
     {
         if !self.wants_bytes() {
@@ -225,6 +229,7 @@ impl<S: Duplex> Client<S> {
     /// Sends what was handed out, as much as its stream takes now. Each byte is sent or owed still; once all is sent its memory is let go.
     pub(crate) fn send(&mut self)
         ensures sent { Sends S.contents self.old.stream self.new.stream (owed self.old) (owed self.new) }
+        ensures remaining { Keeps (S.remaining self.old.stream) (S.remaining self.new.stream) }
         ensures all { HasSent self.new }
         ensures broken { self.old.phase ≡ phases.Broken → self.new.phase ≡ phases.Broken }
         ensures phase { (self.new.phase ≡ phases.Broken) ⊎ (self.new.phase ≡ self.old.phase) }

@@ -3,7 +3,7 @@ use mio::net::TcpStream;
 use std::io;
 use std::io::{Read, Write};
 
-/// A stream both ways: what it is written stays as it is while it is read.
+/// A stream both ways: what it was written stays as it is while it is read, and what it has to be read while it is written to.
 pub trait Duplex {
     ghost use Rattle.std.specs.Prelude.{ℕ, List, Option, None};
     ghost use Rattle.std.specs.Io.{ReadsAtMost, WritesAtMost};
@@ -24,7 +24,8 @@ pub trait Duplex {
     /// Writes a front of the bytes, and answers how many they are.
     fn write(&mut self, bytes: &[u8]) -> io::Result<usize>
         ensures bound { WritesAtMost result bytes.now }
-        ensures bytes { WriteAppends (contents self.old) (contents self.new) result bytes.now };
+        ensures bytes { WriteAppends (contents self.old) (contents self.new) result bytes.now }
+        ensures remaining { Keeps (remaining self.old) (remaining self.new) };
 }
 
 /// No clause can say what a socket gives or takes, so it tells nothing of its bytes.

@@ -1,11 +1,11 @@
 //! The attached connections in a row, each step over all of them.
-ghost use Rattle.std.specs.Prelude.{◌≡◌, ◌⊎◌, ◌↔◌, ◌++◌, ◌∷◌, List, [], Some, Err, true, IsTrue, OnOk, OnErr};
+ghost use Rattle.std.specs.Prelude.{◌≡◌, ◌<◌, ◌⊎◌, ◌↔◌, ◌++◌, ◌∷◌, List, [], Some, Err, length, true, IsTrue, OnOk, OnErr};
 ghost use Rattle.std.specs.List.{All, Any};
 ghost use Rattle.std.specs.Io.KnownBytes.{Keeps};
 ghost use Rattle.mi_ledger.specs.Ledger.{hub_of, log_of, IsSettled};
-ghost use Rattle.mi_clients.specs.Client.{owed, IsServed, IsAsked, IsSent, IsBusy, AsksWhatCame};
-ghost use Rattle.mi_clients.specs.Steps.{Step, Makes, given_to, asked_by, GivesOnly, GivesNone, OnlyAsks, LeavesOthers};
-ghost use Rattle.mi_clients.specs.Row.{ids, inputs, Attends, EachServed, EachAsFar, OpenOnlyAsk, Joins, LetsGo, NoneIsOver, Serves};
+ghost use Rattle.mi_clients.specs.Client.{IsServed, IsAsked, IsSent, IsBusy, GoesOn, AsksWhatCame};
+ghost use Rattle.mi_clients.specs.Steps.{Step, Makes, given_to, asked_by, GivesOnly, GivesNone, AsksOnly, AsksNone, OnlyAsks, LeavesOthers};
+ghost use Rattle.mi_clients.specs.Row.{ids, inputs, Attends, EachServed, EachAsked, EachUnread, StayersAsked, EachAsFar, OpenOnlyAsk, AllOnlyAsk, IsNew, Joins, LetsGo, NoneIsOver, Serves};
 ghost use Rattle.mi_clients.specs.declared.client.Client.{Client};
 ghost use Rattle.mi_clients.specs.declared.client.Phase.TheVariants as phases;
 ghost use Rattle.mi_hub.specs.Connections.{rest_at};
@@ -27,12 +27,14 @@ fn serve<D: Sessions + Drop, L: Log + Drop, S: Duplex>(
 ) -> Result<(), LedgerFault>
     requires here { rest_at client.old.conn (hub_of ledger.old).attached ≡ Some (Some []) }
     requires settled { IsSettled L.appended L.synced ledger.old }
+    requires room { 0 < length buffer.old }
     ensures serves { OnOk result ((steps : List Step) × GivesOnly client.old.conn steps
         × IsServed S.contents (given_to client.old.conn steps) client.old client.new
         × Makes steps (hub_of ledger.old) (hub_of ledger.new) (L.appended (log_of ledger.old)) (L.appended (log_of ledger.new))
         × AsksWhatCame S.remaining (asked_by client.old.conn steps) client.old client.new
-        × LeavesOthers client.old.conn steps × (client.new.phase ≡ phases.Open → OnlyAsks client.old.conn steps)) }
-    ensures opened { OnOk result (client.new.phase ≡ phases.Open → client.old.phase ≡ phases.Open) }
+        × LeavesOthers client.old.conn steps × (GoesOn client.new → OnlyAsks client.old.conn steps)
+        × AsksOnly client.old.conn steps) }
+    ensures goes_on { OnOk result (GoesOn client.new → GoesOn client.old) }
     ensures asked { OnOk result (IsAsked client.new) }
     ensures attached { OnOk result ((hub_of ledger.new).attached ≡ (hub_of ledger.old).attached) }
     ensures failed { result ≡ Err LedgerFault.Journal → L.has_failed (log_of ledger.new) ≡ true }
@@ -52,9 +54,10 @@ pub fn ask_all<D: Sessions + Drop, L: Log + Drop, S: Duplex>(
 ) -> Result<(), LedgerFault>
     requires attends { Attends (ids row.old.items) (hub_of ledger.old).attached }
     requires settled { IsSettled L.appended L.synced ledger.old }
+    requires room { 0 < length buffer.old }
     ensures serves { OnOk result ((steps : List Step) × EachServed S.contents steps row.old.items row.new.items
         × Makes steps (hub_of ledger.old) (hub_of ledger.new) (L.appended (log_of ledger.old)) (L.appended (log_of ledger.new))
-        × OpenOnlyAsk steps row.new.items) }
+        × OpenOnlyAsk steps row.new.items × EachAsked S.remaining steps row.old.items row.new.items) }
     ensures asked { OnOk result (All IsAsked row.new.items) }
     ensures attends { OnOk result (Attends (ids row.new.items) (hub_of ledger.new).attached) }
     ensures failed { result ≡ Err LedgerFault.Journal → L.has_failed (log_of ledger.new) ≡ true }
@@ -77,6 +80,7 @@ pub fn send_all<D: Sessions + Drop, L: Log + Drop, S: Duplex>(
     ensures sent { OnOk result (All IsSent row.new.items) }
     ensures far { OnOk result (EachAsFar row.old.items row.new.items) }
     ensures inputs { OnOk result (inputs row.new.items ≡ inputs row.old.items) }
+    ensures unread { OnOk result (EachUnread S.remaining row.old.items row.new.items) }
     ensures hub { OnOk result (hub_of ledger.new ≡ hub_of ledger.old) }
     ensures appended { OnOk result (Keeps (L.appended (log_of ledger.old)) (L.appended (log_of ledger.new))) }
     ensures attends { OnOk result (Attends (ids row.new.items) (hub_of ledger.new).attached) }
@@ -100,7 +104,7 @@ pub fn let_go<D: Sessions + Drop, L: Log + Drop, S: Drop>(
     requires settled { IsSettled L.appended L.synced ledger.old }
     ensures goes { OnOk result ((steps : List Step) × GivesNone steps × LetsGo row.old.items row.new.items
         × Makes steps (hub_of ledger.old) (hub_of ledger.new) (L.appended (log_of ledger.old)) (L.appended (log_of ledger.new))
-        × OpenOnlyAsk steps row.new.items) }
+        × OpenOnlyAsk steps row.new.items × AsksNone steps) }
     ensures stay { OnOk result (NoneIsOver row.new.items) }
     ensures attends { OnOk result (Attends (ids row.new.items) (hub_of ledger.new).attached) }
     ensures failed { result ≡ Err LedgerFault.Journal → L.has_failed (log_of ledger.new) ≡ true }
@@ -142,9 +146,10 @@ pub fn serve_all<D: Sessions + Drop, L: Log + Drop, S: Duplex + Drop>(
 ) -> Result<(), LedgerFault>
     requires attends { Attends (ids row.old.items) (hub_of ledger.old).attached }
     requires settled { IsSettled L.appended L.synced ledger.old }
+    requires room { 0 < length buffer.old }
     ensures serves { OnOk result ((steps : List Step) × Serves S.contents steps row.old.items row.new.items
         × Makes steps (hub_of ledger.old) (hub_of ledger.new) (L.appended (log_of ledger.old)) (L.appended (log_of ledger.new))
-        × OpenOnlyAsk steps row.new.items) }
+        × OpenOnlyAsk steps row.new.items × StayersAsked S.remaining steps row.old.items row.new.items) }
     ensures sent { OnOk result (All IsSent row.new.items) }
     ensures stay { OnOk result (NoneIsOver row.new.items) }
     ensures attends { OnOk result (Attends (ids row.new.items) (hub_of ledger.new).attached) }
@@ -168,9 +173,10 @@ pub fn admit<D: Sessions + Drop, L: Log + Drop, S: Drop>(
     requires attends { Attends (ids row.old.items) (hub_of ledger.old).attached }
     requires settled { IsSettled L.appended L.synced ledger.old }
     ensures comes { OnOk result ((steps : List Step) × GivesNone steps × Joins row.old.items row.new.items
-        × Makes steps (hub_of ledger.old) (hub_of ledger.new) (L.appended (log_of ledger.old)) (L.appended (log_of ledger.new))) }
+        × Makes steps (hub_of ledger.old) (hub_of ledger.new) (L.appended (log_of ledger.old)) (L.appended (log_of ledger.new))
+        × AllOnlyAsk steps (ids row.old.items)) }
     ensures row { OnOk result ((row.new.items ≡ row.old.items)
-        ⊎ ((client : Client S) × (row.new.items ≡ row.old.items ++ client ∷ []) × (client.conn ≡ conn) × (client.stream ≡ stream) × (owed client ≡ []))) }
+        ⊎ ((client : Client S) × (row.new.items ≡ row.old.items ++ client ∷ []) × (client.conn ≡ conn) × (client.stream ≡ stream) × IsNew client row.old.items)) }
     ensures attends { OnOk result (Attends (ids row.new.items) (hub_of ledger.new).attached) }
     ensures memory { OnErr result (result ≡ Err LedgerFault.Memory) }
     ensures settled { OnOk result (IsSettled L.appended L.synced ledger.new) }

@@ -1,5 +1,6 @@
 //! What waits goes to a stream that doesn't block.
 ghost use Rattle.std.specs.Prelude.{◌≡◌, []};
+ghost use Rattle.std.specs.Io.KnownBytes.{Keeps};
 ghost use Rattle.mi_clients.specs.Output.{unsent, Sends};
 
 use crate::duplex::Duplex;
@@ -20,6 +21,7 @@ pub enum Sending {
 /// Sends what waits, as much as the stream takes now. Each byte is sent or waits still.
 pub fn send_out<S: Duplex>(stream: &mut S, output: &mut Output) -> Sending
     ensures sends { Sends S.contents stream.old stream.new (unsent output.old) (unsent output.new) }
+    ensures remaining { Keeps (S.remaining stream.old) (S.remaining stream.new) }
     ensures all { result ≡ Sending.All → unsent output.new ≡ [] }
 {
     'out: while !output.waiting().is_empty() {

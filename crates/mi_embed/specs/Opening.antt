@@ -19,7 +19,8 @@ Describes (b ∷ bytes) catalog = (length (b ∷ bytes) ≤ MAX_SCHEMA_FILE) × 
 abbrev pub IsRefused : List ℕ → OpenFault → Type 0
 IsRefused text Long = MAX_SCHEMA_FILE < length text
 IsRefused [] (Schema fault) = fault ≡ schema.Memory
-IsRefused (b ∷ bytes) (Schema fault) = (fault ≡ schema.Memory) ⊎ (catalog_read (b ∷ bytes) ≡ Err fault)
+IsRefused (b ∷ bytes) (Schema fault) =
+    (fault ≡ schema.Memory) ⊎ ((length (b ∷ bytes) ≤ MAX_SCHEMA_FILE) × (catalog_read (b ∷ bytes) ≡ Err fault))
 
 -- the catalog of a text, or why it has none
 abbrev pub IsDescribed : List ℕ → Result CatalogShape OpenFault → Type 0

@@ -63,7 +63,8 @@ fn judge(reply: &[u8]) -> Result<(), LineFault>
 }
 
 /// Asks a line of a journal, with its newline, as the one connection that asks them, which is attached: the hub is left as the line leaves it
-/// where it is answered by the definition. So the lines of a journal, asked one after another, leave what its run left.
+/// where it is answered by the definition, and the reply is one that a line of a journal has. So the lines of a journal, asked one after another,
+/// leave what its run left.
 pub fn replay_line<D: Sessions + Drop>(
     alloc: Global,
     hub: &mut Hub<D>,
@@ -72,6 +73,7 @@ pub fn replay_line<D: Sessions + Drop>(
     requires attached { rest_at replayer hub.old.attached ≡ Some (Some []) }
     requires whole { IsWholeLine line.now }
     ensures ok { OnOk result (hub.new.held ≡ replayed (lines_of line.now) hub.old.held) }
+    ensures taken { OnOk result ((out : List ℕ) × Done hub.old (piece replayer line.now) out hub.new × IsTaken out) }
     ensures refused { result ≡ Err LineFault.Refused
         → (out : List ℕ) × Done hub.old (piece replayer line.now) out hub.new × ¬ (IsTaken out ⊎ IsForMemory out) }
     ensures still { OnOk result (rest_at replayer hub.new.attached ≡ Some (Some [])) }

@@ -1,10 +1,12 @@
 -- What a journal's bytes leave when they are asked again: of "{\"journal\":1, ..}⏎start⏎st" the line "start" is replayed, and "st" is torn.
 use Rattle.std.specs.Prelude.{◌≡◌, ⊤, ℕ, List, [], ◌∷◌, ◌++◌, length, Bool, true, false, Option, Some, None}
-use Rattle.mi_commands.specs.Holder.{HeldDatabase}
+use Rattle.mi_commands.specs.Holder.{HeldDatabase, released}
 use Rattle.mi_hub.specs.Ended.{after_newlines}
 use Rattle.mi_hub.specs.Lines.{lines_of}
 use Rattle.mi_hub.specs.declared.connection.Connection.{Connection}
 use Rattle.mi_replay.specs.Replayed.{replayer, replayed}
+use Rattle.mi_ledger.specs.Belongs.{holder_conn}
+use Rattle.mi_clients.specs.Steps.{HoldsSome}
 use Rattle.mi_clients.specs.Row.{fresh}
 use Rattle.mi_ledger.specs.declared.replaying.ReplayFault.{ReplayFault}
 use Rattle.mi_ledger.specs.declared.replaying.ReplayFault.TheVariants as replay
@@ -17,11 +19,11 @@ use Rattle.mi_serving.specs.declared.opening.Journaled.TheVariants.{Nothing, Jou
 abbrev pub IsBeginning : List ℕ → List ℕ → Type 0
 IsBeginning header bytes = (more : List ℕ) × (header ≡ bytes ++ more)
 
--- the header stood in front of what was left to read, where a reader tells that
+-- the header and a newline stood in front of what was left to read, where a reader tells that
 abbrev pub HasHeader : List ℕ → Option (List ℕ) → Option (List ℕ) → Type 0
 HasHeader header None later = ⊤
 HasHeader header (Some bytes) None = ⊥
-HasHeader header (Some bytes) (Some rest) = (newline : ℕ) × (bytes ≡ header ++ newline ∷ rest)
+HasHeader header (Some bytes) (Some rest) = bytes ≡ header ++ 10 ∷ rest
 
 -- From old all whole lines of these bytes are replayed, and new is left; so many bytes behind the last newline aren't.
 abbrev pub IsReplayed : List ℕ → ℕ → HeldDatabase → HeldDatabase → Type 0
@@ -32,12 +34,19 @@ IsReplayed bytes torn old new = (new ≡ replayed (lines_of bytes) old) × (torn
 abbrev pub IsRecovered : List ℕ → List ℕ → Journaled → HeldDatabase → HeldDatabase → Type 0
 IsRecovered header bytes Nothing old new = IsBeginning header bytes × (new ≡ old)
 IsRecovered header bytes (Journal torn) old new =
-    (newline : ℕ) × (rest : List ℕ) × (bytes ≡ header ++ newline ∷ rest) × IsReplayed rest torn old new
+    (rest : List ℕ) × (bytes ≡ header ++ 10 ∷ rest) × IsReplayed rest torn old new
 
 -- the connection that replays is attached where there is a journal, and no other is
 abbrev pub IsWith : Journaled → List Connection → Type 0
 IsWith Nothing attached = attached ≡ []
 IsWith (Journal torn) attached = attached ≡ fresh replayer ∷ []
+
+-- A hub with this state goes on with its journal, and has that. Where there was a journal, the sessions are undone that the connection which
+-- replayed it holds, and no other.
+abbrev pub IsResumed : Journaled → HeldDatabase → HeldDatabase → Type 0
+IsResumed Nothing old new = new ≡ old
+IsResumed (Journal torn) old new =
+    (HoldsSome old.holder → new ≡ released replayer old) × (¬ (holder_conn old.holder ≡ Some replayer) → new ≡ old)
 
 -- whether a replay may end by this failure: what can't be read, isn't a journal of this schema, or lacks memory or turns
 abbrev pub ends_replay : Failure → Bool

@@ -1,6 +1,7 @@
 //! What the system tells of sockets: which connections come, and which are ready. It reads and writes none of their bytes.
 ghost use Rattle.std.specs.Prelude.{◌≡◌, Err, OnErr};
-ghost use Rattle.mi_clients.specs.Row.{ids};
+ghost use Rattle.mi_clients.specs.Client.{IsWoken};
+ghost use Rattle.mi_clients.specs.Row.{ids, EachWoken};
 
 use crate::failure::Failure;
 use mi_clients::Client;
@@ -46,7 +47,7 @@ fn listen<R: Net + AllocGlobal>(rt: &R, port: u16) -> io::Result<Door> {
 
 /// Tells a connection what was reported, where it is the event's.
 fn tell_one<S>(client: &mut Client<S>, event: &Event)
-    ensures { client.new.conn ≡ client.old.conn }
+    ensures { IsWoken client.old client.new }
 {
     if client.conn as usize == event.token().0 {
         let closing = event.is_read_closed() || event.is_write_closed() || event.is_error();
@@ -56,7 +57,8 @@ fn tell_one<S>(client: &mut Client<S>, event: &Event)
 
 /// Tells the connection of an event what was reported of it.
 fn tell(event: &Event, row: &mut Vec<Client<TcpStream>>)
-    ensures { ids row.new.items ≡ ids row.old.items }
+    ensures ids { ids row.new.items ≡ ids row.old.items }
+    ensures woken { EachWoken row.old.items row.new.items }
 {
     for client in row.iter_mut() {
         tell_one(client, event);
@@ -108,7 +110,8 @@ impl Door {
 
     /// Tells the connections what was reported of them.
     pub fn wake(&mut self, row: &mut Vec<Client<TcpStream>>)
-        ensures { ids row.new.items ≡ ids row.old.items }
+        ensures ids { ids row.new.items ≡ ids row.old.items }
+        ensures woken { EachWoken row.old.items row.new.items }
     {
         for event in self.events.iter() {
             if event.token() == LISTENER {

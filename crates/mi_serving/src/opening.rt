@@ -1,5 +1,6 @@
 //! The journal at the start: what it has is asked again, a torn end of it is cut off, and it is opened to go on with, under a name that stays.
 ghost use Rattle.std.specs.Prelude.{◌≡◌, ◌++◌, ◌∷◌, List, [], ℕ, true, false, Ok, OnOk, IfOk, IfErr, IfSome};
+ghost use Rattle.std.specs.Io.BufRead.{ends_with_byte};
 ghost use Rattle.std.specs.Io.KnownBytes.{Keeps};
 ghost use Rattle.mi_log.specs.LogLines.{reader_of};
 ghost use Rattle.mi_replay.specs.Replayed.{replayer};
@@ -8,7 +9,7 @@ ghost use Rattle.mi_ledger.specs.Ledger.{hub_of, log_of};
 ghost use Rattle.mi_serving.specs.Device.{is_synced, is_staying};
 ghost use Rattle.mi_clients.specs.Row.{fresh};
 ghost use Rattle.mi_clients.specs.Steps.{Step, Makes, GivesNone};
-ghost use Rattle.mi_serving.specs.Recovery.{HasHeader, IsBeginning, IsReplayed, IsRecovered, IsWith, ends_replay};
+ghost use Rattle.mi_serving.specs.Recovery.{HasHeader, IsBeginning, IsReplayed, IsRecovered, IsWith, IsResumed, ends_replay};
 
 use crate::claim::{claimed, cut_off, keep_name};
 use crate::device::{JournalDevice, Keeping};
@@ -44,9 +45,10 @@ pub enum Journaled {
     Journal(u64),
 }
 
-/// Whether a first line, with its newline, is the header, which it is to be.
+/// Whether a first line, which has its newline, is the header, which it is to be.
 fn check_heading(line: &[u8], header: &[u8]) -> Result<(), Failure>
-    ensures wanted { OnOk result ((newline : ℕ) × (line.now ≡ header.now ++ newline ∷ [])) }
+    requires { ends_with_byte 10 line.now ≡ true }
+    ensures wanted { OnOk result (line.now ≡ header.now ++ 10 ∷ []) }
     ensures fails { IfErr result (λ failure. ends_replay failure ≡ true) }
 {
     let Some((_newline, text)) = line.split_last() else {
@@ -201,6 +203,7 @@ fn resumed<D: Sessions + Drop, L: Log + Drop>(
     requires { IsWith found hub.attached }
     ensures makes { IfOk result (λ ledger. (steps : List Step) × GivesNone steps
         × Makes steps hub (hub_of ledger) (L.appended log) (L.appended (log_of ledger))) }
+    ensures held { IfOk result (λ ledger. IsResumed found hub.held (hub_of ledger).held) }
     ensures stay { IfOk result (λ ledger. Keeps (L.appended (log_of ledger)) (L.synced (log_of ledger))) }
     ensures attached { IfOk result (λ ledger. (hub_of ledger).attached ≡ []) }
     ensures makes_stay { IfOk result (λ ledger. L.makes_stay (log_of ledger) ≡ L.makes_stay log) }

@@ -1,9 +1,10 @@
 //! What the program does, in its order: the words are judged, the schema is read, the port is listened on, the journal is asked again,
 //! and then connections are served.
-ghost use Rattle.std.specs.Prelude.{◌≡◌, [], false, IfOk, MatchOption};
+ghost use Rattle.std.specs.Prelude.{◌≡◌, [], None, false, IfOk, IsNone, MatchOption};
 ghost use Rattle.mi_log.specs.DeviceLog.{device_of};
 ghost use Rattle.mi_ledger.specs.Ledger.{hub_of, log_of};
 ghost use Rattle.mi_serving.specs.Device.{is_staying};
+ghost use Rattle.mi_model.specs.Database.{opened_database};
 ghost use Rattle.mi_serving.specs.Words.{asks_sync};
 
 use crate::device::Keeping;
@@ -43,6 +44,8 @@ fn ledger_of<R: Files<File = File> + AllocGlobal + RandomSource>(
     catalog: Catalog,
     journal: Option<&JournalWords>,
 ) -> Result<FileLedger<Tables>, Failure>
+    ensures tables { IfOk result (λ ledger. IsNone journal.entry
+        → (hub_of ledger).held ≡ record { database = opened_database catalog; holder = None }) }
     ensures attached { IfOk result (λ ledger. (hub_of ledger).attached ≡ []) }
     ensures stays { IfOk result (λ ledger. MatchOption journal.entry (is_staying (device_of (log_of ledger)) ≡ false)
         (λ words. is_staying (device_of (log_of ledger)) ≡ asks_sync words.now.sync)) }

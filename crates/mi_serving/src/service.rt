@@ -1,8 +1,8 @@
 //! The loop of the service: it waits until something is ready, and takes a turn.
-ghost use Rattle.std.specs.Prelude.{◌≡◌, List, [], None, Err, true, OnOk, OnErr};
+ghost use Rattle.std.specs.Prelude.{◌≡◌, ◌<◌, ◌⊎◌, List, [], length, None, Err, true, OnOk, OnErr};
 ghost use Rattle.mi_ledger.specs.Ledger.{hub_of, log_of, IsSettled};
 ghost use Rattle.mi_clients.specs.Steps.{Step, Makes, GivesNone};
-ghost use Rattle.mi_clients.specs.Row.{ids, Attends, Joins, NoneIsOver, Serves};
+ghost use Rattle.mi_clients.specs.Row.{ids, Attends, Joins, NoneIsOver, Serves, AllOnlyAsk, StayersOnlyAsk, EachWoken};
 ghost use Rattle.mi_serving.specs.Turns.{Goes, ends_serving};
 
 use crate::door::Door;
@@ -32,7 +32,8 @@ fn accept_one<D: Sessions + Drop, L: Log + Drop>(
     requires attends { Attends (ids row.old.items) (hub_of ledger.old).attached }
     requires settled { IsSettled L.appended L.synced ledger.old }
     ensures comes { OnOk result ((steps : List Step) × GivesNone steps × Joins row.old.items row.new.items
-        × Makes steps (hub_of ledger.old) (hub_of ledger.new) (L.appended (log_of ledger.old)) (L.appended (log_of ledger.new))) }
+        × Makes steps (hub_of ledger.old) (hub_of ledger.new) (L.appended (log_of ledger.old)) (L.appended (log_of ledger.new))
+        × AllOnlyAsk steps (ids row.old.items)) }
     ensures attends { OnOk result (Attends (ids row.new.items) (hub_of ledger.new).attached) }
     ensures memory { OnErr result (result ≡ Err LedgerFault.Memory) }
     ensures settled { OnOk result (IsSettled L.appended L.synced ledger.new) }
@@ -58,7 +59,8 @@ fn accept_all<D: Sessions + Drop, L: Log + Drop>(
     requires attends { Attends (ids row.old.items) (hub_of ledger.old).attached }
     requires settled { IsSettled L.appended L.synced ledger.old }
     ensures comes { OnOk result ((steps : List Step) × GivesNone steps × Joins row.old.items row.new.items
-        × Makes steps (hub_of ledger.old) (hub_of ledger.new) (L.appended (log_of ledger.old)) (L.appended (log_of ledger.new))) }
+        × Makes steps (hub_of ledger.old) (hub_of ledger.new) (L.appended (log_of ledger.old)) (L.appended (log_of ledger.new))
+        × AllOnlyAsk steps (ids row.old.items)) }
     ensures attends { OnOk result (Attends (ids row.new.items) (hub_of ledger.new).attached) }
     ensures memory { OnErr result (result ≡ Err LedgerFault.Memory) }
     ensures settled { OnOk result (IsSettled L.appended L.synced ledger.new) }
@@ -90,8 +92,10 @@ pub fn take_turn<D: Sessions + Drop, L: Log + Drop>(
 ) -> Result<(), LedgerFault>
     requires attends { Attends (ids row.old.items) (hub_of ledger.old).attached }
     requires settled { IsSettled L.appended L.synced ledger.old }
+    requires room { 0 < length buffer.old }
     ensures serves { OnOk result ((steps : List Step) × Serves (λ _. None) steps row.old.items row.new.items
-        × Makes steps (hub_of ledger.old) (hub_of ledger.new) (L.appended (log_of ledger.old)) (L.appended (log_of ledger.new))) }
+        × Makes steps (hub_of ledger.old) (hub_of ledger.new) (L.appended (log_of ledger.old)) (L.appended (log_of ledger.new))
+        × StayersOnlyAsk steps row.old.items row.new.items) }
     ensures stay { OnOk result (NoneIsOver row.new.items) }
     ensures attends { OnOk result (Attends (ids row.new.items) (hub_of ledger.new).attached) }
     ensures failed { result ≡ Err LedgerFault.Journal → L.has_failed (log_of ledger.new) ≡ true }
@@ -104,6 +108,7 @@ pub fn take_turn<D: Sessions + Drop, L: Log + Drop>(
 /// Waits until something is ready, and tells the connections.
 fn wait(door: &mut Door, row: &mut Vec<Client<TcpStream>>) -> Result<(), Failure>
     ensures ids { ids row.new.items ≡ ids row.old.items }
+    ensures woken { EachWoken row.old.items row.new.items }
     ensures poll { OnErr result (result ≡ Err Failure.Poll) }
 {
     let comes = door.may_accept() && row.len() < MAX_CONNECTIONS;
@@ -122,7 +127,7 @@ pub fn serve<D: Sessions + Drop, L: Log + Drop>(
 ) -> Failure
     requires none { (hub_of ledger.old).attached ≡ [] }
     requires settled { IsSettled L.appended L.synced ledger.old }
-    ensures turns { result ≡ Failure.Turns
+    ensures turns { (result ≡ Failure.Turns) ⊎ (result ≡ Failure.Poll)
         → Goes (hub_of ledger.old) (hub_of ledger.new) (L.appended (log_of ledger.old)) (L.appended (log_of ledger.new)) }
     ensures failed { result ≡ Failure.Journal → L.has_failed (log_of ledger.new) ≡ true }
     ensures ends { ends_serving result ≡ true }

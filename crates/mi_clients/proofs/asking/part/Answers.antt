@@ -5,7 +5,7 @@ use Rattle.mi_ledger.specs.Belongs.{holder_conn}
 use Rattle.mi_ledger.specs.Ledger.{hub_of}
 use Rattle.mi_clients.specs.Steps.{goes}
 use Rattle.mi_clients.proofs.StepLemmas.{makes_then, leaves_makes}
-use Rattle.mi_clients.proofs.ServedLemmas.{undos_none, none_join, goes_none_given, goes_others}
+use Rattle.mi_clients.proofs.ServedLemmas.{undos_none, none_join, goes_none_given, goes_others, goes_asks_none}
 use Rattle.mi_clients.proofs.UndoneLemmas.{gone_leaves, gone_same}
 use Rattle.mi_clients.proofs.asking.part.Goals as goal
 
@@ -18,6 +18,7 @@ returns-clause-goes g c =
       makes_then undone.0 last _ (hub_of c.undo_all.new.ledger) _ _ _ _ undone.2
           (leaves_makes c.args.conn _ _ _ _ c.leave.ensures.done c.leave.ensures.journal),
       goes_others c.args.conn undone.0 undone.1,
+      goes_asks_none c.args.conn undone.0 undone.1,
     )
 
 pub returns-clause-left : goal.returns-clause-left

@@ -41,5 +41,5 @@ sessions-preserved g c =
       steps = before.steps ++ step ∷ [];
       own = undos_more c.args.conn before.steps asked.0 before.own;
       makes = makes_then before.steps (step ∷ []) _ (hub_of c.sessions.ledger) _ _ _ _ before.makes
-          (undo_makes c.args.conn _ asked.0 (hub_of c.sessions.ledger) (hub_of c.ask.new.self) _ _ refl asked.2);
+          (undo_makes c.args.conn _ asked.0 (hub_of c.sessions.ledger) (hub_of c.ask.new.self) _ _ refl holds asked.2);
     }

@@ -8,25 +8,30 @@ use Rattle.mi_clients.specs.Steps.{comes}
 use Rattle.mi_clients.specs.Row.{ids, Attends, Joins, IsNoneOf}
 use Rattle.mi_clients.proofs.StepLemmas.{comes_makes, makes_none, makes_kept}
 use Rattle.mi_clients.proofs.RowLemmas.{attends_more, none_of_attended}
-use Rattle.mi_clients.proofs.ServedLemmas.{nothing_given, comes_none_given, joins_none, joins_one}
+use Rattle.mi_clients.proofs.ServedLemmas.{nothing_given, comes_none_given, joins_none, joins_one, only_none, only_others}
 use Rattle.mi_clients.proofs.row.admit.Goals as goal
 
 pub returns-in-Ok-clause-comes : goal.returns-in-Ok-clause-comes
 returns-in-Ok-clause-comes g c =
     let kept = subst (λ l. Keeps (g.L.Log.appended (log_of c.args.ledger.now)) (g.L.Log.appended l)) (sym c.attach.ensures.log) (Keeps-refl _) in
     let row = c.args.row.now.items in
-    let new = subst (λ k. IsNoneOf k (ids row)) (sym c.new.ensures.conn)
-    (none_of_attended c.args.conn (ids row) (hub_of c.args.ledger.now) (hub_of c.attach.new.self) c.requires.attends c.in-Ok.ensures.ok) in
+    let none = none_of_attended c.args.conn (ids row) (hub_of c.args.ledger.now) (hub_of c.attach.new.self) c.requires.attends c.in-Ok.ensures.ok in
+    let new = subst (λ k. IsNoneOf k (ids row)) (sym c.new.ensures.conn) none in
     on_ok_weaker c.seat.result (λ items. (
       comes c.args.conn ∷ [],
       comes_none_given c.args.conn,
-      subst (Joins row) (sym items) (joins_one row c.new.result (c.new.ensures.none.1, new)),
+      subst (Joins row) (sym items) (joins_one row c.new.result (c.new.ensures.open, c.new.ensures.none.0, c.new.ensures.none.1, new)),
       comes_makes c.args.conn (hub_of c.args.ledger.now) (hub_of c.attach.new.self) _ _ c.in-Ok.ensures.ok kept,
+      only_others c.args.conn (comes c.args.conn ∷ []) (ids row) (λ k other. (other, tt)) none,
     )) c.seat.ensures.seated
 
 pub returns-in-Ok-clause-row : goal.returns-in-Ok-clause-row
 returns-in-Ok-clause-row g c =
-    on_ok_weaker c.seat.result (λ items. inr (c.new.result, items, c.new.ensures.conn, c.new.ensures.stream, c.new.ensures.none.1)) c.seat.ensures.seated
+    let row = c.args.row.now.items in
+    let new = subst (λ k. IsNoneOf k (ids row)) (sym c.new.ensures.conn)
+    (none_of_attended c.args.conn (ids row) (hub_of c.args.ledger.now) (hub_of c.attach.new.self) c.requires.attends c.in-Ok.ensures.ok) in
+    on_ok_weaker c.seat.result (λ items. inr
+    (c.new.result, items, c.new.ensures.conn, c.new.ensures.stream, (c.new.ensures.open, c.new.ensures.none.0, c.new.ensures.none.1, new))) c.seat.ensures.seated
 
 pub returns-in-Ok-clause-attends : goal.returns-in-Ok-clause-attends
 returns-in-Ok-clause-attends g c =
@@ -42,4 +47,5 @@ returns-in-Err-clause-comes g c =
       nothing_given,
       joins_none c.args.row.now.items,
       makes_kept [] _ (hub_of c.args.ledger.now) (hub_of c.attach.new.self) _ _ _ (makes_none _ _ _ (Keeps-refl _)) c.in-Err.ensures.refused.1 kept,
+      only_none (ids c.args.row.now.items),
     )

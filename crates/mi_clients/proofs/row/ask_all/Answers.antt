@@ -1,13 +1,16 @@
 -- Each connection is one that the hub has attached, keeps its number, and alone is given the replies to its lines.
-use Rattle.std.proofs.Common.{◌<◌, ◌++◌, [], length, sym, subst, arith}
+use Rattle.std.proofs.Common.{rules, ◌≡◌, ℕ, ◌+◌, suc, ◌<◌, ◌≤◌, List, ◌++◌, [], length, take, drop, sym, ap, ◌∙◌, subst, arith, append-nil}
+use Rattle.std.proofs.lemmas.List.{take_all}
+use Rattle.std.proofs.Math.ListN.{drop_of_length-le}
+use Rattle.std.specs.List.{All}
 use Rattle.std.proofs.KnownBytes.{Keeps-refl}
 use Rattle.std.specs.Prelude.{slice_set}
 use Rattle.mi_ledger.specs.Ledger.{hub_of}
 use Rattle.mi_clients.specs.Client.{IsAsked}
-use Rattle.mi_clients.specs.Row.{ids, Attends, EachServed}
+use Rattle.mi_clients.specs.Row.{ids, Attends, EachServed, EachAsked, OpenOnlyAsk}
 use Rattle.mi_clients.proofs.StepLemmas.{makes_none, makes_then}
-use Rattle.mi_clients.proofs.RowLemmas.{ids_set, attends_at, holds_none, holds_set}
-use Rattle.mi_clients.proofs.ServedLemmas.{nothing_given, each_none, each_set, each_then, opens_none, opens_set}
+use Rattle.mi_clients.proofs.RowLemmas.{ids_set, attends_at, holds_none, holds_set, holds_all}
+use Rattle.mi_clients.proofs.ServedLemmas.{nothing_given, each_none, each_set, each_then, opens_none, opens_set, AskedTo, asked_to_none, asked_to_set, asked_to_all}
 use Rattle.mi_clients.proofs.row.ask_all.Goals as goal
 
 pub loop-client-init : goal.loop-client-init
@@ -18,6 +21,8 @@ loop-client-init g c = record {
   steps = [];
   each = subst (EachServed g.S.Duplex.contents [] c.args.row.now.items) (sym c.deref_mut-client-items.ensures.value)
       (each_none g.S.Duplex.contents [] c.args.row.now.items nothing_given);
+  came = subst (AskedTo g.S.Duplex.remaining [] 0 c.args.row.now.items) (sym c.deref_mut-client-items.ensures.value)
+      (asked_to_none g.S.Duplex.remaining c.args.row.now.items);
   opens = opens_none _;
   makes = makes_none _ _ _ (Keeps-refl _);
 }
@@ -33,6 +38,7 @@ loop-client-preserved g c =
     let row = c.loop-client.client-items in
     let at = c.loop-client.client-index in
     let within : at < length row = omega (arith, c.loop-client-test.true, c.loop-client.auto.client-items) in
+    let one_more : suc at ≡ at + 1 = omega arith in
     let one = c.in_ok-serve.ensures.serves in
     let same = ids_set row at c.serve.new.client c.client-item.result one.2.conn in
     let set = each_set g.S.Duplex.contents one.0 row at c.client-item.result c.serve.new.client before.attends.differ within one.1 one.2 in record {
@@ -42,7 +48,42 @@ loop-client-preserved g c =
       steps = before.steps ++ one.0;
       asked = holds_set (λ x. IsAsked x) row at c.serve.new.client within c.in_ok-serve.ensures.asked before.asked;
       each = each_then g.S.Duplex.contents before.steps one.0 c.args.row.now.items row (slice_set row at c.serve.new.client) before.each set;
+      came = subst (λ n. AskedTo g.S.Duplex.remaining (before.steps ++ one.0) n c.args.row.now.items (slice_set row at c.serve.new.client)) one_more
+          (asked_to_set g.S.Duplex.remaining before.steps one.0 c.args.row.now.items row at c.client-item.result c.serve.new.client before.attends.differ
+          within one.7 one.2.conn one.4 before.came);
       opens = opens_set before.steps one.0 row at c.client-item.result c.serve.new.client before.attends.differ within one.5 one.2.conn
-          c.in_ok-serve.ensures.opened one.6 before.opens;
+          c.in_ok-serve.ensures.goes_on one.6 before.opens;
       makes = makes_then before.steps one.0 _ (hub_of c.loop-client.ledger) _ _ _ _ before.makes one.3;
     }
+
+-- behind the loop the row is what its items have become
+whole_row : {X : Type 0} (old cur : List X) (n : ℕ) → n ≡ length old → length cur ≡ length old → take n (cur ++ drop (length cur) old) ≡ cur
+whole_row old cur n is same =
+    ap (λ t. take n (cur ++ t)) (drop_of_length-le old (omega arith)) ∙ ap (take n) (append-nil cur) ∙ take_all n cur (omega arith)
+
+pub returns-clause-serves : goal.returns-clause-serves
+returns-clause-serves g c =
+    let before = c.loop-client.invariant in
+    let old = c.args.row.now.items in
+    let row = c.loop-client.client-items in
+    let len : c.args.row.now.len ≡ length old = search rules in
+    let same : length row ≡ length old = search rules in
+    let all = whole_row old row c.args.row.now.len len same in
+    let le : length row ≤ c.loop-client.client-index = omega (arith, c.loop-client-test.false, c.loop-client.auto.client-items) in (
+      before.steps,
+      subst (EachServed g.S.Duplex.contents before.steps old) (sym all) before.each,
+      before.makes,
+      subst (OpenOnlyAsk before.steps) (sym all) before.opens,
+      subst (EachAsked g.S.Duplex.remaining before.steps old) (sym all)
+          (asked_to_all g.S.Duplex.remaining before.steps old row c.loop-client.client-index before.came le),
+    )
+
+pub returns-clause-asked : goal.returns-clause-asked
+returns-clause-asked g c =
+    let old = c.args.row.now.items in
+    let row = c.loop-client.client-items in
+    let len : c.args.row.now.len ≡ length old = search rules in
+    let same : length row ≡ length old = search rules in
+    let le : length row ≤ c.loop-client.client-index = omega (arith, c.loop-client-test.false, c.loop-client.auto.client-items) in
+    subst (λ items. All (λ x. IsAsked x) items) (sym (whole_row old row c.args.row.now.len len same))
+    (holds_all (λ x. IsAsked x) row c.loop-client.client-index le c.loop-client.invariant.asked)

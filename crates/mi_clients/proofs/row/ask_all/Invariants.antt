@@ -4,6 +4,7 @@ use Rattle.mi_clients.specs.Steps.{Step, Makes}
 use Rattle.mi_clients.specs.Row.{ids, Attends, EachServed, OpenOnlyAsk}
 use Rattle.mi_clients.specs.Client.{IsAsked}
 use Rattle.mi_clients.proofs.RowLemmas.{HoldsTo}
+use Rattle.mi_clients.proofs.ServedLemmas.{AskedTo}
 use Rattle.mi_clients.proofs.row.ask_all.Given as goal
 
 -- the row stays what the hub has attached, the first are asked, each was given the replies to its own lines, and no session of an open one was
@@ -15,6 +16,7 @@ invariant-loop-client g l = record {
   steps : List Step;
   asked : HoldsTo (λ c. IsAsked c) l.client-index l.client-items;
   each : EachServed g.S.Duplex.contents steps l.fn.row.items l.client-items;
+  came : AskedTo g.S.Duplex.remaining steps l.client-index l.fn.row.items l.client-items;
   opens : OpenOnlyAsk steps l.client-items;
   makes : Makes steps (hub_of l.fn.ledger) (hub_of l.ledger) (g.L.Log.appended (log_of l.fn.ledger)) (g.L.Log.appended (log_of l.ledger));
 }

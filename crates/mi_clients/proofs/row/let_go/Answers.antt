@@ -9,7 +9,7 @@ use Rattle.mi_clients.specs.Steps.{LeavesOthers}
 use Rattle.mi_clients.specs.declared.client.Client.{Client}
 use Rattle.mi_clients.proofs.StepLemmas.{makes_none, makes_then}
 use Rattle.mi_clients.proofs.RowLemmas.{attends_at, attends_less, holds_none, holds_less, holds_more, holds_all, true_false, HoldsTo}
-use Rattle.mi_clients.proofs.ServedLemmas.{nothing_given, none_join, lets_none, lets_one, opens_none, opens_less}
+use Rattle.mi_clients.proofs.ServedLemmas.{nothing_given, nothing_asked, quiet_join, none_join, lets_none, lets_one, opens_none, opens_less}
 use Rattle.mi_clients.proofs.row.let_go.Goals as goal
 
 -- it isn't to be let go
@@ -24,6 +24,7 @@ row-init g c = record {
   stay = holds_none stays c.args.row.now.items;
   steps = [];
   none = nothing_given;
+  quiet = nothing_asked;
   opens = opens_none c.args.row.now.items;
   makes = makes_none _ _ _ (Keeps-refl _);
 }
@@ -53,6 +54,7 @@ row-preserved-then-is_over g c =
       stay = subst (HoldsTo stays c.row.at) (sym c.remove.ensures.items) (holds_less stays c.row.row.items c.row.at within before.stay);
       steps = before.steps ++ parted.0;
       none = none_join before.steps parted.0 before.none parted.1;
+      quiet = quiet_join before.steps parted.0 before.quiet parted.4;
       opens = subst (OpenOnlyAsk (before.steps ++ parted.0)) (sym c.remove.ensures.items)
           (opens_less before.steps parted.0 c.row.row.items c.row.at client before.attends.differ within
           (subst (λ k. LeavesOthers k parted.0) (ap (λ (x : Client _). x.conn) c.index-then-is_over.ensures) parted.3) before.opens);
@@ -70,6 +72,7 @@ row-preserved g c =
           (λ over. true_false c.is_over.result (c.is_over.ensures.1 over) c.if-is_over.false) before.stay;
       steps = before.steps;
       none = before.none;
+      quiet = before.quiet;
       opens = before.opens;
       makes = before.makes;
     }

@@ -1,6 +1,6 @@
 use Rattle.std.proofs.Common.{◌-◌, List, length}
 use Rattle.mi_ledger.specs.Ledger.{hub_of, log_of, IsSettled}
-use Rattle.mi_clients.specs.Steps.{Step, Makes, GivesNone}
+use Rattle.mi_clients.specs.Steps.{Step, Makes, GivesNone, AsksNone}
 use Rattle.mi_clients.specs.Row.{ids, Attends, LetsGo, OpenOnlyAsk}
 use Rattle.mi_clients.specs.Client.{IsOver}
 use Rattle.mi_clients.proofs.RowLemmas.{HoldsTo}
@@ -15,6 +15,7 @@ invariant-row g l = record {
   stay : HoldsTo (λ c. ¬ IsOver c) l.at l.row.items;
   steps : List Step;
   none : GivesNone steps;
+  quiet : AsksNone steps;
   opens : OpenOnlyAsk steps l.row.items;
   makes : Makes steps (hub_of l.fn.ledger) (hub_of l.ledger) (g.L.Log.appended (log_of l.fn.ledger)) (g.L.Log.appended (log_of l.ledger));
 }

@@ -1,14 +1,15 @@
 -- Nothing is asked, and each connection is sent what it is owed itself.
 use Rattle.std.proofs.Common.{◌<◌, [], length, ◌∙◌, refl, sym, ap, subst, arith}
 use Rattle.std.proofs.KnownBytes.{Keeps-refl, Keeps-trans}
+use Rattle.std.specs.Io.KnownBytes.{Keeps}
 use Rattle.std.specs.Prelude.{slice_set, slice_index_or}
 use Rattle.mi_hub.specs.Run.{HubState}
 use Rattle.mi_ledger.specs.Ledger.{hub_of}
 use Rattle.mi_clients.specs.Client.{IsSent}
-use Rattle.mi_clients.specs.Row.{ids, inputs, Attends, EachServed, EachAsFar}
+use Rattle.mi_clients.specs.Row.{ids, inputs, Attends, EachServed, EachUnread, EachAsFar}
 use Rattle.mi_clients.specs.declared.client.Client.{Client}
 use Rattle.mi_clients.proofs.RowLemmas.{ids_set, inputs_set, holds_none, holds_set}
-use Rattle.mi_clients.proofs.ServedLemmas.{nothing_given, each_none, each_set, each_then, served_then, served_owes, served_sends, sent_all, far_none, far_then, far_set}
+use Rattle.mi_clients.proofs.ServedLemmas.{nothing_given, each_none, each_set, each_then, served_then, served_owes, served_sends, sent_all, far_none, far_then, far_set, unread_none, unread_set}
 use Rattle.mi_clients.proofs.row.send_all.Goals as goal
 
 pub loop-client-init : goal.loop-client-init
@@ -17,6 +18,8 @@ loop-client-init g c = record {
   settled = c.requires.settled;
   sent = holds_none (λ x. IsSent x) _;
   far = subst (EachAsFar c.args.row.now.items) (sym c.deref_mut-client-items.ensures.value) (far_none c.args.row.now.items);
+  unread = subst (EachUnread g.S.Duplex.remaining c.args.row.now.items) (sym c.deref_mut-client-items.ensures.value)
+      (unread_none g.S.Duplex.remaining c.args.row.now.items);
   inputs = ap inputs c.deref_mut-client-items.ensures.value;
   each = subst (EachServed g.S.Duplex.contents [] c.args.row.now.items) (sym c.deref_mut-client-items.ensures.value)
       (each_none g.S.Duplex.contents [] c.args.row.now.items nothing_given);
@@ -47,6 +50,8 @@ loop-client-preserved g c =
           before.sent;
       far = far_set c.args.row.now.items row at c.client-item.result c.send.new.self within
           (far_then old c.release.new.client c.send.new.self c.in_ok-release.ensures.phase c.send.ensures.phase) before.far;
+      unread = unread_set g.S.Duplex.remaining c.args.row.now.items row at c.client-item.result c.send.new.self within
+          (subst (λ s. Keeps (g.S.Duplex.remaining s) (g.S.Duplex.remaining c.send.new.self.stream)) released.stream c.send.ensures.remaining) before.unread;
       inputs = inputs_set row at c.send.new.self c.client-item.result kept ∙ before.inputs;
       each = each_then contents [] [] c.args.row.now.items row (slice_set row at c.send.new.self) before.each set;
       hub = c.release.ensures.hub ∙ before.hub;

@@ -2,7 +2,7 @@ use Rattle.std.proofs.Common.{◌≡◌, []}
 use Rattle.std.specs.Io.KnownBytes.{Keeps}
 use Rattle.mi_ledger.specs.Ledger.{hub_of, log_of, IsSettled}
 use Rattle.mi_clients.specs.Client.{IsSent}
-use Rattle.mi_clients.specs.Row.{ids, inputs, Attends, EachServed, EachAsFar}
+use Rattle.mi_clients.specs.Row.{ids, inputs, Attends, EachServed, EachUnread, EachAsFar}
 use Rattle.mi_clients.proofs.RowLemmas.{HoldsTo}
 use Rattle.mi_clients.proofs.row.send_all.Given as goal
 
@@ -13,6 +13,7 @@ invariant-loop-client g l = record {
   settled : IsSettled g.L.Log.appended g.L.Log.synced l.ledger;
   sent : HoldsTo (λ c. IsSent c) l.client-index l.client-items;
   far : EachAsFar l.fn.row.items l.client-items;
+  unread : EachUnread g.S.Duplex.remaining l.fn.row.items l.client-items;
   inputs : inputs l.client-items ≡ inputs l.fn.row.items;
   each : EachServed g.S.Duplex.contents [] l.fn.row.items l.client-items;
   hub : hub_of l.ledger ≡ hub_of l.fn.ledger;

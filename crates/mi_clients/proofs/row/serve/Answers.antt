@@ -5,7 +5,7 @@ use Rattle.mi_ledger.specs.Ledger.{hub_of}
 use Rattle.mi_clients.specs.Steps.{AreAsks, AreUndos, asked_by}
 use Rattle.mi_clients.proofs.StepLemmas.{makes_then}
 use Rattle.mi_ledger.proofs.JournalLemmas.{on_ok_both}
-use Rattle.mi_clients.proofs.ServedLemmas.{on_ok_all, asked_still, served_read, served_whole, taken_in, asks_others, asks_alone, came_whole, open_before, open_alone}
+use Rattle.mi_clients.proofs.ServedLemmas.{on_ok_all, asked_still, served_read, served_whole, taken_in, asks_others, asks_alone, came_whole, went_on, on_alone, serve_asks_only}
 use Rattle.mi_clients.proofs.row.serve.Goals as goal
 
 pub returns-clause-serves : goal.returns-clause-serves
@@ -30,14 +30,15 @@ returns-clause-serves g c =
       came_whole g.S.Duplex.remaining old read mid last asked.0 asked.1 asked.2 (asked_by old.conn (asked.0 ++ undone.0)) piece.0 piece.1 piece.2 asked.4 asked.7 asked.3 far asked.5 undone.2
           input settled (taken_in old.conn asked.0 undone.0 asked.1 asked.2 own gone),
       asks_others old.conn asked.0 undone.0 asked.1 asked.2 own gone,
-      λ is. asks_alone old.conn asked.0 undone.0 asked.1 asked.2 own (open_alone mid last undone.0 settled undone.4 is),
+      λ on. asks_alone old.conn asked.0 undone.0 asked.1 asked.2 own (on_alone mid last undone.0 settled undone.4 input on),
+      serve_asks_only old.conn asked.0 undone.0 asked.1 asked.2 own gone,
     )) c.settle.ensures.undoes c.settle.ensures.none c.settle.ensures.input
 
-pub returns-clause-opened : goal.returns-clause-opened
-returns-clause-opened g c =
-    on_ok_weaker c.settle.result (λ settled is.
-    c.read.ensures.opened (open_before c.read.new.self c.ask_lines.new.client c.settle.new.client c.in_ok-ask_lines.ensures.phase settled is))
-    c.settle.ensures.none
+pub returns-clause-goes_on : goal.returns-clause-goes_on
+returns-clause-goes_on g c =
+    on_ok_both c.settle.result (λ settled input on.
+    c.read.ensures.goes_on (went_on c.read.new.self c.ask_lines.new.client c.settle.new.client c.in_ok-ask_lines.ensures.asks.1
+    c.in_ok-ask_lines.ensures.asks.4 c.in_ok-ask_lines.ensures.phase settled input on)) c.settle.ensures.none c.settle.ensures.input
 
 pub returns-clause-asked : goal.returns-clause-asked
 returns-clause-asked g c =

@@ -5,7 +5,7 @@ use Rattle.mi_ledger.specs.Ledger.{hub_of}
 use Rattle.mi_ledger.proofs.JournalLemmas.{on_ok_both}
 use Rattle.mi_clients.proofs.StepLemmas.{makes_then, makes_kept}
 use Rattle.mi_clients.specs.Client.{IsSent}
-use Rattle.mi_clients.proofs.ServedLemmas.{serves_each, opens_all, all_left}
+use Rattle.mi_clients.proofs.ServedLemmas.{serves_each, opens_all, all_left, stayers_asked}
 use Rattle.mi_clients.proofs.row.serve_all.Goals as goal
 
 pub returns-clause-serves : goal.returns-clause-serves
@@ -22,7 +22,8 @@ returns-clause-serves g c =
       serves_each contents asked.0 gone.0 a b d e gone.1 asked.1 c.in_ok-ask_all.ensures.asked sent.sends sent.inputs gone.2 stay,
       makes_then asked.0 gone.0 _ (hub_of c.send_all.new.ledger) _ _ _ _
           (makes_kept asked.0 _ (hub_of c.ask_all.new.ledger) _ _ _ _ asked.2 sent.hub sent.appended) gone.3,
-      opens_all contents asked.0 gone.0 b d e sent.sends sent.far asked.3 gone.2 gone.4,
+      opens_all contents asked.0 gone.0 b d e sent.sends sent.far sent.inputs asked.3 gone.2 gone.4,
+      stayers_asked contents g.S.Duplex.remaining asked.0 gone.0 a b d e asked.4 sent.sends asked.1 sent.unread sent.inputs sent.far gone.2 gone.5,
     )) c.let_go.ensures.goes c.let_go.ensures.stay
 
 pub returns-clause-sent : goal.returns-clause-sent

@@ -1,10 +1,14 @@
 use Rattle.std.proofs.Common.{length}
+use Rattle.std.specs.Io.KnownBytes.{Keeps}
 use Rattle.mi_clients.specs.Output.{unsent, Sends}
 use Rattle.mi_clients.proofs.sending.send_out.Given as goal
 
--- no byte is lost
+-- no byte is lost, and none is read
 abbrev pub invariant-out : goal.invariant-out
-invariant-out g l = Sends g.S.Duplex.contents l.fn.stream l.stream (unsent l.fn.output) (unsent l.output)
+invariant-out g l = record {
+  sends : Sends g.S.Duplex.contents l.fn.stream l.stream (unsent l.fn.output) (unsent l.output);
+  remaining : Keeps (g.S.Duplex.remaining l.fn.stream) (g.S.Duplex.remaining l.stream);
+}
 
 abbrev pub decreases-out : goal.decreases-out
 decreases-out g l = length (unsent l.output)

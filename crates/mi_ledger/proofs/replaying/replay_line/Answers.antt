@@ -18,6 +18,15 @@ returns-in-Ok-clause-ok g c =
     (replayed_by c.args.line.now fed.0 said.0 c.args.hub.now c.feed.new.self c.requires.attached c.requires.whole fed.2
     (sym seen ∙ said.1) said.2).0) c.judge.ensures.ok
 
+pub returns-in-Ok-clause-taken : goal.returns-in-Ok-clause-taken
+returns-in-Ok-clause-taken g c =
+    let fed = c.in-Ok.ensures.ok in
+    let none : c.new-writer.result.inner.items ≡ [] = cc in
+    let grown : c.feed.new.writer.inner.items ≡ c.new-writer.result.inner.items ++ fed.0 = fed.1 in
+    let all : c.feed.new.writer.inner.items ≡ fed.0 = grown ∙ ap (λ t. t ++ fed.0) none in
+    let seen : c.as_slice.result.now ≡ fed.0 = cc in
+    on_ok_weaker c.judge.result (λ said. (fed.0, fed.2, subst (λ t. IsTaken t) seen said)) c.judge.ensures.ok
+
 pub returns-in-Ok-clause-still : goal.returns-in-Ok-clause-still
 returns-in-Ok-clause-still g c =
     let fed = c.in-Ok.ensures.ok in

@@ -2,8 +2,9 @@
 use Rattle.std.proofs.Common.{◌++◌, []}
 use Rattle.std.proofs.KnownBytes.{Keeps-refl}
 use Rattle.mi_ledger.specs.Ledger.{hub_of}
+use Rattle.mi_clients.specs.Row.{ids}
 use Rattle.mi_clients.proofs.StepLemmas.{makes_none, makes_then}
-use Rattle.mi_clients.proofs.ServedLemmas.{nothing_given, none_join, joins_none, joins_then}
+use Rattle.mi_clients.proofs.ServedLemmas.{nothing_given, none_join, joins_none, joins_then, only_none, all_only_then, only_before}
 use Rattle.mi_serving.proofs.service.accept_all.Goals as goal
 
 pub places-init : goal.places-init
@@ -13,6 +14,7 @@ places-init g c = record {
   steps = [];
   none = nothing_given;
   joins = joins_none c.args.row.now.items;
+  only = only_none (ids c.args.row.now.items);
   makes = makes_none _ _ _ (Keeps-refl _);
 }
 
@@ -25,5 +27,7 @@ places-preserved g c =
       steps = before.steps ++ one.0;
       none = none_join before.steps one.0 before.none one.1;
       joins = joins_then c.args.row.now.items c.places.row.items c.accept_one.new.row.items before.joins one.2;
+      only = all_only_then before.steps one.0 (ids c.args.row.now.items) before.only
+          (only_before one.0 c.args.row.now.items c.places.row.items before.joins one.4);
       makes = makes_then before.steps one.0 _ (hub_of c.places.ledger) _ _ _ _ before.makes one.3;
     }

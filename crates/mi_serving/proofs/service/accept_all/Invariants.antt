@@ -1,7 +1,7 @@
 use Rattle.std.proofs.Common.{List}
 use Rattle.mi_ledger.specs.Ledger.{hub_of, log_of, IsSettled}
 use Rattle.mi_clients.specs.Steps.{Step, Makes, GivesNone}
-use Rattle.mi_clients.specs.Row.{ids, Attends, Joins}
+use Rattle.mi_clients.specs.Row.{ids, Attends, Joins, AllOnlyAsk}
 use Rattle.mi_serving.proofs.service.accept_all.Given as goal
 
 -- the row stays what the hub has attached, and those that were there stay as they are
@@ -12,5 +12,6 @@ invariant-places g l = record {
   steps : List Step;
   none : GivesNone steps;
   joins : Joins l.fn.row.items l.row.items;
+  only : AllOnlyAsk steps (ids l.fn.row.items);
   makes : Makes steps (hub_of l.fn.ledger) (hub_of l.ledger) (g.L.Log.appended (log_of l.fn.ledger)) (g.L.Log.appended (log_of l.ledger));
 }

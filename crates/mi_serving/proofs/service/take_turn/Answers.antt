@@ -3,7 +3,7 @@ use Rattle.std.proofs.Common.{◌++◌, None}
 use Rattle.std.proofs.lemmas.Result.{on_ok_weaker}
 use Rattle.mi_ledger.specs.Ledger.{hub_of}
 use Rattle.mi_clients.proofs.StepLemmas.{makes_then}
-use Rattle.mi_clients.proofs.ServedLemmas.{serves_joined}
+use Rattle.mi_clients.proofs.ServedLemmas.{serves_joined, stayers_ask}
 use Rattle.mi_serving.proofs.service.take_turn.Goals as goal
 
 pub returns-clause-serves : goal.returns-clause-serves
@@ -13,4 +13,5 @@ returns-clause-serves g c =
       came.0 ++ served.0,
       serves_joined (λ _. None) came.0 served.0 c.args.row.now.items c.accept_all.new.row.items c.serve_all.new.row.items came.1 came.2 served.1,
       makes_then came.0 served.0 _ (hub_of c.accept_all.new.ledger) _ _ _ _ came.3 served.2,
+      stayers_ask came.0 served.0 c.args.row.now.items c.serve_all.new.row.items came.4 served.3,
     )) c.serve_all.ensures.serves
