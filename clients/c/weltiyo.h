@@ -63,8 +63,8 @@ size_t weltiyo_ask(weltiyo_db *handle, uint64_t connection, const void *line, si
 /* ---- The same commands with values in place of a line: no JSON is read or written.
 
    A table is named by its number in the order of the schema, from 0 on, and so is a column. Of the indexes the one of ids has the number 0, and
-   those of the schema follow from 1 on. A call answers what the line of its command answers to the same connection, and leaves what it leaves.
-   The reply to the last line stays. */
+   those of the schema follow from 1 on. A call answers what the line of its command answers to the same connection, and leaves what it leaves; but
+   that a line has 65,536 bytes at most, which a row of many texts may pass once it is written as JSON. The reply to the last line stays. */
 
 /* What a value is. */
 enum { WELTIYO_INT = 0, WELTIYO_TEXT = 1, WELTIYO_FALSE = 2, WELTIYO_TRUE = 3 };
