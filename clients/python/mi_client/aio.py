@@ -49,12 +49,12 @@ class AsyncDatabase:
         writer: asyncio.StreamWriter,
         process: Optional[asyncio.subprocess.Process] = None,
         schema: Optional[Schema] = None,
-        window: int = WINDOW,
+        places: Optional[Places] = None,
     ) -> None:
         """Use `connect` or `start`."""
         self._reader, self._writer, self._process = reader, writer, process
         self._dialect = Dialect(schema)
-        self._window = Places(window)
+        self._window = places or Places(WINDOW)
         self._awaited: Deque[asyncio.Future[bytes]] = collections.deque()
         self._blocks: List[object] = []  # (of the open sessions, the innermost last)
         self._ended = asyncio.Event()  # (a moment, at which those who wait for a block look again)
@@ -67,7 +67,7 @@ class AsyncDatabase:
     ) -> AsyncDatabase:
         """A connection to a server that listens on this port of 127.0.0.1, or does so within `wait` seconds; else OSError is
         raised. At most `window` replies are awaited at a time."""
-        read = Schema.of(schema)
+        read, places = Schema.of(schema), Places(window)
         end = time.monotonic() + wait
         while True:
             try:
@@ -81,18 +81,19 @@ class AsyncDatabase:
                     raise
                 await asyncio.sleep(0.02)
         writer.get_extra_info("socket").setsockopt(socket.IPPROTO_TCP, socket.TCP_NODELAY, 1)
-        return cls(reader, writer, None, read, window)
+        return cls(reader, writer, None, read, places)
 
     @classmethod
     async def start(
         cls, program: Union[str, os.PathLike[str]], schema: Union[None, str, os.PathLike[str]] = None, window: int = WINDOW
     ) -> AsyncDatabase:
         """A server of its own. Raises OSError where there is no such program, and Ended with its words where it ends at once."""
+        places = Places(window)
         words = [os.fspath(program)] + (["--schema", os.fspath(schema)] if schema is not None else [])
         pipe = asyncio.subprocess.PIPE
         process = await asyncio.create_subprocess_exec(*words, stdin=pipe, stdout=pipe, stderr=pipe, start_new_session=True)
         assert process.stdin and process.stdout
-        made = cls(process.stdout, process.stdin, process, None, window)
+        made = cls(process.stdout, process.stdin, process, None, places)
         try:
             await made.revision()
             made._dialect.schema = schema_of(schema)

@@ -6,9 +6,11 @@ from typing import Any, Deque
 
 class Places:
     """At most so many at once, in the order in which they come. (A semaphore of Python 3.9 loses a place where the one that waits
-    for it is cancelled just as it gets it.)"""
+    for it is cancelled just as it gets it.) Raises ValueError where that is none."""
 
     def __init__(self, places: int) -> None:
+        if places < 1:
+            raise ValueError("a window has room for one line at least")
         self._places = places
         self._waiting: Deque[asyncio.Future[None]] = collections.deque()
 

@@ -81,12 +81,12 @@ def read_json_lines(file: IO[bytes], name: str, table: Optional[str]) -> Iterato
             continue
         try:
             found = json.loads(line)
-        except ValueError as error:
+        except (ValueError, RecursionError) as error:
             raise Faulty(f"{name}:{n}: no JSON: {error}") from None
         if not isinstance(found, dict):
             raise Faulty(f"{name}:{n}: a row is an object")
         row = found.get("row")
-        if isinstance(row, dict) and set(found) <= {"row", "id", "table"}:
+        if isinstance(row, dict) and set(found) <= {"row", "id", "table"} and isinstance(found.get("table", ""), str):
             yield Item(f"{name}:{n}", table or found.get("table"), found.get("id"), row, done)
         else:
             yield Item(f"{name}:{n}", table, found.get("id"), {it: value for it, value in found.items() if it != "id"}, done)
@@ -107,7 +107,15 @@ def whole_lines(path: str) -> List[Any]:
         whole = tail.rfind(b"\n") + 1
         file.truncate(at + whole)
     lines = tail[:whole].splitlines()
-    return [json.loads(lines[-1])] if lines else []
+    if not lines:
+        return []
+    try:
+        found = json.loads(lines[-1])
+    except (ValueError, RecursionError):
+        found = None
+    if not isinstance(found, dict) or not isinstance(found.get("id"), int):
+        raise Faulty(f"{path}: its last line is no row of a dump, so it isn't gone on with")
+    return [found]
 
 
 # CSV

@@ -214,7 +214,7 @@ def ran(name: str, options: argparse.Namespace, work: Callable[[Database, argpar
         print(f"weltiyo {name}: {error}", file=sys.stderr)
         return 1
     except KeyboardInterrupt:
-        print(f"weltiyo {name}: interrupted; --resume goes on", file=sys.stderr)
+        print(f"weltiyo {name}: interrupted" + ("; --resume goes on" if hasattr(options, "resume") else ""), file=sys.stderr)
         return 130
 
 

@@ -198,6 +198,19 @@ class Files(unittest.TestCase):
             with open(path, encoding="utf-8") as file:
                 self.assertEqual(file.read(), "before", words)
 
+    def test_files_that_hold_something_else(self) -> None:
+        db, path = kit.start(self, TWO), kit.written(self, "[1]\n", "rows.jsonl")
+        with self.assertRaisesRegex(rowfiles.Faulty, "no row of a dump"):
+            transfer.dump(db, Namespace(file=path, table=None, order="id", resume=True))
+        for text in ("[" * 200_000 + "\n", '{"row":{"item":0},"table":["sale"]}\n'):
+            with self.assertRaises((rowfiles.Faulty, transfer.Stopped)):
+                path = kit.written(self, text, "rows.jsonl")
+                transfer.load(db, Namespace(file=path, format=None, table=None, resume=False, keep_going=False))
+
+    def test_a_window_of_none(self) -> None:
+        with self.assertRaisesRegex(ValueError, "room for one line"):
+            asyncio.run(AsyncDatabase.start(kit.program(), window=0))
+
     def test_all_tables_or_none(self) -> None:
         path = f"{kit.folder(self)}/out.jsonl"
         with Server(kit.program(), schema=kit.written(self, TWO)) as server, Database.connect(server.port, wait=10) as db:
