@@ -91,6 +91,8 @@ class Member:
         self._schema, self._header = "", b""
         self._tail: List[Tuple[int, bytes]] = []
         self._tail_bytes = 0
+        self._before: Tuple[Front, List[Tuple[int, bytes]]] = (self._front, [])
+        """The same of an earlier server, which had them up to here: etcd may have lost them since."""
         self._checkpoint: Optional[Checkpoint] = None
         """One that it has loaded or written, so one that others may count on."""
         self._writing: Optional["asyncio.Future[None]"] = None
@@ -117,20 +119,28 @@ class Member:
             raise OtherSchema(f"{self._settings.name} belongs to the schema {found}, and this one is {self._schema}")
         self._folder = Folder(self._settings.folder or self._temporary.name, self._settings.name, self._log.identity)
         self._had = self._log.begin()
-        while True:
-            own = own_of(self._settings.program, self._settings.schema, self._settings.body)
-            try:
-                await self._once(own)
-            except (Lost, Gone, Diverged, Damaged, Rejected, ValueError) as error:
-                note(f"begins anew: {type(error).__name__}: {error}")
-                await asyncio.sleep(0 if isinstance(error, Lost) else PAUSE_SECONDS)
-            except Behind as behind:
-                note(f"takes a checkpoint: {behind}")
-                await self._fetch(behind.first)
-            finally:
-                self._role, self._leader = "starting", ""
-                self._clients.cut_all()
-                await own.close()
+        try:
+            while True:
+                await self._begin()
+        except OtherLedger:
+            await self._save()
+            raise
+
+    async def _begin(self) -> None:
+        """With a fresh server, until that has to begin anew."""
+        own = own_of(self._settings.program, self._settings.schema, self._settings.body)
+        try:
+            await self._once(own)
+        except (Lost, Gone, Diverged, Damaged, Rejected, ValueError) as error:
+            note(f"begins anew: {type(error).__name__}: {error}")
+            await asyncio.sleep(0 if isinstance(error, Lost) else PAUSE_SECONDS)
+        except Behind as behind:
+            note(f"takes a checkpoint: {behind}")
+            await self._fetch(behind.first)
+        finally:
+            self._role, self._leader = "starting", ""
+            self._clients.cut_all()
+            await own.close()
 
     async def _once(self, own: Own) -> None:
         """From a fresh server to the end of a term."""
@@ -164,6 +174,8 @@ class Member:
         fresh = json.loads((await own.ask([REVISION]))[0])
         self._header = self._header or header(fresh["revision"], self._schema)
         newest = self._folder.newest()
+        if self._tail and self._front.number > self._before[0].number:
+            self._before = (self._front, self._tail)
         self._tail, self._tail_bytes, self._checkpoint, self._damage = [], 0, None, None
         if not newest:
             return self._log.begin()
@@ -255,6 +267,20 @@ class Member:
                 note(f"no checkpoint, and {self._tail_bytes} bytes that wait for one in memory; the next is tried in {REST_SECONDS:.0f} s: {error}")
         finally:
             self._writing = None
+
+    async def _save(self) -> None:
+        """Writes a last checkpoint, of all that one of its servers has had: etcd has lost that, or may have."""
+        if self._writing:
+            await asyncio.wait([self._writing])
+        front, entries = max((self._front, self._tail), self._before, key=lambda it: it[0].number)
+        newest = self._folder.newest()
+        if not self._settings.folder or not entries or newest and newest.front.number >= front.number:
+            return
+        try:
+            made = await asyncio.get_running_loop().run_in_executor(None, self._folder.write, front, self._header, entries)
+            note(f"what it has had of the log is in {made.path}")
+        except (OSError, Damaged) as error:
+            note(f"no last checkpoint up to entry {front.number}: {error}")
 
     async def _is_elsewhere(self) -> bool:
         """Whether there is what it has without its checkpoint and its server: in the log, or in another member's checkpoint."""

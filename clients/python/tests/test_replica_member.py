@@ -65,15 +65,24 @@ class Ledgers(Test):
         self.play(act)
 
     def test_a_leader_whose_log_was_put_back_ends(self) -> None:
-        """Without any checkpoint: it knows up to where it has had the log."""
+        """Without any checkpoint: it knows up to where it has had the log, and what was acknowledged is in its last one. So where it was begun
+        anew, and had the lines of an earlier server."""
         async def act() -> None:
-            async with self.running(checkpoint=1 << 20) as it:
-                await it.insert(b"a", b"b", b"c")
-                self.etcd.put_back("led", 2)
-                with contextlib.suppress(ValueError):  # (it cuts the connection without a reply)
-                    await it.ask(INSERT % b"d")
-                with self.assertRaisesRegex(OtherLedger, "ends before entry 3"):
-                    await asyncio.wait_for(asyncio.shield(it.task), LONG)
+            for is_anew in (False, True):
+                folder = kit.folder(self)
+                async with self.running(folder, checkpoint=1 << 20) as it:
+                    await it.insert(b"a", b"b", b"c")
+                    if is_anew:
+                        self.etcd.wipe()
+                    else:
+                        self.etcd.put_back("led", 2)
+                    with contextlib.suppress(ValueError):  # (it cuts the connection without a reply)
+                        await it.ask(INSERT % b"d")
+                    with self.assertRaisesRegex(OtherLedger, "was begun anew" if is_anew else "ends before entry 3"):
+                        await asyncio.wait_for(asyncio.shield(it.task), LONG)
+                    self.assertEqual(it.member._folder.newest(), (it.member._had, *(it.member._folder.newest() or ())[1:]))
+                self.assertEqual(lines_in(folder), [INSERT % owner for owner in (b"a", b"b", b"c")])
+                self.etcd.wipe()
 
         self.play(act)
 
