@@ -3,3 +3,4 @@ pub mod RowLemmas
 pub mod ServedLemmas
 mod InputLemmas
 mod UndoneLemmas
+mod HoldingLemmas

@@ -5,3 +5,4 @@ pub mod Input
 pub mod Output
 pub mod Client
 pub mod Row
+pub mod Laws

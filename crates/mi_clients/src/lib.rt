@@ -7,6 +7,7 @@ mod asking;
 mod client;
 mod duplex;
 mod input;
+pub mod laws;
 mod lines;
 mod output;
 mod row;

@@ -1,6 +1,6 @@
 -- A journal's lines, one after another.
-use Rattle.std.proofs.Common.{◌≡◌, ◌≢◌, ℕ, ◌+◌, ◌-◌, ◌<◌, List, [], ◌∷◌, ◌++◌, length, take, drop, get_or, Bool, true, false, ◌&&◌, nat_eq, nat_lt}
-use Rattle.std.proofs.Common.{Option, Some, None, refl, sym, ap, ◌∙◌, subst, arith, append_assoc, append-nil}
+use Rattle.std.proofs.Common.{◌≡◌, ◌≢◌, ℕ, zero, suc, ◌≤◌, ◌+◌, ◌-◌, ◌<◌, List, [], ◌∷◌, ◌++◌, length, take, drop, get_or, Bool, true, false, ◌&&◌, nat_eq, nat_lt}
+use Rattle.std.proofs.Common.{Option, Some, None, Result, Err, refl, sym, ap, ◌∙◌, subst, arith, append_assoc, append-nil}
 use Rattle.std.proofs.lemmas.List.{drop_all, drop-drop, get_or-take, length-take}
 use Rattle.std.proofs.lemmas.List.Elements.{All-get_or}
 use Rattle.std.specs.Prelude.{IfSome}
@@ -15,7 +15,9 @@ use Rattle.mi_hub.specs.Lines.{lines_of, rest_of, lines_from}
 use Rattle.mi_hub.proofs.LineLemmas.{lines_from-nothing, from_unended, from_rests, unended_all, parts_at, after-at}
 use Rattle.mi_replay.specs.Replayed.{replayer, replayed}
 use Rattle.mi_ledger.specs.Journals.{IsWholeLine}
-use Rattle.mi_ledger.specs.Replay.{Onward, IsTorn}
+use Rattle.mi_ledger.specs.declared.replaying.ReplayFault.{ReplayFault}
+use Rattle.mi_ledger.specs.declared.replaying.ReplayFault.TheVariants.{Damaged}
+use Rattle.mi_ledger.specs.Replay.{Onward, Passes, HasPassed, IsTorn}
 use Rattle.mi_ledger.proofs.JournalLemmas.{whole_line}
 
 both_true : (a b : Bool) → (a && b) ≡ true → (a ≡ true) × (b ≡ true)
@@ -76,6 +78,44 @@ onward_more None b c s t u p q = tt
 onward_more (Some all) None c s t u p q = absurd p
 onward_more (Some all) (Some mid) None s t u p q = absurd q
 onward_more (Some all) (Some mid) (Some left) s t u p q = (q.0 ∙ p.0, q.1 ∙ p.1)
+
+-- ---- how many lines were read
+
+pub passed_none : (o : Option (List ℕ)) → HasPassed 0 o o
+passed_none None = tt
+passed_none (Some all) = refl
+
+pub passed_one : (a b : Option (List ℕ)) (line : List ℕ) → Consumes a b line → IsWholeLine line → HasPassed 1 a b
+passed_one None b line c whole = tt
+passed_one (Some all) None line c whole = absurd c
+passed_one (Some all) (Some left) line c whole = (line, left, whole, c, refl)
+
+passes_then : (n : ℕ) (all mid left : List ℕ) → Passes n all mid → Passes 1 mid left → Passes (suc n) all left
+passes_then zero all mid left p q = (q.0, q.1, q.2, sym p ∙ q.3, q.4)
+passes_then (suc n) all mid left p q = (p.0, p.1, p.2, p.3, passes_then n p.1 mid left p.4 q)
+
+passed_then : (n : ℕ) (a b c : Option (List ℕ)) → HasPassed n a b → HasPassed 1 b c → HasPassed (suc n) a c
+passed_then n None b c p q = tt
+passed_then n (Some all) None c p q = absurd p
+passed_then n (Some all) (Some mid) None p q = absurd q
+passed_then n (Some all) (Some mid) (Some left) p q = passes_then n all mid left p q
+
+-- the line of this number is read, of which the first behind the header is the second
+pub passed_more : (number : ℕ) (a b c : Option (List ℕ)) → 2 ≤ number → HasPassed (number - 2) a b → HasPassed 1 b c → HasPassed (number - 1) a c
+passed_more number a b c first p q =
+    let next : suc (number - 2) ≡ number - 1 = omega (arith, first) in subst (λ n. HasPassed n a c) next (passed_then (number - 2) a b c p q)
+
+-- a fault that is passed on is the same
+same_err : {T : Type 0} (y z : ReplayFault) → ◌≡◌ {A = Result T ReplayFault} (Err y) (Err z) → y ≡ z
+same_err y z h = cc
+
+pub damaged_as : {T : Type 0} (r : Result T ReplayFault) (y e : ReplayFault) (k : ℕ) → r ≡ Err y → y ≡ e → r ≡ Err (Damaged k)
+    → ◌≡◌ {A = Result Bool ReplayFault} (Err e) (Err (Damaged k))
+damaged_as r y e k h same is = ap Err (sym same ∙ same_err y (Damaged k) (sym h ∙ is))
+
+-- the number of a damaged line is told as it is
+pub damaged_same : (n k : ℕ) → ◌≡◌ {A = Result Bool ReplayFault} (Err (Damaged n)) (Err (Damaged k)) → k ≡ n
+damaged_same n k h = cc
 
 -- ---- the end
 

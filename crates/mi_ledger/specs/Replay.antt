@@ -1,5 +1,5 @@
 -- How far a replay has come: of "start⏎undo⏎st" the first line is asked, and "undo⏎st" is left; then the second, and "st" is torn.
-use Rattle.std.specs.Prelude.{◌≡◌, ◌⊎◌, ℕ, List, [], ◌∷◌, ◌++◌, false, ⊤, Option, Some, None}
+use Rattle.std.specs.Prelude.{◌≡◌, ◌⊎◌, ℕ, zero, suc, List, [], ◌∷◌, ◌++◌, false, ⊤, Option, Some, None}
 use Rattle.mi_commands.specs.Holder.{HeldDatabase, is_busy}
 use Rattle.mi_hub.specs.Ended.{after_newlines}
 use Rattle.mi_hub.specs.Lines.{lines_of}
@@ -13,6 +13,17 @@ abbrev pub Onward : Option (List ℕ) → Option (List ℕ) → HeldDatabase →
 Onward None later s t = ⊤
 Onward (Some all) None s t = ⊥
 Onward (Some all) (Some left) s t = (replayed (lines_of left) t ≡ replayed (lines_of all) s) × (after_newlines left ≡ after_newlines all)
+
+-- so many whole lines stand in front of what is left of these bytes
+abbrev pub Passes : ℕ → List ℕ → List ℕ → Type 0
+Passes zero all left = left ≡ all
+Passes (suc n) all left = (line : List ℕ) × (later : List ℕ) × IsWholeLine line × (all ≡ line ++ later) × Passes n later left
+
+-- the same of what a reader had left and has, where it tells
+abbrev pub HasPassed : ℕ → Option (List ℕ) → Option (List ℕ) → Type 0
+HasPassed n None later = ⊤
+HasPassed n (Some all) None = ⊥
+HasPassed n (Some all) (Some left) = Passes n all left
 
 -- no line ends in these bytes, and all of them stand behind the last newline
 abbrev pub IsTorn : List ℕ → List ℕ → Type 0

@@ -1,8 +1,8 @@
 //! A line of a journal, asked again of a hub that nobody else asks.
-ghost use Rattle.std.specs.Prelude.{◌≡◌, ◌⊎◌, ℕ, List, [], Some, Ok, Err, true, false, OnOk, IfSome};
+ghost use Rattle.std.specs.Prelude.{◌≡◌, ◌-◌, ◌⊎◌, ℕ, List, [], Some, Ok, Err, true, false, OnOk, IfSome};
 ghost use Rattle.mi_log.specs.LogLines.{reader_of, line_of};
 ghost use Rattle.mi_hub.specs.Ended.{after_newlines};
-ghost use Rattle.mi_ledger.specs.Replay.{Onward, IsTorn, IsForMemory};
+ghost use Rattle.mi_ledger.specs.Replay.{Onward, HasPassed, IsTorn, IsForMemory};
 ghost use Rattle.mi_hub.specs.Connections.{rest_at};
 ghost use Rattle.mi_hub.specs.Lines.{lines_of};
 ghost use Rattle.mi_replay.specs.Replayed.{replayer, replayed};
@@ -95,6 +95,9 @@ fn replay_next<D: Sessions + Drop, R: BufRead>(
 ) -> Result<bool, ReplayFault>
     requires { rest_at replayer hub.old.attached ≡ Some (Some []) }
     ensures more { result ≡ Ok true → Onward (R.remaining (reader_of lines.old)) (R.remaining (reader_of lines.new)) hub.old.held hub.new.held }
+    ensures passed { result ≡ Ok true → HasPassed 1 (R.remaining (reader_of lines.old)) (R.remaining (reader_of lines.new)) }
+    ensures damaged { (k : ℕ) → result ≡ Err (ReplayFault.Damaged k)
+        → (k ≡ number) × HasPassed 1 (R.remaining (reader_of lines.old)) (R.remaining (reader_of lines.new)) }
     ensures end { result ≡ Ok false → (hub.new ≡ hub.old)
         × IfSome (R.remaining (reader_of lines.old)) (λ bytes. IsTorn bytes (line_of lines.new)) }
     ensures still { OnOk result (rest_at replayer hub.new.attached ≡ Some (Some [])) }
@@ -112,7 +115,7 @@ fn replay_next<D: Sessions + Drop, R: BufRead>(
 }
 
 /// Asks a hub all whole lines that a reader has left behind a journal's header, as the one connection that asks them, which is attached. What
-/// stands behind the last newline isn't asked; it is `line` of the reader then.
+/// stands behind the last newline isn't asked; it is `line` of the reader then. Where a line is damaged, it is the last that was read.
 pub fn replay<D: Sessions + Drop, R: BufRead>(
     alloc: Global,
     hub: &mut Hub<D>,
@@ -121,14 +124,17 @@ pub fn replay<D: Sessions + Drop, R: BufRead>(
     requires { rest_at replayer hub.old.attached ≡ Some (Some []) }
     ensures ok { OnOk result (IfSome (R.remaining (reader_of lines.old)) (λ bytes. hub.new.held ≡ replayed (lines_of bytes) hub.old.held)) }
     ensures torn { OnOk result (IfSome (R.remaining (reader_of lines.old)) (λ bytes. line_of lines.new ≡ after_newlines bytes)) }
+    ensures damaged { (k : ℕ) → result ≡ Err (ReplayFault.Damaged k)
+        → HasPassed (k - 1) (R.remaining (reader_of lines.old)) (R.remaining (reader_of lines.new)) }
     ensures still { OnOk result (rest_at replayer hub.new.attached ≡ Some (Some [])) }
     ensures attached { OnOk result (hub.new.attached ≡ hub.old.attached) }
 {
-    'lines: for before in 1..u64::MAX {
-        if replay_next(alloc, hub, lines, before + 1)? {
-            continue 'lines;
+    let mut number = 2u64;
+    'lines: while number < u64::MAX {
+        if !replay_next(alloc, hub, lines, number)? {
+            return Ok(());
         }
-        return Ok(());
+        number += 1;
     }
     Err(ReplayFault::Turns)
 }
