@@ -272,7 +272,7 @@ test("whole numbers are exact", () =>
 
 test("what would be sent as something else isn't sent", () =>
   withDatabase(async (db) => {
-    for (const n of [2 ** 60, -(2 ** 53), NaN, Infinity]) await assert.rejects(db.insert(account("ann", n)), TypeError);
+    for (const n of [2 ** 60, -(2 ** 53), 1e21, -1e300, NaN, Infinity]) await assert.rejects(db.insert(account("ann", n)), TypeError);
     await assert.rejects(db.modify(0, { add: { balance: 2 ** 60 }, set: { owner: "a", vip: true, other: 5n } }), TypeError);
     const ids = [await db.insert(account("ann", 2n ** 60n)), await db.insert(account("bob", 2 ** 53 - 1)), await db.insert(account("1234567890123456 null", 0))];
     await assert.rejects(db.relocate("line", ids[0], { before: NaN }), TypeError);

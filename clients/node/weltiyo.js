@@ -78,7 +78,7 @@ function lineOf(cmd, members) {
 }
 
 /** What may stand in a line for a number that JSON.stringify writes as another one. */
-const INEXACT = /\d{16}|null/;
+const INEXACT = /\d{16}|null|e\+/;
 
 /** Throws where a value has a number that is sent as another one: whole and beyond 2^53, or none (which would be sent as null). */
 function refuseInexact(value) {

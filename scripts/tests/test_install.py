@@ -63,7 +63,7 @@ class Installed(unittest.TestCase):
         self.assertEqual(self.ran(f"{self.top}/prompt", asked='{"cmd":"size"}\n').stdout, '{"ok":true,"size":0}\n')
 
     def test_the_scripts_have_what_they_import(self):
-        for name in os.listdir(f"{self.root}/share/weltiyo/scripts"):
+        for name in sorted(it for it in os.listdir(f"{self.root}/share/weltiyo/scripts") if it.endswith(".py")):
             said = self.ran(sys.executable, "-c", f"import {name[:-3]}", cwd=f"{self.root}/share/weltiyo/scripts")
             self.assertEqual((said.returncode, said.stderr), (0, ""), name)
 

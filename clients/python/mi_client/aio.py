@@ -250,8 +250,8 @@ class AsyncDatabase:
     async def session(self) -> AsyncIterator[int]:
         """A session for a block, which gets its number: undone where the block raises, else squashed, as far as the connection
         still holds it. The tasks that the block makes ask within it, and open blocks in it one after another; others that
-        share the connection wait until it has ended. Where it is cancelled while it begins or ends, the connection ends too,
-        so that the server undoes it."""
+        share the connection wait until it has ended. Where it is cancelled while it begins or ends, or ends before one that
+        began later, as a generator's can, the connection ends too, so that the server undoes it."""
         await self._turn()
         mine = object()
         self._blocks.append(mine)

@@ -59,7 +59,7 @@ class Database(Walks):
         while True:
             try:
                 stream = socket.create_connection((host, port), timeout=timeout)
-                if stream.getsockname() == stream.getpeername():
+                if joins_itself(stream):
                     stream.close()  # (where nobody listens the system may have chosen this very port, and joined the two ends)
                     raise ConnectionRefusedError(errno.ECONNREFUSED, os.strerror(errno.ECONNREFUSED))
                 break
@@ -287,6 +287,13 @@ class _Unbroken:
             raise Ended(self._db._closed_for or self._db._why(error)) from error
         if error is not None:
             self._db.close()
+
+
+def joins_itself(stream: socket.socket) -> bool:
+    """Whether a connection's two ends are one. Not of one that has broken off by now, which the first command tells."""
+    with contextlib.suppress(OSError):
+        return bool(stream.getsockname() == stream.getpeername())
+    return False
 
 
 def schema_of(path: Union[None, str, os.PathLike[str]]) -> Optional[Schema]:

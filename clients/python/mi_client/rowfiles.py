@@ -105,17 +105,20 @@ def whole_lines(path: str) -> List[Any]:
             file.seek(at)
             tail = file.read(size - at)
         whole = tail.rfind(b"\n") + 1
+        found = [dumped(it, path) for it in tail[:whole].splitlines()[-1:]]
         file.truncate(at + whole)
-    lines = tail[:whole].splitlines()
-    if not lines:
-        return []
+    return found
+
+
+def dumped(line: bytes, path: str) -> Any:
+    """The value of a line of a dump. Raises Faulty where it is none."""
     try:
-        found = json.loads(lines[-1])
+        found = json.loads(line)
     except (ValueError, RecursionError):
         found = None
     if not isinstance(found, dict) or not isinstance(found.get("id"), int):
         raise Faulty(f"{path}: its last line is no row of a dump, so it isn't gone on with")
-    return [found]
+    return found
 
 
 # CSV

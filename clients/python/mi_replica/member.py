@@ -243,11 +243,11 @@ class Member:
         """An entry that the own server has and the log too. Raises Damaged where the last checkpoint turned out to be that."""
         self._front = front
         self._had = max(self._had, front)
-        if self._damage:
-            raise self._damage
         if self._settings.folder:
             self._tail.append((front.number, lines))
             self._tail_bytes += len(lines)
+            if self._damage:  # (behind that: a last checkpoint up to here has this entry too)
+                raise self._damage
             if self._tail_bytes >= self._settings.checkpoint and not self._writing and clock() >= self._rests_until:
                 self._writing = asyncio.ensure_future(self._write())
 

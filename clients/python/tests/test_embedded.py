@@ -250,9 +250,13 @@ class InTheMiddle:
 
 
 class Closing(unittest.TestCase):
+    def setUp(self):
+        # (skips the test here, on its own thread, where there is neither a library nor a compiler)
+        self.library = library() or f"{kit.stand_in()}/libweltiyo.so"
+
     def opened(self):
         """A connection, another one to the same tables, and the calls that they make."""
-        db = Embedded.open(library_file=library() or f"{kit.stand_in()}/libweltiyo.so")
+        db = Embedded.open(library_file=self.library)
         engine = db._lines.engine
         engine._calls = Watched(engine._calls)
         return db, db.another(), engine._calls

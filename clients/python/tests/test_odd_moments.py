@@ -199,9 +199,11 @@ class Files(unittest.TestCase):
                 self.assertEqual(file.read(), "before", words)
 
     def test_files_that_hold_something_else(self) -> None:
-        db, path = kit.start(self, TWO), kit.written(self, "[1]\n", "rows.jsonl")
+        db, path = kit.start(self, TWO), kit.written(self, "[1]\nlast words", "rows.jsonl")
         with self.assertRaisesRegex(rowfiles.Faulty, "no row of a dump"):
             transfer.dump(db, Namespace(file=path, table=None, order="id", resume=True))
+        with open(path, encoding="utf-8") as file:
+            self.assertEqual(file.read(), "[1]\nlast words")
         for text in ("[" * 200_000 + "\n", '{"row":{"item":0},"table":["sale"]}\n'):
             with self.assertRaises((rowfiles.Faulty, transfer.Stopped)):
                 path = kit.written(self, text, "rows.jsonl")

@@ -7,6 +7,7 @@ import unittest
 from typing import Any, Awaitable, Callable, List, Tuple
 from unittest import mock
 
+import kit  # noqa: F401 (which finds the members)
 from fake_etcd import FakeEtcd, Way, etcds
 from mi_replica import cli
 from mi_replica.clients import Clients

@@ -211,14 +211,16 @@ class Others(Test):
                 passes = lost.cut()
                 self.etcd.put_back("led", 2)
                 del self.etcd.keys[b"led/leader"]
-                async with self.running(kit.folder(self)) as other:
+                # (which has none to give until the sixth entry, so the one that is lost is asked first)
+                async with self.running(kit.folder(self), checkpoint=6 * len(INSERT % b"x")) as other:
                     await other.insert(b"x", b"y", b"z")
                     await self.forget(other, 3)
                     async with self.running(kit.folder(self)) as it:
                         while not any("go on from its checkpoint up to entry 4" in text for text in self.notes):
                             await asyncio.sleep(0.02)
-                        await other.has_told(5)
-                        while it.member._front.number != 5:
+                        await other.insert(b"w")
+                        await other.has_told(6)
+                        while it.member._front.number != 6:
                             await asyncio.sleep(0.02)
                 passes.set()
 

@@ -42,7 +42,7 @@ IsWith Nothing attached = attached ≡ []
 IsWith (Journal torn) attached = attached ≡ fresh replayer ∷ []
 
 -- A hub with this state goes on with its journal, and has that. Where there was a journal, the sessions are undone that the connection which
--- replayed it holds, and no other.
+-- replayed it holds, and no other, where whoever holds sessions holds one at least.
 abbrev pub IsResumed : Journaled → HeldDatabase → HeldDatabase → Type 0
 IsResumed Nothing old new = new ≡ old
 IsResumed (Journal torn) old new =
