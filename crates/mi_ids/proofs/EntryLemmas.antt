@@ -1,10 +1,11 @@
 -- What a call on the ids gives of each id, for a caller's proofs.
 --     get-put, get-out, get-with_live      what an id has after `insert`, `remove`, and `keep` or `revive`
 --     out_of_put, revived                  removing a new id takes its insertion back, and reviving a live one takes back that it was kept
-use Rattle.std.proofs.Common.{◌≡◌, ℕ, ◌==◌, Bool, true, false, cond, option_map, Option, Some, None, refl, sym, ap, ◌∙◌, arith}
+use Rattle.std.proofs.Common.{◌≡◌, ℕ, ◌+◌, ◌-◌, ◌≤◌, ◌==◌, Bool, true, false, cond, option_map, Option, Some, None, refl, sym, ap, ◌∙◌, arith}
+use Rattle.std.specs.Prelude.{is_some}
 use Rattle.std.specs.Ordering.{nat_cmp}
 use Rattle.std.specs.Cmp.{nat_cmp_total, unsigned_tied}
-use Rattle.std.specs.FinMap.{FinMap, get, insert, remove, get-insert, get-remove, same_map, nat_cmp-IsAntisymmetric}
+use Rattle.std.specs.FinMap.{FinMap, get, insert, remove, len, get-insert, get-remove, len-insert, len-remove, same_map, nat_cmp-IsAntisymmetric}
 use Rattle.mi_ids.specs.IdMap.{flagged, with_mark, with_live}
 use Rattle.mi_ids.specs.declared.entry.IdEntry.{IdEntry}
 
@@ -13,6 +14,9 @@ flip k q = grind arith
 
 same : (k q : ℕ) → (k == q) ≡ true → k ≡ q
 same k q e = grind (arith, e)
+
+pub no_true : false ≡ true → ⊥
+no_true e = grind (arith, e)
 
 itself : (k : ℕ) → (k == k) ≡ true
 itself k = grind arith
@@ -31,7 +35,7 @@ read-marked m k live q None e = (elim (k == q) as (λ y. (k == q) ≡ y → get 
 ]) refl
 read-marked m k live q (Some x) e = get-put m k (flagged live x) q
 
-get-with_live : (m : FinMap nat_cmp IdEntry) (k : ℕ) (live : Bool) (q : ℕ)
+pub get-with_live : (m : FinMap nat_cmp IdEntry) (k : ℕ) (live : Bool) (q : ℕ)
     → get (with_live m k live) q ≡ cond (k == q) (option_map (flagged live) (get m k)) (get m q)
 unfolding with_live
 get-with_live m k live q = read-marked m k live q (get m k) refl
@@ -56,3 +60,34 @@ revived m k e there is = same_map nat_cmp_total nat_cmp-IsAntisymmetric (with_li
       | true ↦ λ t. ap Some (marked_live e is) ∙ sym there ∙ ap (get m) (same k q t)
       | false ↦ λ t. get-with_live m k false q ∙ ap (λ b. cond b (option_map (flagged false) (get m k)) (get m q)) t
     ]) refl)
+
+pub len-put : (m : FinMap nat_cmp IdEntry) (k : ℕ) (e : IdEntry) → len (insert m k e) ≡ cond (is_some (get m k)) (len m) (len m + 1)
+len-put m k e = len-insert nat_cmp_total m k e
+
+pub len-out : (m : FinMap nat_cmp IdEntry) (k : ℕ) → len (remove m k) ≡ cond (is_some (get m k)) (len m - 1) (len m)
+len-out m k = len-remove nat_cmp_total m k
+
+len-marked : (m : FinMap nat_cmp IdEntry) (k : ℕ) (live : Bool) (o : Option IdEntry) → get m k ≡ o → len (with_mark m k live o) ≡ len m
+len-marked m k live None e = refl
+len-marked m k live (Some x) e = len-put m k (flagged live x) ∙ ap (λ o. cond (is_some o) (len m) (len m + 1)) e
+
+pub len-with_live : (m : FinMap nat_cmp IdEntry) (k : ℕ) (live : Bool) → len (with_live m k live) ≡ len m
+unfolding with_live
+len-with_live m k live = len-marked m k live (get m k) refl
+
+put_of_out : (m : FinMap nat_cmp IdEntry) (k : ℕ) (e : IdEntry) → get m k ≡ Some e → insert (remove m k) k e ≡ m
+put_of_out m k e there = same_map nat_cmp_total nat_cmp-IsAntisymmetric (insert (remove m k) k e) m (λ q.
+    get-put (remove m k) k e q ∙ (elim (k == q) as (λ y. (k == q) ≡ y → cond y (Some e) (get (remove m k) q) ≡ get m q) [
+      | true ↦ λ t. sym there ∙ ap (get m) (same k q t)
+      | false ↦ λ t. get-out m k q ∙ ap (λ b. cond b None (get m q)) t
+    ]) refl)
+
+len-there : (m : FinMap nat_cmp IdEntry) (k : ℕ) (o : Option IdEntry) → get m k ≡ o → is_some o ≡ true → 1 ≤ len m
+len-there m k None e is = absurd (no_true is)
+len-there m k (Some x) e is =
+    let out : is_some (get (remove m k) k) ≡ false = ap is_some (get-out m k k ∙ ap (λ b. cond b None (get m k)) (itself k)) in
+    let more = sym (ap len (put_of_out m k x e)) ∙ len-put (remove m k) k x ∙ ap (λ b. cond b (len (remove m k)) (len (remove m k) + 1)) out in
+    omega (arith, more)
+
+pub len-some : (m : FinMap nat_cmp IdEntry) (k : ℕ) → is_some (get m k) ≡ true → 1 ≤ len m
+len-some m k is = len-there m k (get m k) refl is

@@ -1,2 +1,3 @@
 pub mod EntryLemmas
-pub mod SeenLemmas
+pub mod PageLemmas
+pub mod PagesLemmas

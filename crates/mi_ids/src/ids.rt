@@ -1,35 +1,54 @@
-//! The map as a hash map from ids to entries. Only `make_room` takes memory; no call reads a node.
-//! Ids are given in turn by the server, so a fixed hash serves them, and every run is alike.
+//! The map as pages of 64 ids, which are found by a hint, or else by the hash of their numbers. Only `make_room` takes
+//! memory; no call reads a node. The server gives ids in turn, so its live ids mostly lie in few pages. A fixed hash
+//! serves the numbers, and every run is alike.
 ghost use Rattle.std.specs.Prelude.{◌≡◌, ◌+◌, ◌<◌, ◌≤◌, true, false, IsOk, OnOk};
 ghost use Rattle.std.specs.FinMap.{get, empty, insert, remove, len};
 ghost use Rattle.mi_ids.specs.IdMap.{live_node, with_live};
 
 use crate::entry::IdEntry;
+use crate::hints::Hints;
+use crate::page::Page;
+use crate::pages::{entry_in, put_in, set_in, take_out};
+use indexmap::IndexMap;
 use mi_node::NodeRef;
 use std::alloc::{AllocError, Global};
-use std::collections::HashMap;
 use std::marker::Model;
+
+/// How many ids there may be, so that a number of them is never too large for its type.
+const MOST: usize = 1 << 63;
 
 /// Ids, each with the reference of its node and whether it is live.
 ///
-/// Contracts see a finite map from ids to entries, and room: how many ids more can be put in without memory. A lookup
-/// takes the same time however many there are, and an id that was taken out leaves its place to others: memory goes with
-/// the most ids that stood in the map at once, and not with all that were ever put in.
+/// Contracts see a finite map from ids to entries, and room: how many ids more can be put in without memory. An id that
+/// is only kept stays in the map, so `revive` needs no memory. A look-up takes the same time however many ids there are.
+///
+/// Ids lie in pages: 64 that follow each other, from a multiple of 64 on. A page is there while one of its ids is, live
+/// or kept. A page that lost its last id leaves its place to others, so memory goes with the most pages that were there
+/// at once, and not with all ids that were ever put in. A place of a page takes 300 bytes. There are nine at least, and
+/// they double where they are too few: up to twice as many as pages were there at once, and less than four times as many
+/// where pages came and went. So ids without gaps take 5 to 10 bytes each. The worst case is a page for each id, as where
+/// 63 of 64 rows were erased: then an id takes 300 to 600 bytes, and 1,200 at most.
 #[derive(Drop)]
 pub struct Ids {
-    map: HashMap<u64, IdEntry>,
+    pages: IndexMap<u64, Page>,
+    hints: Hints,
+    count: usize,
 }
 
 impl Model for Ids {
-    ghost use Rattle.std.specs.HashMap.{spare};
-    ghost use Rattle.std.specs.FinMap.{from_entries};
+    ghost use Rattle.std.specs.Prelude.{◌≡◌, min, ◌-◌, ◌^◌};
+    ghost use Rattle.std.specs.FinMap.{len};
+    ghost use Rattle.indexmap.specs.IndexMap.{spare};
+    ghost use Rattle.mi_ids.specs.Pages.{of_pages, NoneIsEmpty};
     ghost use Rattle.mi_ids.specs.IdMap.{IdMap, id_map_code};
 
     ghost Value = { IdMap };
 
     ghost coded = { id_map_code };
 
-    ghost view = { λ a. record { entries = from_entries a.map.entries; spare = spare a.map } };
+    ghost view = { λ a. record { entries = of_pages a.pages.entries; spare = min (spare a.pages) (2 ^ 63 - a.count) } };
+
+    ghost invariant = { λ a. (a.count ≡ len (of_pages a.pages.entries)) × NoneIsEmpty a.pages.entries };
 }
 
 impl Ids {
@@ -38,7 +57,9 @@ impl Ids {
         ensures { result.entries ≡ empty }
     {
         Ids {
-            map: HashMap::new(alloc),
+            pages: IndexMap::new(alloc),
+            hints: Hints::new(alloc),
+            count: 0,
         }
     }
 
@@ -46,14 +67,14 @@ impl Ids {
     pub fn len(&self) -> usize
         ensures { result ≡ len self.now.entries }
     {
-        self.map.len()
+        self.count
     }
 
     /// What is known of an id, or none where it isn't there.
     pub fn get(&self, id: u64) -> Option<IdEntry>
         ensures { result ≡ get self.now.entries id }
     {
-        self.map.get(&id).copied()
+        entry_in(&self.pages, &self.hints, id)
     }
 
     /// The node of a live id; none where the id isn't there or its node is only kept.
@@ -67,15 +88,20 @@ impl Ids {
 
     /// Room for one id more, by taking memory where there is none.
     ///
-    /// The error comes where memory is refused, and never where there was room. Either way the ids stay as they are, and
-    /// the room does not fall.
+    /// The error comes where memory is refused, or 2^63 ids are there, and never where there was room. Either way the ids
+    /// stay as they are, and the room does not fall. Where the memory of hints alone is refused, it does without them.
     pub fn make_room(&mut self) -> Result<(), AllocError>
         ensures entries { self.new.entries ≡ self.old.entries }
         ensures room { OnOk result (0 < self.new.spare) }
         ensures spare { self.old.spare ≤ self.new.spare }
         ensures succeeds { 0 < self.old.spare → IsOk result }
     {
-        self.map.reserve(1)
+        if self.count >= MOST {
+            return Err(AllocError);
+        }
+        self.pages.reserve(1)?;
+        self.hints.grow_for(&self.pages);
+        Ok(())
     }
 
     /// Puts an id in with its node, live. An id that was there has this node from now on.
@@ -84,9 +110,9 @@ impl Ids {
         ensures entries { self.new.entries ≡ insert self.old.entries id (record { node = node; live = true }) }
         ensures spare { self.old.spare ≤ self.new.spare + 1 }
     {
-        let entry = IdEntry { node, live: true };
-        let placed: Result<_, _> = self.map.insert(id, entry);
-        placed.unwrap();
+        if !put_in(&mut self.pages, &mut self.hints, id, node) {
+            self.count += 1;
+        }
     }
 
     /// Says of an id that its node is only kept. Nothing changes where the id isn't there.
@@ -110,9 +136,7 @@ impl Ids {
         ensures entries { self.new.entries ≡ with_live self.old.entries id live }
         ensures spare { self.new.spare ≡ self.old.spare }
     {
-        if let Some(entry) = self.map.get_mut(&id) {
-            entry.live = live;
-        }
+        set_in(&mut self.pages, id, live);
     }
 
     /// Takes an id out, live or kept. Its place is free for others. Nothing changes where the id isn't there.
@@ -120,7 +144,9 @@ impl Ids {
         ensures entries { self.new.entries ≡ remove self.old.entries id }
         ensures spare { self.old.spare ≤ self.new.spare }
     {
-        self.map.remove(&id);
+        if take_out(&mut self.pages, &mut self.hints, id) {
+            self.count -= 1;
+        }
     }
 }
 

@@ -1,4 +1,4 @@
-//! Worked rows through each call of the map from ids to nodes, and refused room.
+//! Worked rows through each call of the map from ids to nodes, with ids of one page of 64 and of several, and refused room.
 use super::growth::take_at_last;
 use super::nodes::take;
 use mi_ids::{IdEntry, Ids};
@@ -20,7 +20,7 @@ enum Call {
 /// What an id has: the number of its node, and whether it is live.
 type Has = Option<(usize, bool)>;
 
-/// Calls for two ids: what each of them has afterwards, and how many there are.
+/// Calls for the first or the second of two ids: what each of them has afterwards, and how many there are.
 const CALLS: [(Call, u64, Has, Has, usize); 13] = [
     (Call::Keep, 1, None, None, 0),
     (Call::Insert(0), 1, Some((0, true)), None, 1),
@@ -77,12 +77,28 @@ fn assert_live(rt: &impl Abort, ids: &Ids, id: u64, entry: IdEntry) {
     }
 }
 
-/// Makes each call, and asserts what it leaves.
-fn make_all(rt: &impl Abort, ids: &mut Ids, nodes: &[NodeRef; 2]) -> Result<(), AllocError> {
-    for (call, id, one, two, count) in &CALLS {
-        make(ids, nodes, *call, *id)?;
-        assert_has(rt, ids, nodes, 1, *one);
-        assert_has(rt, ids, nodes, 2, *two);
+/// Two ids of one page, its two ends, those on both sides of its edge, and those that are far apart.
+const PAIRS: [(u64, u64); 6] = [
+    (1, 2),
+    (64, 127),
+    (63, 64),
+    (128, 127),
+    (0, 18_446_744_073_709_551_615),
+    (9_223_372_036_854_775_807, 9_223_372_036_854_775_808),
+];
+
+/// Makes each call for two ids, and asserts what it leaves.
+fn make_all(
+    rt: &impl Abort,
+    ids: &mut Ids,
+    nodes: &[NodeRef; 2],
+    pair: (u64, u64),
+) -> Result<(), AllocError> {
+    for (call, which, one, two, count) in &CALLS {
+        let id = if *which == 1 { pair.0 } else { pair.1 };
+        make(ids, nodes, *call, id)?;
+        assert_has(rt, ids, nodes, pair.0, *one);
+        assert_has(rt, ids, nodes, pair.1, *two);
         assert!(rt; ids.len() == *count);
     }
     Ok(())
@@ -93,37 +109,140 @@ fn make_all(rt: &impl Abort, ids: &mut Ids, nodes: &[NodeRef; 2]) -> Result<(), 
 fn two_ids_through_each_call(rt: HostRuntime) -> Result<(), Fail> {
     let mut pool: Pool<u8> = Pool::with_slots(rt.alloc(), 1);
     let nodes = [take(&rt, &mut pool, 0), take(&rt, &mut pool, 1)];
-    make_all(&rt, &mut Ids::new(rt.alloc()), &nodes)?;
+    let mut ids = Ids::new(rt.alloc());
+    for pair in &PAIRS {
+        make_all(&rt, &mut ids, &nodes, *pair)?;
+    }
     Ok(())
 }
 
-/// Asserts that the ids below this one are there, and it is not.
-fn assert_below(rt: &impl Abort, ids: &Ids, id: u64) {
-    for old in 0..id {
-        assert!(rt; ids.live(old).is_some(), "id {old}");
+/// Inserts the ids from one up to another, with the node of this number.
+fn insert_run(
+    ids: &mut Ids,
+    nodes: &[NodeRef; 2],
+    from: u64,
+    to: u64,
+    n: usize,
+) -> Result<(), AllocError> {
+    for id in from..to {
+        make(ids, nodes, Call::Insert(n), id)?;
     }
-    assert!(rt; ids.get(id).is_none());
+    Ok(())
 }
 
-/// Inserts the ids below 20. Where room for one is refused, those below it are still there, and room is asked for again.
-fn insert_all(rt: &impl Abort, ids: &mut Ids, node: NodeRef) -> Result<(), AllocError> {
-    for id in 0..20u64 {
+/// Asserts of the ids from one up to another that each is live with the node of this number, or none is there.
+fn assert_run(rt: &impl Abort, ids: &Ids, nodes: &[NodeRef; 2], run: (u64, u64), has: Has) {
+    for id in run.0..run.1 {
+        assert_has(rt, ids, nodes, id, has);
+    }
+}
+
+/// Removes all ids of the second of three pages but one, which is only kept. It is there, and can be live again.
+fn empty_but_one(ids: &mut Ids) {
+    for id in 64..128u64 {
+        if id == 100 {
+            ids.keep(id);
+        } else {
+            ids.remove(id);
+        }
+    }
+}
+
+/// The ids of a page go, the last of them after it was kept and live again, and come again with another node. Those of
+/// the pages beside it stay.
+#[test]
+fn a_page_goes_with_its_last_id(rt: HostRuntime) -> Result<(), Fail> {
+    let mut pool: Pool<u8> = Pool::with_slots(rt.alloc(), 1);
+    let nodes = [take(&rt, &mut pool, 0), take(&rt, &mut pool, 1)];
+    let mut ids = Ids::new(rt.alloc());
+    insert_run(&mut ids, &nodes, 0, 192, 0)?;
+    empty_but_one(&mut ids);
+    assert_has(&rt, &ids, &nodes, 100, Some((0, false)));
+    ids.revive(100);
+    assert_has(&rt, &ids, &nodes, 100, Some((0, true)));
+    assert_eq!(rt; ids.len(), 129);
+    ids.remove(100);
+    assert_run(&rt, &ids, &nodes, (64, 128), None);
+    assert_eq!(rt; ids.len(), 128);
+    insert_run(&mut ids, &nodes, 64, 128, 1)?;
+    assert_run(&rt, &ids, &nodes, (0, 64), Some((0, true)));
+    assert_run(&rt, &ids, &nodes, (64, 128), Some((1, true)));
+    assert_run(&rt, &ids, &nodes, (128, 192), Some((0, true)));
+    Ok(())
+}
+
+/// An id of its own page for each number: the numbers times an odd factor, which lie all over.
+fn scattered(k: u64) -> u64 {
+    k.wrapping_mul(11_400_714_819_323_198_485)
+}
+
+/// Of three scattered ids in turn one stays live, one is only kept and one goes.
+fn scatter(ids: &mut Ids, nodes: &[NodeRef; 2]) -> Result<(), AllocError> {
+    for k in 0..300u64 {
+        make(ids, nodes, Call::Insert(0), scattered(k))?;
+    }
+    for k in 0..300u64 {
+        match k % 3 {
+            0 => {}
+            1 => ids.keep(scattered(k)),
+            _ => ids.remove(scattered(k)),
+        }
+    }
+    Ok(())
+}
+
+/// Three hundred ids that lie all over, so that each has a page, and the ids beside them, which aren't there.
+#[test]
+fn scattered_ids(rt: HostRuntime) -> Result<(), Fail> {
+    let mut pool: Pool<u8> = Pool::with_slots(rt.alloc(), 1);
+    let nodes = [take(&rt, &mut pool, 0), take(&rt, &mut pool, 1)];
+    let mut ids = Ids::new(rt.alloc());
+    scatter(&mut ids, &nodes)?;
+    for k in 0..300u64 {
+        let has = if k % 3 == 2 {
+            None
+        } else {
+            Some((0, k % 3 == 0))
+        };
+        assert_has(&rt, &ids, &nodes, scattered(k), has);
+        assert_has(&rt, &ids, &nodes, scattered(k) ^ 1, None);
+        assert_has(&rt, &ids, &nodes, scattered(k) ^ 64, None);
+    }
+    assert_eq!(rt; ids.len(), 200);
+    Ok(())
+}
+
+/// Asserts that the first of ids that stand this far apart are there, and the next one isn't.
+fn assert_below(rt: &impl Abort, ids: &Ids, apart: u64, count: u64) {
+    for k in 0..count {
+        assert!(rt; ids.live(k.wrapping_mul(apart)).is_some(), "id {k}");
+    }
+    assert!(rt; ids.get(count.wrapping_mul(apart)).is_none());
+}
+
+/// Inserts forty ids that stand this far apart. Where room for one is refused, those before it are still there, and room
+/// is asked for again.
+fn insert_all(rt: &impl Abort, ids: &mut Ids, node: NodeRef, apart: u64) -> Result<(), AllocError> {
+    for k in 0..40u64 {
         if ids.make_room().is_err() {
-            assert_below(rt, ids, id);
+            assert_below(rt, ids, apart, k);
             ids.make_room()?;
         }
-        ids.insert(id, node);
+        ids.insert(k.wrapping_mul(apart), node);
     }
-    assert_eq!(rt; ids.len(), 20);
+    assert_below(rt, ids, apart, 40);
+    assert_eq!(rt; ids.len(), 40);
     Ok(())
 }
 
-/// Run with an allocation that fails, it sees that refused room leaves the ids as they were, and can be asked for again.
+/// Run with an allocation that fails, it sees that refused room leaves the ids as they were, and can be asked for again:
+/// with ids of one page, and with a page for each.
 #[test]
 fn refused_room_leaves_the_ids(rt: HostRuntime) -> Result<(), Fail> {
     let mut pool: Pool<u64> = Pool::with_slots(rt.alloc(), 1);
     let node = take_at_last(&rt, &mut pool, 0);
-    insert_all(&rt, &mut Ids::new(rt.alloc()), node)?;
+    insert_all(&rt, &mut Ids::new(rt.alloc()), node, 1)?;
+    insert_all(&rt, &mut Ids::new(rt.alloc()), node, 64)?;
     Ok(())
 }
 
