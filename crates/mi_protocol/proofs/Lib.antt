@@ -2,6 +2,7 @@ pub mod AnswerLemmas
 pub mod BindingLemmas
 pub mod EditLemmas
 pub mod KeyLemmas
+pub mod PutLemmas
 pub mod ReplyLemmas
 pub mod RowLemmas
 pub mod FirstTableLaws

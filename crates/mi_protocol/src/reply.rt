@@ -1,6 +1,6 @@
-//! Replies and their text. Only a reply that shows rows takes memory; the others stand in a buffer of 128 bytes.
-ghost use Rattle.std.specs.Prelude.{◌≡◌, ◌+◌, ◌≤◌, ◌<◌, ◌++◌, length, map, codes, decimal, true, false, IfOk, IfErr, IsOk, IfSome, MatchOption};
-ghost use Rattle.arrayvec.specs.ArrayVec.{array_vec_len};
+//! Replies and their text, put where it is to stand. Only a reply that shows rows takes memory; the others have less than 128 bytes.
+ghost use Rattle.std.specs.Prelude.{◌≡◌, ◌+◌, ◌≤◌, ◌<◌, ◌++◌, length, map, take, codes, decimal, true, false, vec_len, IfOk, IfErr, IsOk, IfSome, MatchOption};
+ghost use Rattle.json.specs.Filled.{Placed};
 ghost use Rattle.mi_value.specs.declared.limits.TheConstants.{MAX_NAME, SHORT_REPLY};
 ghost use Rattle.mi_protocol.specs.Replies as replies;
 ghost use Rattle.mi_catalog.specs.Shape.{CatalogShape};
@@ -10,9 +10,9 @@ ghost use Rattle.mi_protocol.specs.Text.{text_bytes, is_short_text};
 use crate::labels::ReplyLabels;
 use crate::text::ReplyText;
 use arrayvec::ArrayVec;
-use itoa::Buffer;
 use mi_catalog::Catalog;
-use mi_rows::{row_text, row_text_with, rows_text, rows_text_with};
+use mi_print::{put_text, put_u64};
+use mi_rows::{put_row_reply, put_rows_reply};
 use mi_value::limits::SHORT_REPLY;
 use mi_value::{Record, Refusal};
 use std::alloc::{AllocError, Global};
@@ -71,88 +71,85 @@ pub enum Reply<'a> {
     },
 }
 
-/// Adds bytes that fit.
-fn put(out: &mut ArrayVec<u8, SHORT_REPLY>, bytes: &[u8])
-    requires { array_vec_len out.old + length bytes.now ≤ SHORT_REPLY }
-    ensures items { out.new.items ≡ out.old.items ++ bytes.now }
-    ensures len { array_vec_len out.new ≡ array_vec_len out.old + length bytes.now }
+/// Puts a text with a part in it that is given.
+fn put_parts(buf: &mut [u8], at: usize, before: &[u8], part: &[u8], after: &[u8]) -> usize
+    requires { at + length before.now + length part.now + length after.now ≤ length buf.old }
+    ensures text { Placed buf.old buf.new at (before.now ++ part.now ++ after.now) result }
+    ensures bound { result ≡ at + length before.now + length part.now + length after.now }
 {
-    out.try_extend_from_slice(bytes).unwrap();
+    let begun = put_text(buf, at, before);
+    let end = put_text(buf, begun, part);
+    put_text(buf, end, after)
 }
 
-/// A text with a part in it that is given.
-fn short(before: &[u8], part: &[u8], after: &[u8]) -> ReplyText
-    requires { length before.now + length part.now + length after.now ≤ SHORT_REPLY }
-    ensures text { text_bytes result ≡ before.now ++ part.now ++ after.now }
-    ensures form { is_short_text result ≡ true }
+/// Puts a text with a number in it.
+fn put_number(buf: &mut [u8], at: usize, before: &[u8], n: u64, after: &[u8]) -> usize
+    requires { at + length before.now + length after.now + 20 ≤ length buf.old }
+    ensures text { Placed buf.old buf.new at (before.now ++ decimal n ++ after.now) result }
+    ensures bound { result ≤ at + length before.now + length after.now + 20 }
 {
-    let mut out = ArrayVec::new();
-    put(&mut out, before);
-    put(&mut out, part);
-    put(&mut out, after);
-    ReplyText::Short(out)
+    let begun = put_text(buf, at, before);
+    let end = put_u64(buf, begun, n);
+    put_text(buf, end, after)
 }
 
-/// A text with a number in it.
-fn short_number(before: &[u8], n: u64, after: &[u8]) -> ReplyText
-    requires { length before.now + length after.now + 20 ≤ SHORT_REPLY }
-    ensures text { text_bytes result ≡ before.now ++ decimal n ++ after.now }
-    ensures form { is_short_text result ≡ true }
-{
-    let mut buffer = Buffer::new();
-    short(before, buffer.format(n).as_bytes(), after)
-}
-
-/// The text of a conflict with the record of this id in the index of this name.
-fn conflict(id: u64, index: &str, after: &[u8]) -> ReplyText
+/// Puts the text of a conflict with the record of this id in the index of this name.
+fn put_conflict(buf: &mut [u8], at: usize, id: u64, index: &str, after: &[u8]) -> usize
     requires index { length index.now ≤ MAX_NAME }
     requires after { length after.now ≤ 32 }
-    ensures text { text_bytes result ≡ codes "{\"error\":\"unique\",\"id\":" ++ decimal id ++ codes ",\"index\":\"" ++ index.now ++ after.now }
-    ensures form { is_short_text result ≡ true }
+    requires room { at + SHORT_REPLY ≤ length buf.old }
+    ensures text { Placed buf.old buf.new at
+        (codes "{\"error\":\"unique\",\"id\":" ++ decimal id ++ codes ",\"index\":\"" ++ index.now ++ after.now) result }
+    ensures bound { result < at + SHORT_REPLY }
 {
-    let mut buffer = Buffer::new();
-    let mut out = ArrayVec::new();
-    put(&mut out, b"{\"error\":\"unique\",\"id\":");
-    put(&mut out, buffer.format(id).as_bytes());
-    put(&mut out, b",\"index\":\"");
-    put(&mut out, index.as_bytes());
-    put(&mut out, after);
-    ReplyText::Short(out)
+    let begun = put_number(
+        buf,
+        at,
+        b"{\"error\":\"unique\",\"id\":",
+        id,
+        b",\"index\":\"",
+    );
+    let end = put_text(buf, begun, index.as_bytes());
+    put_text(buf, end, after)
 }
 
-/// The text of the sessions that are open and that are held, and of the revision.
-fn status(depth: u64, held: u64, revision: u64) -> ReplyText
-    ensures text { text_bytes result ≡ codes "{\"depth\":" ++ decimal depth ++ codes ",\"held\":"
-        ++ decimal held ++ codes ",\"ok\":true,\"revision\":" ++ decimal revision ++ codes "}" }
-    ensures form { is_short_text result ≡ true }
+/// Puts the text of the sessions that are open and that are held, and of the revision.
+fn put_status(buf: &mut [u8], at: usize, depth: u64, held: u64, revision: u64) -> usize
+    requires { at + SHORT_REPLY ≤ length buf.old }
+    ensures text { Placed buf.old buf.new at (codes "{\"depth\":" ++ decimal depth ++ codes ",\"held\":"
+        ++ decimal held ++ codes ",\"ok\":true,\"revision\":" ++ decimal revision ++ codes "}") result }
+    ensures bound { result < at + SHORT_REPLY }
 {
-    let mut out = ArrayVec::new();
-    put(&mut out, b"{\"depth\":");
-    put(&mut out, Buffer::new().format(depth).as_bytes());
-    put(&mut out, b",\"held\":");
-    put(&mut out, Buffer::new().format(held).as_bytes());
-    put(&mut out, b",\"ok\":true,\"revision\":");
-    put(&mut out, Buffer::new().format(revision).as_bytes());
-    put(&mut out, b"}");
-    ReplyText::Short(out)
+    let opened = put_number(buf, at, b"{\"depth\":", depth, b",\"held\":");
+    let begun = put_u64(buf, opened, held);
+    put_number(buf, begun, b",\"ok\":true,\"revision\":", revision, b"}")
 }
 
-/// The text of a refusal. It takes no memory.
-fn refusal_text(catalog: &Catalog, table: usize, refusal: Refusal) -> ReplyText
-    requires { IsRefusalOf catalog.now table refusal }
-    ensures text { text_bytes result ≡ replies.refusal_text catalog.now table refusal }
-    ensures form { is_short_text result ≡ true }
+/// Puts the text of a refusal.
+fn put_refusal(
+    buf: &mut [u8],
+    at: usize,
+    catalog: &Catalog,
+    table: usize,
+    refusal: Refusal,
+) -> usize
+    requires said { IsRefusalOf catalog.now table refusal }
+    requires room { at + SHORT_REPLY ≤ length buf.old }
+    ensures text { Placed buf.old buf.new at (replies.refusal_text catalog.now table refusal) result }
+    ensures bound { result < at + SHORT_REPLY }
 {
     match refusal {
         Refusal::Unique { index, id } => {
             let name = catalog.table(table).index_name(index);
-            conflict(id, name, b"\",\"ok\":false}")
+            put_conflict(buf, at, id, name, b"\",\"ok\":false}")
         }
         Refusal::Lost { index, id } => {
             let name = catalog.table(table).index_name(index);
-            conflict(id, name, b"\",\"lost\":true,\"ok\":false}")
+            put_conflict(buf, at, id, name, b"\",\"lost\":true,\"ok\":false}")
         }
-        other => short(
+        other => put_parts(
+            buf,
+            at,
             b"{\"error\":\"",
             other.word().as_bytes(),
             b"\",\"ok\":false}",
@@ -160,61 +157,73 @@ fn refusal_text(catalog: &Catalog, table: usize, refusal: Refusal) -> ReplyText
     }
 }
 
-/// The text of a modify's refusal, which says of a conflict whether the record is lost. It takes no memory.
-fn modify_refusal_text(catalog: &Catalog, table: usize, refusal: Refusal) -> ReplyText
-    requires { IsRefusalOf catalog.now table refusal }
-    ensures text { text_bytes result ≡ replies.modify_refusal_text catalog.now table refusal }
-    ensures form { is_short_text result ≡ true }
+/// Puts the text of a modify's refusal, which says of a conflict whether the record is lost.
+fn put_modify_refusal(
+    buf: &mut [u8],
+    at: usize,
+    catalog: &Catalog,
+    table: usize,
+    refusal: Refusal,
+) -> usize
+    requires said { IsRefusalOf catalog.now table refusal }
+    requires room { at + SHORT_REPLY ≤ length buf.old }
+    ensures text { Placed buf.old buf.new at (replies.modify_refusal_text catalog.now table refusal) result }
+    ensures bound { result < at + SHORT_REPLY }
 {
     match refusal {
         Refusal::Unique { index, id } => {
             let name = catalog.table(table).index_name(index);
-            conflict(id, name, b"\",\"lost\":false,\"ok\":false}")
+            put_conflict(buf, at, id, name, b"\",\"lost\":false,\"ok\":false}")
         }
-        other => refusal_text(catalog, table, other),
+        other => put_refusal(buf, at, catalog, table, other),
     }
 }
 
-/// The text of a row of a table, by its labels where they were made.
-fn shown_text(
+/// Puts the text of a row of a table, by its labels where they were made.
+fn put_shown(
     alloc: Global,
+    text: &mut Vec<u8>,
+    at: usize,
     catalog: &Catalog,
     labels: &ReplyLabels,
     table: usize,
     id: u64,
     row: &Record,
-) -> Result<Vec<u8>, AllocError>
-    requires { table < length catalog.now.tables }
-    ensures { IfOk result (λ t. t.items ≡ reply_text catalog.now (shown table id row.now)) }
+) -> Result<usize, AllocError>
+    requires within { at ≤ vec_len text.old }
+    requires table { table < length catalog.now.tables }
+    ensures text { IfOk result (λ end. take end text.new.items ≡ take at text.old.items ++ reply_text catalog.now (shown table id row.now)) }
+    ensures within { IfOk result (λ end. end < vec_len text.new) }
 {
     let schema = catalog.table(table);
     schema.keeps_rules();
     let columns = schema.columns();
-    match labels.of_table(table, columns) {
-        Some(labels) => row_text_with(alloc, id, row, columns, labels),
-        None => row_text(alloc, id, row, columns),
-    }
+    let labels = labels.of_table(table, columns);
+    put_row_reply(alloc, text, at, id, row, columns, labels)
 }
 
-/// The text of rows of a table, by its labels where they were made.
-fn page_text(
+/// Puts the text of rows of a table, by its labels where they were made.
+fn put_page(
     alloc: Global,
+    text: &mut Vec<u8>,
+    at: usize,
     catalog: &Catalog,
     labels: &ReplyLabels,
     table: usize,
     records: &[(u64, &Record)],
     more: bool,
-) -> Result<Vec<u8>, AllocError>
-    requires { table < length catalog.now.tables }
-    ensures { IfOk result (λ t. t.items ≡ reply_text catalog.now (rows table (map (λ r. (r.0, r.1.now)) records.now) more)) }
+) -> Result<usize, AllocError>
+    requires within { at ≤ vec_len text.old }
+    requires table { table < length catalog.now.tables }
+    ensures text { IfOk result (λ end. take end text.new.items
+        ≡ take at text.old.items ++ reply_text catalog.now (rows table (map (λ r. (r.0, r.1.now)) records.now) more)) }
+    ensures within { IfOk result (λ end. end < vec_len text.new) }
 {
     let schema = catalog.table(table);
     schema.keeps_rules();
     let columns = schema.columns();
-    match labels.of_table(table, columns) {
-        Some(labels) => rows_text_with(alloc, records, more, columns, labels),
-        None => rows_text(alloc, records, more, columns),
-    }
+    let labels = labels.of_table(table, columns);
+    put_rows_reply(alloc, text, at, records, more, columns, labels)
 }
 
 impl Reply<'_> {
@@ -222,7 +231,7 @@ impl Reply<'_> {
     fn numbered(&self) -> Option<(&'static [u8], u64, &'static [u8])>
         ensures text { MatchOption result (says_number (said self.now) ≡ false)
             (λ p. (c : CatalogShape) → reply_text c (said self.now) ≡ p.0.now ++ decimal p.1 ++ p.2.now) }
-        ensures room { IfSome result (λ p. length p.0.now + length p.2.now + 20 ≤ SHORT_REPLY) }
+        ensures room { IfSome result (λ p. length p.0.now + length p.2.now + 20 < SHORT_REPLY) }
     {
         match self {
             Reply::Inserted(id) => Some((b"{\"id\":", *id, b",\"ok\":true}")),
@@ -238,41 +247,86 @@ impl Reply<'_> {
         }
     }
 
-    /// The text of a reply that shows no row and says more than a number, or none.
-    fn worded(&self, catalog: &Catalog) -> ReplyText
+    /// Puts the text of a reply that shows no row and says more than a number, or none.
+    fn put_worded(&self, buf: &mut [u8], at: usize, catalog: &Catalog) -> usize
         requires said { IsSaidOf catalog.now (said self.now) }
         requires short { is_short (said self.now) ≡ true }
         requires words { says_number (said self.now) ≡ false }
-        ensures text { text_bytes result ≡ reply_text catalog.now (said self.now) }
-        ensures form { is_short_text result ≡ true }
+        requires room { at + SHORT_REPLY ≤ length buf.old }
+        ensures text { Placed buf.old buf.new at (reply_text catalog.now (said self.now)) result }
+        ensures bound { result < at + SHORT_REPLY }
     {
         match self {
-            Reply::Done => short(b"{\"ok\":", b"true", b"}"),
+            Reply::Done => put_text(buf, at, b"{\"ok\":true}"),
             Reply::Status {
                 depth,
                 held,
                 revision,
-            } => status(*depth, *held, *revision),
+            } => put_status(buf, at, *depth, *held, *revision),
             Reply::RefusedModify { table, refusal } => {
-                modify_refusal_text(catalog, *table, *refusal)
+                put_modify_refusal(buf, at, catalog, *table, *refusal)
             }
-            Reply::Refused { table, refusal } => refusal_text(catalog, *table, *refusal),
+            Reply::Refused { table, refusal } => put_refusal(buf, at, catalog, *table, *refusal),
             _ => unreachable!(),
         }
     }
 
-    /// The text of a reply that shows no row, without a newline. It is `Short` and takes no memory. Its table, and the index of a
-    /// conflict, are in the catalog.
-    pub fn short_text(&self, catalog: &Catalog) -> ReplyText
+    /// Puts the text of a reply that shows no row, without a newline, and answers where it ends. It takes no memory. Its table, and the
+    /// index of a conflict, are in the catalog.
+    pub(crate) fn put_short(&self, buf: &mut [u8], at: usize, catalog: &Catalog) -> usize
         requires said { IsSaidOf catalog.now (said self.now) }
         requires short { is_short (said self.now) ≡ true }
-        ensures text { text_bytes result ≡ reply_text catalog.now (said self.now) }
-        ensures form { is_short_text result ≡ true }
+        requires room { at + SHORT_REPLY ≤ length buf.old }
+        ensures text { Placed buf.old buf.new at (reply_text catalog.now (said self.now)) result }
+        ensures bound { result < at + SHORT_REPLY }
     {
         let Some((before, number, after)) = self.numbered() else {
-            return self.worded(catalog);
+            return self.put_worded(buf, at, catalog);
         };
-        short_number(before, number, after)
+        put_number(buf, at, before, number, after)
+    }
+
+    /// Puts the text of a reply that shows rows behind the first bytes of a vector, without a newline, and answers how many bytes count
+    /// then; one byte at least is free behind them. Labels of the reply's table are used where they were made of its columns.
+    ///
+    /// It errs where memory is refused.
+    pub(crate) fn put_long(
+        &self,
+        alloc: Global,
+        text: &mut Vec<u8>,
+        at: usize,
+        catalog: &Catalog,
+        labels: &ReplyLabels,
+    ) -> Result<usize, AllocError>
+        requires said { IsSaidOf catalog.now (said self.now) }
+        requires long { is_short (said self.now) ≡ false }
+        requires within { at ≤ vec_len text.old }
+        ensures text { IfOk result (λ end. take end text.new.items ≡ take at text.old.items ++ reply_text catalog.now (said self.now)) }
+        ensures within { IfOk result (λ end. end < vec_len text.new) }
+    {
+        match self {
+            Reply::Shown { table, id, row } => {
+                put_shown(alloc, text, at, catalog, labels, *table, *id, row)
+            }
+            Reply::Rows { table, rows, more } => put_page(
+                alloc,
+                text,
+                at,
+                catalog,
+                labels,
+                *table,
+                rows.as_slice(),
+                *more,
+            ),
+            _ => unreachable!(),
+        }
+    }
+
+    /// Whether a reply shows no row.
+    pub(crate) fn is_short(&self) -> bool
+        ensures { result ≡ is_short (said self.now) }
+    {
+        !matches!(self, Reply::Shown { .. } | Reply::Rows { .. })
     }
 
     /// The text of a reply, without a newline. Its table, and the index of a conflict, are in the catalog. It is `Long`
@@ -285,51 +339,27 @@ impl Reply<'_> {
         ensures form { IfOk result (λ t. is_short_text t ≡ is_short (said self.now)) }
         ensures memory { IfErr result (λ e. e ≡ Refusal.Memory) }
     {
-        match self {
-            Reply::Shown { table, id, row } => {
-                let schema = catalog.table(*table);
-                schema.keeps_rules();
-                let columns = schema.columns();
-                Ok(ReplyText::Long(row_text(alloc, *id, row, columns)?))
-            }
-            Reply::Rows { table, rows, more } => {
-                let schema = catalog.table(*table);
-                schema.keeps_rules();
-                let columns = schema.columns();
-                let text = rows_text(alloc, rows.as_slice(), *more, columns)?;
-                Ok(ReplyText::Long(text))
-            }
-            _ => Ok(self.short_text(catalog)),
+        if self.is_short() {
+            return Ok(self.short_text(catalog));
         }
+        let mut text = Vec::new(alloc);
+        let labels = ReplyLabels::none(alloc);
+        let end = self.put_long(alloc, &mut text, 0, catalog, &labels)?;
+        text.truncate(end);
+        Ok(ReplyText::Long(text))
     }
 
-    /// The text of `text`, with labels that were made of tables before. Those of the reply's table are used where they were made of its
-    /// columns; else the text is made as `text` makes it.
-    pub fn text_with(
-        &self,
-        alloc: Global,
-        catalog: &Catalog,
-        labels: &ReplyLabels,
-    ) -> Result<ReplyText, Refusal>
-        requires { IsSaidOf catalog.now (said self.now) }
-        ensures text { IfOk result (λ t. text_bytes t ≡ reply_text catalog.now (said self.now)) }
-        ensures short { is_short (said self.now) ≡ true → IsOk result }
-        ensures form { IfOk result (λ t. is_short_text t ≡ is_short (said self.now)) }
-        ensures memory { IfErr result (λ e. e ≡ Refusal.Memory) }
+    /// The text of a reply that shows no row.
+    fn short_text(&self, catalog: &Catalog) -> ReplyText
+        requires said { IsSaidOf catalog.now (said self.now) }
+        requires short { is_short (said self.now) ≡ true }
+        ensures text { text_bytes result ≡ reply_text catalog.now (said self.now) }
+        ensures form { is_short_text result ≡ true }
     {
-        match self {
-            Reply::Shown { table, id, row } => Ok(ReplyText::Long(shown_text(
-                alloc, catalog, labels, *table, *id, row,
-            )?)),
-            Reply::Rows { table, rows, more } => Ok(ReplyText::Long(page_text(
-                alloc,
-                catalog,
-                labels,
-                *table,
-                rows.as_slice(),
-                *more,
-            )?)),
-            _ => self.text(alloc, catalog),
-        }
+        let mut bytes = [0; SHORT_REPLY];
+        let end = self.put_short(&mut bytes, 0, catalog);
+        let mut text = ArrayVec::new();
+        text.try_extend_from_slice(&bytes[..end]).unwrap();
+        ReplyText::Short(text)
     }
 }

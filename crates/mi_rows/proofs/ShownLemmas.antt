@@ -1,7 +1,8 @@
 -- Rows that are lent to the writer.
-use Rattle.std.proofs.Common.{◌≡◌, ◌+◌, ◌<◌, ℕ, zero, suc, Some, None, slice_get, Bool, true, false}
+use Rattle.std.proofs.Common.{◌≡◌, ◌+◌, ◌<◌, ℕ, zero, suc, Some, None, slice_get, Bool, true, false, Result, Ok, Err}
+use Rattle.std.specs.Prelude.{IfOk}
 use Rattle.std.proofs.Common.{codes, List, [], ◌∷◌, ◌++◌, length, take, drop, get_or, slice_set, slice_index_or, unwrap_or}
-use Rattle.std.proofs.Common.{Ordering, Less, Equal, Greater, nat_cmp, refl, sym, ap, ap₂, ◌∙◌, append_assoc, take_all, arith}
+use Rattle.std.proofs.Common.{Ordering, Less, Equal, Greater, nat_cmp, refl, sym, ap, ap₂, ◌∙◌, append_assoc}
 use Rattle.std.proofs.lemmas.List.{take-append-drop, take-set, drop-set, drop_more, get_or_default}
 use Rattle.std.specs.Ordering.{match_ordering}
 use Rattle.std.specs.Cmp.Lexicographic.{slice_cmp}
@@ -81,24 +82,23 @@ pub text_alone : (d : Data) (ts : List Token) (before text : List ℕ) → befor
     → text ≡ compact_text d
 text_alone d ts before text begun tokens written = written ∙ ap₂ (λ b t. b ++ t) begun (ap print tokens ∙ print-outline d)
 
--- a text in the first bytes of a vector, between a front and an end
-pub text_closed : (front body back one two three whole : List ℕ) (len end : ℕ) → one ≡ front → len ≡ length one → take end two ≡ take len one ++ body
-    → three ≡ take end two → whole ≡ three ++ back → whole ≡ (front ++ body) ++ back
-text_closed front body back one two three whole len end begun long added cut closed =
-    let all : take len one ≡ front = take_all len one (omega (arith, long)) ∙ begun in
-    closed ∙ ap (λ t. t ++ back) (cut ∙ added ∙ ap (λ t. t ++ body) all)
+-- what a call answers where it answers
+pub if_ok-weaker : {X Y : Type 0} (r : Result X Y) (P Q : X → Type 0) → ((x : X) → P x → Q x) → IfOk r P → IfOk r Q
+if_ok-weaker (Ok x) P Q f h = f x h
+if_ok-weaker (Err e) P Q f h = tt
+
+-- a text behind others, between a front and an end
+pub text_between : (old front body back one two three : List ℕ) → one ≡ old ++ front → two ≡ one ++ body → three ≡ two ++ back
+    → three ≡ old ++ ((front ++ body) ++ back)
+text_between old front body back one two three begun added closed =
+    closed ∙ ap (λ t. t ++ back) (added ∙ ap (λ t. t ++ body) begun ∙ append_assoc old front body) ∙ append_assoc old (front ++ body) back
 
 -- the same where the end begins with a byte that is a part of the text
-pub items_closed : (front body one two three whole : List ℕ) (b : ℕ) (back : List ℕ) (end : ℕ) → one ≡ front → take end two ++ b ∷ [] ≡ one ++ body
-    → three ≡ take end two → whole ≡ three ++ b ∷ back → whole ≡ (front ++ body) ++ back
-items_closed front body one two three whole b back end begun added cut closed =
-    closed ∙ sym (append_assoc three (b ∷ []) back) ∙ ap (λ t. t ++ back) (ap (λ t. t ++ b ∷ []) cut ∙ added ∙ ap (λ t. t ++ body) begun)
-
--- a value that is written between two texts
-pub text_between : (d : Data) (ts : List Token) (front before text whole back : List ℕ) → before ≡ front → ts ≡ json_tokens (outline d)
-    → text ≡ before ++ print ts → whole ≡ text ++ back → whole ≡ (front ++ compact_text d) ++ back
-text_between d ts front before text whole back begun tokens written closed =
-    closed ∙ ap (λ t. t ++ back) (written ∙ ap₂ (λ b t. b ++ t) begun (ap print tokens ∙ print-outline d))
+pub items_between : (old front body one two three : List ℕ) (b : ℕ) (back : List ℕ) → one ≡ old ++ front → two ++ b ∷ [] ≡ one ++ body
+    → three ≡ two ++ b ∷ back → three ≡ old ++ ((front ++ body) ++ back)
+items_between old front body one two three b back begun added closed =
+    closed ∙ sym (append_assoc two (b ∷ []) back)
+    ∙ ap (λ t. t ++ back) (added ∙ ap (λ t. t ++ body) begun ∙ append_assoc old front body) ∙ append_assoc old (front ++ body) back
 
 pub row_reply : (d : Data) → (codes "{\"ok\":true,\"row\":" ++ compact_text d) ++ codes "}"
     ≡ compact_text (object (member (codes "ok") (boolean true) (member (codes "row") d no_members)))

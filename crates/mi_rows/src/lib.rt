@@ -8,5 +8,4 @@ mod rows;
 mod shown;
 
 pub use labels::RowLabels;
-pub use rows::{row_text_with, rows_text, rows_text_with};
-pub use shown::row_text;
+pub use rows::{put_row_reply, put_rows_reply};

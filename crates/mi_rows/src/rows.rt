@@ -1,6 +1,6 @@
 //! Rows to text: what is the same in each is prepared once for all of them, and each is put behind the last into room that is there. A few
 //! rows, short ones, and such as no schema has, go the way of `shown`.
-ghost use Rattle.std.specs.Prelude.{◌≡◌, ◌∷◌, ◌++◌, ◌+◌, ◌*◌, ◌≤◌, [], ℕ, List, false, true, drop, length, map, nat_lt, take, codes, vec_len, IfOk, IfSome};
+ghost use Rattle.std.specs.Prelude.{◌≡◌, ◌∷◌, ◌++◌, ◌+◌, ◌*◌, ◌≤◌, ◌<◌, [], ℕ, List, false, true, drop, length, map, nat_lt, take, codes, vec_len, IfOk, IfSome};
 ghost use Rattle.std.specs.List.{list_all};
 ghost use Rattle.json.specs.Filled.{Placed};
 ghost use Rattle.mi_value.specs.Lent.{lent};
@@ -171,25 +171,38 @@ fn add_labelled<'a>(
     ))
 }
 
-/// Adds the text of a row behind a comma, if there is one before it, token by token.
+/// Puts a text behind the first bytes of a vector, and answers how many count then. One byte at least is free behind them.
+#[inline(always)]
+fn put_behind(text: &mut Vec<u8>, at: usize, bytes: &[u8]) -> Result<usize, AllocError>
+    requires { at ≤ vec_len text.old }
+    ensures text { IfOk result (λ end. take end text.new.items ≡ take at text.old.items ++ bytes.now) }
+    ensures within { IfOk result (λ end. end < vec_len text.new) }
+{
+    make_room(text, at, bytes.len() + 1)?;
+    Ok(put_text(text.as_mut_slice(), at, bytes))
+}
+
+/// Adds the text of a row to the first bytes of a vector, behind a comma, if there is one before it, token by token. Answers how many
+/// bytes count then.
 fn add_slowly(
     alloc: Global,
     text: &mut Vec<u8>,
+    len: usize,
     later: bool,
     id: u64,
     row: &Record,
     columns: &[Column],
 ) -> Result<usize, AllocError>
-    requires { length columns.now ≤ MAX_COLUMNS }
-    ensures text { IfOk result (λ end. take end text.new.items ≡ text.old.items ++ (comma_if later ++ compact_text (row_data columns.now id row.now))) }
+    requires few { length columns.now ≤ MAX_COLUMNS }
+    requires within { len ≤ vec_len text.old }
+    ensures text { IfOk result (λ end. take end text.new.items
+        ≡ take len text.old.items ++ (comma_if later ++ compact_text (row_data columns.now id row.now))) }
     ensures within { IfOk result (λ end. end ≤ vec_len text.new) }
 {
     let written = row_by_tokens(alloc, id, row, columns)?;
-    if later {
-        text.push(b',')?;
-    }
-    text.extend_from_slice(written.as_slice())?;
-    Ok(text.len())
+    make_room(text, len, written.len() + 1)?;
+    let begun = put_comma(text.as_mut_slice(), len, later);
+    Ok(put_text(text.as_mut_slice(), begun, written.as_slice()))
 }
 
 /// Adds the text of a row to the first bytes of a vector, behind a comma, if there is one before it. Answers how many bytes count then.
@@ -216,8 +229,7 @@ fn add_row<'a>(
     if let Some(end) = add_labelled(text, len, later, id, row, columns, labels, cells)? {
         return Ok(end);
     }
-    text.truncate(len);
-    add_slowly(alloc, text, later, id, row, columns)
+    add_slowly(alloc, text, len, later, id, row, columns)
 }
 
 /// Whether each row has a value. It reads the records one right behind another, so that the processor fetches those that lie far apart
@@ -246,22 +258,24 @@ fn labels_for(rows: &[(u64, &Record)], columns: &[Column]) -> Option<Labels>
     }
 }
 
-/// Adds the texts of rows, with commas between them, to a vector. Answers how many of its bytes count then.
+/// Adds the texts of rows, with commas between them, to the first bytes of a vector. Answers how many of its bytes count then.
 fn add_rows(
     alloc: Global,
     text: &mut Vec<u8>,
+    at: usize,
     rows: &[(u64, &Record)],
     columns: &[Column],
     labels: &Option<Labels>,
 ) -> Result<usize, AllocError>
     requires few { length columns.now ≤ MAX_COLUMNS }
+    requires within { at ≤ vec_len text.old }
     requires labels { AreLabels columns.now labels.now }
     ensures text { IfOk result (λ end. take end text.new.items ++ 93 ∷ []
-        ≡ text.old.items ++ items_text false (rows_items columns.now (map (λ r. (r.0, r.1.now)) rows.now))) }
+        ≡ take at text.old.items ++ items_text false (rows_items columns.now (map (λ r. (r.0, r.1.now)) rows.now))) }
     ensures within { IfOk result (λ end. end ≤ vec_len text.new) }
 {
     let mut cells = NO_CELLS;
-    let mut end = text.len();
+    let mut end = at;
     let mut later = false;
     'rows: for row in rows {
         let (id, row) = *row;
@@ -284,97 +298,113 @@ fn rows_front(more: bool) -> &'static [u8]
     }
 }
 
-/// The text of the reply that shows several rows, by these labels.
-fn labelled_rows(
+/// Puts the text of the reply that shows several rows, by these labels.
+fn put_page(
     alloc: Global,
+    text: &mut Vec<u8>,
+    at: usize,
     rows: &[(u64, &Record)],
     more: bool,
     columns: &[Column],
     labels: &Option<Labels>,
-) -> Result<Vec<u8>, AllocError>
+) -> Result<usize, AllocError>
     requires few { length columns.now ≤ MAX_COLUMNS }
+    requires within { at ≤ vec_len text.old }
     requires labels { AreLabels columns.now labels.now }
-    ensures { IfOk result (λ t. t.items
-        ≡ compact_text (object (member (codes "more") (boolean more) (member (codes "ok") (boolean true)
+    ensures text { IfOk result (λ end. take end text.new.items
+        ≡ take at text.old.items ++ compact_text (object (member (codes "more") (boolean more) (member (codes "ok") (boolean true)
         (member (codes "rows") (array (rows_items columns.now (map (λ r. (r.0, r.1.now)) rows.now))) no_members))))) }
+    ensures within { IfOk result (λ end. end < vec_len text.new) }
 {
     let members = columns.len() + 1;
     let room = PAGE_ROOM + (rows.len().min(MAX_PAGE) * SHORT_MEMBER + MEMBER) * members;
-    let mut text = Vec::with_capacity(alloc, room)?;
-    text.extend_from_slice(rows_front(more))?;
-    let end = add_rows(alloc, &mut text, rows, columns, labels)?;
-    text.truncate(end);
-    text.extend_from_slice(b"]}")?;
-    Ok(text)
+    make_room(text, at, room)?;
+    let begun = put_behind(text, at, rows_front(more))?;
+    let end = add_rows(alloc, text, begun, rows, columns, labels)?;
+    put_behind(text, end, b"]}")
 }
 
-/// The text of the reply that shows several rows, and whether more follow, without a newline: `{"more":false,"ok":true,"rows":[..]}`. Of
-/// columns there are at most 16.
-pub fn rows_text(
+/// Puts the text of the reply that shows several rows, and whether more follow, behind the first bytes of a vector, without a newline, and
+/// answers how many bytes count then: `{"more":false,"ok":true,"rows":[..]}`. One byte at least is free behind them. Of columns there are at
+/// most 16. Labels that were made of these columns before save time.
+///
+/// It errs where memory is refused; then nothing is said of the bytes behind the first.
+pub fn put_rows_reply(
     alloc: Global,
+    text: &mut Vec<u8>,
+    at: usize,
     rows: &[(u64, &Record)],
     more: bool,
     columns: &[Column],
-) -> Result<Vec<u8>, AllocError>
-    requires { length columns.now ≤ MAX_COLUMNS }
-    ensures { IfOk result (λ t. t.items
-        ≡ compact_text (object (member (codes "more") (boolean more) (member (codes "ok") (boolean true)
-        (member (codes "rows") (array (rows_items columns.now (map (λ r. (r.0, r.1.now)) rows.now))) no_members))))) }
-{
-    let labels = labels_for(rows, columns);
-    labelled_rows(alloc, rows, more, columns, &labels)
-}
-
-/// The text of `rows_text`, with labels that were made of these columns before.
-pub fn rows_text_with(
-    alloc: Global,
-    rows: &[(u64, &Record)],
-    more: bool,
-    columns: &[Column],
-    labels: &RowLabels,
-) -> Result<Vec<u8>, AllocError>
+    labels: Option<&RowLabels>,
+) -> Result<usize, AllocError>
     requires few { length columns.now ≤ MAX_COLUMNS }
-    requires labels { labels.now ≡ columns.now }
-    ensures { IfOk result (λ t. t.items
-        ≡ compact_text (object (member (codes "more") (boolean more) (member (codes "ok") (boolean true)
+    requires within { at ≤ vec_len text.old }
+    requires labels { IfSome labels (λ labels. labels.now ≡ columns.now) }
+    ensures text { IfOk result (λ end. take end text.new.items
+        ≡ take at text.old.items ++ compact_text (object (member (codes "more") (boolean more) (member (codes "ok") (boolean true)
         (member (codes "rows") (array (rows_items columns.now (map (λ r. (r.0, r.1.now)) rows.now))) no_members))))) }
+    ensures within { IfOk result (λ end. end < vec_len text.new) }
 {
+    let Some(labels) = labels else {
+        let labels = labels_for(rows, columns);
+        return put_page(alloc, text, at, rows, more, columns, &labels);
+    };
     if are_filled(rows) {
-        labelled_rows(alloc, rows, more, columns, labels.members())
+        put_page(alloc, text, at, rows, more, columns, labels.members())
     } else {
-        labelled_rows(alloc, rows, more, columns, &None)
+        put_page(alloc, text, at, rows, more, columns, &None)
     }
 }
 
-/// The text of `row_text`, with labels that were made of these columns before.
-pub fn row_text_with(
+/// Puts the text of the reply that shows a row, by these labels.
+fn put_one(
     alloc: Global,
+    text: &mut Vec<u8>,
+    at: usize,
     id: u64,
     row: &Record,
     columns: &[Column],
-    labels: &RowLabels,
-) -> Result<Vec<u8>, AllocError>
+    labels: &Option<Labels>,
+) -> Result<usize, AllocError>
     requires few { length columns.now ≤ MAX_COLUMNS }
-    requires labels { labels.now ≡ columns.now }
-    ensures { IfOk result (λ t. t.items
-        ≡ compact_text (object (member (codes "ok") (boolean true) (member (codes "row") (row_data columns.now id row.now) no_members)))) }
+    requires within { at ≤ vec_len text.old }
+    requires labels { AreLabels columns.now labels.now }
+    ensures text { IfOk result (λ end. take end text.new.items ≡ take at text.old.items
+        ++ compact_text (object (member (codes "ok") (boolean true) (member (codes "row") (row_data columns.now id row.now) no_members)))) }
+    ensures within { IfOk result (λ end. end < vec_len text.new) }
 {
     let mut cells = NO_CELLS;
-    let room = room_for(&row.values(), columns).unwrap_or(0);
-    let mut text = Vec::with_capacity(alloc, ROW_FRONT.len() + room)?;
-    text.extend_from_slice(&ROW_FRONT)?;
+    let begun = put_behind(text, at, &ROW_FRONT)?;
     let end = add_row(
-        alloc,
-        &mut text,
-        ROW_FRONT.len(),
-        false,
-        id,
-        row,
-        columns,
-        labels.members(),
-        &mut cells,
+        alloc, text, begun, false, id, row, columns, labels, &mut cells,
     )?;
-    text.truncate(end);
-    text.push(b'}')?;
-    Ok(text)
+    put_behind(text, end, b"}")
+}
+
+/// Puts the text of the reply that shows a row behind the first bytes of a vector, without a newline, and answers how many bytes count then:
+/// `{"ok":true,"row":{..}}`. One byte at least is free behind them. A row with fewer values than columns shows those that it has. Of columns
+/// there are at most 16. Labels that were made of these columns before save time.
+///
+/// It errs where memory is refused; then nothing is said of the bytes behind the first.
+pub fn put_row_reply(
+    alloc: Global,
+    text: &mut Vec<u8>,
+    at: usize,
+    id: u64,
+    row: &Record,
+    columns: &[Column],
+    labels: Option<&RowLabels>,
+) -> Result<usize, AllocError>
+    requires few { length columns.now ≤ MAX_COLUMNS }
+    requires within { at ≤ vec_len text.old }
+    requires labels { IfSome labels (λ labels. labels.now ≡ columns.now) }
+    ensures text { IfOk result (λ end. take end text.new.items ≡ take at text.old.items
+        ++ compact_text (object (member (codes "ok") (boolean true) (member (codes "row") (row_data columns.now id row.now) no_members)))) }
+    ensures within { IfOk result (λ end. end < vec_len text.new) }
+{
+    match labels {
+        Some(labels) => put_one(alloc, text, at, id, row, columns, labels.members()),
+        None => put_one(alloc, text, at, id, row, columns, &None),
+    }
 }

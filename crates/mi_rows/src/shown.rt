@@ -198,25 +198,3 @@ pub(crate) fn row_by_tokens(
     write_row(&mut writer, id, row, columns)?;
     Ok(writer.into_inner())
 }
-
-/// The text of the reply that shows a row, without a newline: `{"ok":true,"row":{..}}`. A row with fewer values than columns shows those
-/// that it has. Of columns there are at most 16. One row is written token by token:
-/// the labels that a page's rows share take longer to make than they save here.
-pub fn row_text(
-    alloc: Global,
-    id: u64,
-    row: &Record,
-    columns: &[Column],
-) -> Result<Vec<u8>, AllocError>
-    requires { length columns.now ≤ MAX_COLUMNS }
-    ensures { IfOk result (λ t. t.items
-        ≡ compact_text (object (member (codes "ok") (boolean true) (member (codes "row") (row_data columns.now id row.now) no_members)))) }
-{
-    let mut text = Vec::with_capacity(alloc, ROW_REPLY_ROOM)?;
-    text.extend_from_slice(b"{\"ok\":true,\"row\":")?;
-    let mut writer = Writer::new(text);
-    write_row(&mut writer, id, row, columns)?;
-    let mut text = writer.into_inner();
-    text.push(b'}')?;
-    Ok(text)
-}

@@ -8,4 +8,4 @@ abbrev pub invariant-rows : goal.invariant-rows
 invariant-rows l =
     (l.end ≤ vec_len l.text)
     × (take l.end l.text.items ++ items_text l.later (rows_items l.columns (map (λ r. (r.0, r.1.now)) (drop l.row-index l.rows)))
-    ≡ l.initial.text.items ++ items_text false (rows_items l.columns (map (λ r. (r.0, r.1.now)) l.rows)))
+    ≡ take l.at l.initial.text.items ++ items_text false (rows_items l.columns (map (λ r. (r.0, r.1.now)) l.rows)))
