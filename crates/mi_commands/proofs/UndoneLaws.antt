@@ -152,15 +152,15 @@ module _ (n : ℕ) where
 
 -- ---- no command changes the catalog
 
-undone_catalog : (d : Database) (old : List (List Table)) → (undone_to d old).catalog ≡ d.catalog
+pub undone_catalog : (d : Database) (old : List (List Table)) → (undone_to d old).catalog ≡ d.catalog
 undone_catalog d [] = refl
 undone_catalog d (tables ∷ old) = refl
 
-squashed_catalog : (d : Database) (old : List (List Table)) → (squashed_to d old).catalog ≡ d.catalog
+pub squashed_catalog : (d : Database) (old : List (List Table)) → (squashed_to d old).catalog ≡ d.catalog
 squashed_catalog d [] = refl
 squashed_catalog d (tables ∷ old) = refl
 
-undone_times_catalog : (k : ℕ) (d : Database) → (undone_times k d).catalog ≡ d.catalog
+pub undone_times_catalog : (k : ℕ) (d : Database) → (undone_times k d).catalog ≡ d.catalog
 undone_times_catalog zero d = refl
 undone_times_catalog (suc k) d = undone_times_catalog k (undone d) ∙ undone_catalog d d.old
 

@@ -3,6 +3,7 @@ pub mod Asked
 pub mod Holder
 pub mod Performed
 pub mod Answer
+pub mod Told
 pub mod Acts
 pub mod Undone
 pub mod Calls

@@ -1,6 +1,6 @@
 -- What a command says and leaves, done by a connection that nobody keeps out: {"cmd":"start"} says the new revision, opens a session, and
 -- makes its connection the holder.
-use Rattle.std.specs.Prelude.{ℕ, Bool, true, false, if◌then◌else◌, List, map, Option, Some, None, Result, Ok, Err}
+use Rattle.std.specs.Prelude.{ℕ, if◌then◌else◌, List, map, Option, Some, None, Result, Ok, Err}
 use Rattle.mi_value.specs.declared.value.Value.{Value}
 use Rattle.mi_value.specs.declared.refusal.Refusal.{Refusal}
 use Rattle.mi_value.specs.declared.refusal.Refusal.TheVariants.{NoId, Session}
@@ -152,9 +152,3 @@ done_by conn s e = (e.says (held_by conn s.holder), record { database = e.left; 
 -- a command, done by a connection that nobody keeps out
 abbrev pub performed : HeldDatabase → ℕ → Command → Said × HeldDatabase
 performed s conn c = done_by conn s (effect s.database c)
-
--- a command that brings a record
-abbrev pub brings_record : Command → Bool
-brings_record (command.Insert table row before) = true
-brings_record (command.Replace table id row) = true
-brings_record other = false

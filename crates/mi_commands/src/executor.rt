@@ -5,12 +5,12 @@ ghost use Rattle.mi_model.specs.Database.{depth, undone_times};
 ghost use Rattle.mi_protocol.specs.Binding.{FitsCatalog};
 ghost use Rattle.mi_request.specs.Answers.{IsAnswer, NamesNoIndex};
 ghost use Rattle.mi_request.specs.Lines.{command_line};
-ghost use Rattle.mi_protocol.specs.Replies.{reply_text, refused, said, is_short, IsSaidOf};
-ghost use Rattle.mi_protocol.specs.Text.{text_bytes};
+ghost use Rattle.mi_protocol.specs.Replies.{reply_text, refused};
+ghost use Rattle.mi_commands.specs.Told as spec;
 
 use crate::holder::{Holder, held_by, is_busy, without_holder};
 use crate::line::Line;
-use mi_protocol::{Command, LineReader, Reply, ReplyLabels, ReplyText, bind};
+use mi_protocol::{Command, LineReader, Output, Reply, ReplyLabels, bind};
 use mi_sessions::Sessions;
 use mi_value::Refusal;
 use std::alloc::Global;
@@ -40,7 +40,7 @@ impl<D: Sessions + Drop> Model for Executor<D> {
 
 impl<D: Sessions + Drop> Executor<D> {
     ghost use Rattle.mi_commands.specs.Holder.{released};
-    ghost use Rattle.mi_commands.specs.Performed.{performed, brings_record};
+    ghost use Rattle.mi_commands.specs.Performed.{performed};
     ghost use Rattle.mi_commands.specs.Answer.{command_of, done_without, TakesNone, GivenOrMemory, MayGive};
     ghost use Rattle.mi_commands.specs.Asked.{text, asked_of};
 
@@ -96,87 +96,34 @@ impl<D: Sessions + Drop> Executor<D> {
         undo_times(&mut self.database, count);
     }
 
-    /// Answers a line of a connection. `memory` may stand in the place of any answer, and then nothing has changed; but not to an over-long
-    /// line, nor to one of a session command other than `start`, of `revision`, of `size` or of `rank` that is written without spaces.
-    pub fn answer(&mut self, conn: u64, line: Line<'_>) -> ReplyText
-        ensures { MayGive conn self.old (asked_of line.entry) (text_bytes result) self.new }
+    /// Answers a line of a connection: the output has its reply then, and nothing else. `memory` may stand in the place of any answer, and then
+    /// nothing has changed; but not to an over-long line, nor to one of a session command other than `start`, of `revision`, of `size` or
+    /// of `rank` that is written without spaces.
+    pub fn answer(&mut self, conn: u64, line: Line<'_>, out: &mut Output)
+        ensures { MayGive conn self.old (asked_of line.entry) out.new self.new }
     {
-        let Line::Text(text) = line else {
-            return self.refuse(Refusal::Line);
-        };
-        self.answer_text(conn, text)
-    }
-
-    /// Does a command that fits the catalog. The session commands other than a start, `revision`, `size` and `rank` take no memory.
-    fn perform(&mut self, conn: u64, command: Command) -> ReplyText
-        requires { FitsCatalog self.old.database.catalog command }
-        ensures { GivenOrMemory (done_without command ≡ false) (performed self.old conn command) self.old (text_bytes result) self.new }
-    {
-        match command {
-            Command::Insert { table, row, before } => self.insert(table, row, before),
-            Command::Replace { table, id, row } => self.replace(table, id, row),
-            lent => self.perform_lent(conn, &lent),
+        match line {
+            Line::Text(text) => self.answer_text(conn, text, out),
+            Line::TooLong => self.refuse(Refusal::Line, out),
         }
     }
 
-    /// Does a command that fits the catalog and brings no record.
-    fn perform_lent(&mut self, conn: u64, command: &Command) -> ReplyText
-        requires fits { FitsCatalog self.old.database.catalog command.now }
-        requires lent { brings_record command.now ≡ false }
-        ensures { GivenOrMemory (done_without command.now ≡ false) (performed self.old conn command.now) self.old (text_bytes result) self.new }
+    /// Does a command that fits the catalog. The session commands other than a start, `revision`, `size` and `rank` take no memory.
+    fn perform(&mut self, conn: u64, command: Command, out: &mut Output)
+        requires { FitsCatalog self.old.database.catalog command }
+        ensures { GivenOrMemory (done_without command ≡ false) (performed self.old conn command) self.old out.new self.new }
     {
-        match command {
-            Command::Insert { .. } | Command::Replace { .. } => unreachable!(),
-            Command::Modify {
-                table,
-                id,
-                edits,
-                rollback,
-            } => self.modify(*table, *id, edits.as_slice(), *rollback),
-            Command::Erase { table, id } => self.erase(*table, *id),
-            Command::EraseKey { table, index, key } => {
-                self.erase_key(*table, *index, key.values())
-            }
-            Command::Relocate {
-                table,
-                index,
-                id,
-                before,
-            } => self.relocate(*table, *index, *id, *before),
-            Command::Start => self.start(conn),
-            Command::Undo => self.undo(),
-            Command::Squash => self.squash(),
-            Command::Commit { revision } => self.commit(*revision),
-            Command::UndoAll => self.undo_all(),
-            Command::Push => self.push(conn),
-            Command::Reserve { changes, sessions } => self.reserve(*changes, *sessions),
-            Command::Revision => self.status(conn),
-            Command::Get { table, id } => self.get(*table, *id),
-            Command::Find { table, index, key } => self.find(*table, *index, key.values()),
-            Command::Nth { table, index, n } => self.nth(*table, *index, *n),
-            Command::Count { table, index, key } => self.count(*table, *index, key.values()),
-            Command::Range {
-                table,
-                index,
-                lower,
-                upper,
-                reverse,
-                limit,
-            } => self.range(*table, *index, lower, upper, *reverse, *limit),
-            Command::List {
-                table,
-                index,
-                after,
-                limit,
-            } => self.list(*table, *index, *after, *limit),
-            Command::Rank { table, index, id } => self.rank(*table, *index, *id),
-            Command::LowerRank { table, index, key } => {
-                self.lower_rank(*table, *index, key.values())
-            }
-            Command::UpperRank { table, index, key } => {
-                self.upper_rank(*table, *index, key.values())
-            }
-            Command::Size { table } => self.size(*table),
+        if looks_up(&command) {
+            let reply = self.look(conn, &command);
+            out.put(self.alloc, &reply, self.database.catalog(), &self.labels);
+        } else {
+            let outcome = self.change(conn, command);
+            out.put(
+                self.alloc,
+                &outcome.reply,
+                self.database.catalog(),
+                &self.labels,
+            );
         }
     }
 
@@ -196,31 +143,46 @@ impl<D: Sessions + Drop> Executor<D> {
     }
 
     /// Answers a line that is not over-long.
-    fn answer_text(&mut self, conn: u64, bytes: &[u8]) -> ReplyText
-        ensures { MayGive conn self.old (text bytes.now) (text_bytes result) self.new }
+    fn answer_text(&mut self, conn: u64, bytes: &[u8], out: &mut Output)
+        ensures { MayGive conn self.old (text bytes.now) out.new self.new }
     {
-        let command = match self.read(conn, bytes) {
-            Ok(command) => command,
-            Err(refusal) => return self.refuse(refusal),
-        };
-        self.perform(conn, command)
+        match self.read(conn, bytes) {
+            Ok(command) => self.perform(conn, command, out),
+            Err(refusal) => self.refuse(refusal, out),
+        }
     }
 
-    /// The text of a refusal that names no index. It takes no memory.
-    pub(crate) fn refuse(&self, refusal: Refusal) -> ReplyText
+    /// Puts the text of a refusal that names no index. It takes no memory.
+    fn refuse(&self, refusal: Refusal, out: &mut Output)
         requires { NamesNoIndex refusal }
-        ensures { text_bytes result ≡ reply_text self.now.database.catalog (refused 0 refusal) }
+        ensures { out.new ≡ reply_text self.now.database.catalog (refused 0 refusal) }
     {
-        self.say(Reply::Refused { table: 0, refusal })
+        out.put(
+            self.alloc,
+            &Reply::Refused { table: 0, refusal },
+            self.database.catalog(),
+            &self.labels,
+        );
     }
+}
 
-    /// The text of a reply that shows no row. It takes no memory.
-    pub(crate) fn say(&self, reply: Reply<'_>) -> ReplyText
-        requires said { IsSaidOf self.now.database.catalog (said reply) }
-        requires short { is_short (said reply) ≡ true }
-        ensures { text_bytes result ≡ reply_text self.now.database.catalog (said reply.entry) }
-    {
-        reply.short_text(self.database.catalog())
+/// Whether a command looks up.
+fn looks_up(command: &Command) -> bool
+    ensures { result ≡ spec.looks_up command.now }
+{
+    match command {
+        Command::Get { .. }
+        | Command::Find { .. }
+        | Command::Nth { .. }
+        | Command::Count { .. }
+        | Command::Range { .. }
+        | Command::List { .. }
+        | Command::Rank { .. }
+        | Command::LowerRank { .. }
+        | Command::UpperRank { .. }
+        | Command::Size { .. }
+        | Command::Revision => true,
+        _ => false,
     }
 }
 

@@ -9,7 +9,9 @@ mod holder;
 pub mod laws;
 mod line;
 mod look_ups;
+mod outcome;
 mod sessions;
 
 pub use executor::Executor;
 pub use line::Line;
+pub use outcome::Outcome;

@@ -1,74 +1,123 @@
-//! The look-ups as commands. They change nothing; a reply takes memory only where it shows rows.
-ghost use Rattle.std.specs.Prelude.{◌≡◌, ◌<◌, length, map};
+//! The look-ups. They change nothing; what they answer lends its rows of the database, and takes memory for pages alone.
+ghost use Rattle.std.specs.Prelude.{◌≡◌, ◌<◌, length, true, false};
 ghost use Rattle.mi_protocol.specs.Binding.{FitsCatalog};
-ghost use Rattle.mi_protocol.specs.Replies as say;
 ghost use Rattle.mi_protocol.specs.Replies.{said, IsSaidOf};
-ghost use Rattle.mi_protocol.specs.Text.{text_bytes};
 
 use crate::executor::Executor;
-use mi_protocol::{Command, Reply, ReplyText};
-use mi_query::{Page, count, find, list, lower_rank, nth, range, rank, size, upper_rank};
+use crate::holder::held_by;
+use mi_protocol::{Command, Reply};
+use mi_query::{count, find, list, lower_rank, nth, range, rank, size, upper_rank};
 use mi_sessions::Sessions;
 use mi_value::{Lower, Refusal, Steps, Upper, Value};
 
 impl<D: Sessions + Drop> Executor<D> {
     ghost use Rattle.mi_commands.specs.Performed as performed;
     ghost use Rattle.mi_commands.specs.Performed.{performed as done};
-    ghost use Rattle.mi_commands.specs.Answer.{GivenOrMemory, IsGiven};
+    ghost use Rattle.mi_commands.specs.Answer.{done_without};
+    ghost use Rattle.mi_commands.specs.Told.{ToldOrMemory, looks_up};
 
-    /// Shows a record.
-    pub(crate) fn get(&self, table: usize, id: u64) -> ReplyText
-        requires { table < length self.now.database.catalog.tables }
-        ensures { GivenOrMemory (Unit {0}) (performed.show_row self.now.database table id, self.now) self.now (text_bytes result) self.now }
+    /// Answers a command that looks up. `Memory` may stand in the place of a range or a list alone.
+    pub fn look(&self, conn: u64, command: &Command) -> Reply<'_>
+        requires fits { FitsCatalog self.now.database.catalog command.now }
+        requires looks { looks_up command.now ≡ true }
+        ensures told { ToldOrMemory (done_without command.now ≡ false) (done self.now conn command.now) self.now (said result) self.now }
+        ensures fits { IsSaidOf self.now.database.catalog (said result) }
     {
-        let mut steps = Steps::new();
-        let Some(row) = self.database.get(table, id, &mut steps) else {
-            return self.refuse(Refusal::NoId);
-        };
-        self.show(Reply::Shown { table, id, row })
-    }
-
-    /// Shows the record that a look-up found.
-    fn get_found(&self, table: usize, found: Option<u64>) -> ReplyText
-        requires { table < length self.now.database.catalog.tables }
-        ensures { GivenOrMemory (Unit {0}) (performed.show_found self.now.database table found, self.now) self.now (text_bytes result) self.now }
-    {
-        match found {
-            Some(id) => self.get(table, id),
-            None => self.refuse(Refusal::NoId),
+        match command {
+            Command::Get { table, id } => self.get(*table, *id),
+            Command::Find { table, index, key } => self.find(*table, *index, key.values()),
+            Command::Nth { table, index, n } => self.nth(*table, *index, *n),
+            Command::Count { table, index, key } => self.count(*table, *index, key.values()),
+            Command::Range {
+                table,
+                index,
+                lower,
+                upper,
+                reverse,
+                limit,
+            } => self.range(*table, *index, lower, upper, *reverse, *limit),
+            Command::List {
+                table,
+                index,
+                after,
+                limit,
+            } => self.list(*table, *index, *after, *limit),
+            Command::Rank { table, index, id } => self.rank(*table, *index, *id),
+            Command::LowerRank { table, index, key } => {
+                self.lower_rank(*table, *index, key.values())
+            }
+            Command::UpperRank { table, index, key } => {
+                self.upper_rank(*table, *index, key.values())
+            }
+            Command::Size { table } => self.size(*table),
+            Command::Revision => self.status(conn),
+            _ => unreachable!(),
         }
     }
 
-    /// Shows the first record of a key.
-    pub(crate) fn find(&self, table: usize, index: usize, key: &[Value]) -> ReplyText
+    /// A record.
+    fn get(&self, table: usize, id: u64) -> Reply<'_>
+        requires { table < length self.now.database.catalog.tables }
+        ensures said { said result ≡ performed.show_row self.now.database table id }
+        ensures fits { IsSaidOf self.now.database.catalog (said result) }
+    {
+        let mut steps = Steps::new();
+        match self.database.get(table, id, &mut steps) {
+            Some(row) => Reply::Shown { table, id, row },
+            None => Reply::Refused {
+                table,
+                refusal: Refusal::NoId,
+            },
+        }
+    }
+
+    /// The record that a look-up found.
+    fn found(&self, table: usize, found: Option<u64>) -> Reply<'_>
+        requires { table < length self.now.database.catalog.tables }
+        ensures said { said result ≡ performed.show_found self.now.database table found }
+        ensures fits { IsSaidOf self.now.database.catalog (said result) }
+    {
+        match found {
+            Some(id) => self.get(table, id),
+            None => Reply::Refused {
+                table,
+                refusal: Refusal::NoId,
+            },
+        }
+    }
+
+    /// The first record of a key.
+    fn find(&self, table: usize, index: usize, key: &[Value]) -> Reply<'_>
         requires { FitsCatalog self.now.database.catalog (Command.Find table index key.now) }
-        ensures { GivenOrMemory (Unit {0}) (done self.now 0 (Command.Find table index key.now)) self.now (text_bytes result) self.now }
+        ensures said { said result ≡ (done self.now 0 (Command.Find table index key.now)).0 }
+        ensures fits { IsSaidOf self.now.database.catalog (said result) }
     {
         let mut steps = Steps::new();
         let found = find(&self.database, table, index, key, &mut steps);
-        self.get_found(table, found)
+        self.found(table, found)
     }
 
-    /// Shows the record of a rank.
-    pub(crate) fn nth(&self, table: usize, index: usize, n: u64) -> ReplyText
+    /// The record of a rank.
+    fn nth(&self, table: usize, index: usize, n: u64) -> Reply<'_>
         requires { FitsCatalog self.now.database.catalog (Command.Nth table index n) }
-        ensures { GivenOrMemory (Unit {0}) (done self.now 0 (Command.Nth table index n)) self.now (text_bytes result) self.now }
+        ensures said { said result ≡ (done self.now 0 (Command.Nth table index n)).0 }
+        ensures fits { IsSaidOf self.now.database.catalog (said result) }
     {
-        self.get_found(table, nth(&self.database, table, index, n))
+        self.found(table, nth(&self.database, table, index, n))
     }
 
-    /// Says how many records have a key.
-    pub(crate) fn count(&self, table: usize, index: usize, key: &[Value]) -> ReplyText
+    /// How many records have a key.
+    fn count(&self, table: usize, index: usize, key: &[Value]) -> Reply<'_>
         requires { FitsCatalog self.now.database.catalog (Command.Count table index key.now) }
-        ensures { GivenOrMemory (Unit {0}) (done self.now 0 (Command.Count table index key.now)) self.now (text_bytes result) self.now }
+        ensures said { said result ≡ (done self.now 0 (Command.Count table index key.now)).0 }
+        ensures fits { IsSaidOf self.now.database.catalog (said result) }
     {
         let mut steps = Steps::new();
-        let counted = count(&self.database, table, index, key, &mut steps);
-        self.say(Reply::Counted(counted))
+        Reply::Counted(count(&self.database, table, index, key, &mut steps))
     }
 
-    /// Shows the records between two bounds.
-    pub(crate) fn range(
+    /// The records between two bounds.
+    fn range(
         &self,
         table: usize,
         index: usize,
@@ -76,10 +125,11 @@ impl<D: Sessions + Drop> Executor<D> {
         upper: &Upper,
         reverse: bool,
         limit: usize,
-    ) -> ReplyText
+    ) -> Reply<'_>
         requires { FitsCatalog self.now.database.catalog (Command.Range table index lower.now upper.now reverse limit) }
-        ensures { GivenOrMemory (Unit {0}) (done self.now 0 (Command.Range table index lower.now upper.now reverse limit))
-            self.now (text_bytes result) self.now }
+        ensures told { ToldOrMemory (Unit {0}) (done self.now 0 (Command.Range table index lower.now upper.now reverse limit))
+            self.now (said result) self.now }
+        ensures fits { IsSaidOf self.now.database.catalog (said result) }
     {
         let mut steps = Steps::new();
         match range(
@@ -93,21 +143,20 @@ impl<D: Sessions + Drop> Executor<D> {
             limit,
             &mut steps,
         ) {
-            Ok(page) => self.show_page(table, page),
-            Err(refusal) => self.refuse(refusal),
+            Ok(page) => Reply::Rows {
+                table,
+                rows: page.rows,
+                more: page.more,
+            },
+            Err(refusal) => Reply::Refused { table, refusal },
         }
     }
 
-    /// Shows the records of a sequenced index.
-    pub(crate) fn list(
-        &self,
-        table: usize,
-        index: usize,
-        after: Option<u64>,
-        limit: usize,
-    ) -> ReplyText
+    /// The records of a sequenced index.
+    fn list(&self, table: usize, index: usize, after: Option<u64>, limit: usize) -> Reply<'_>
         requires { FitsCatalog self.now.database.catalog (Command.List table index after limit) }
-        ensures { GivenOrMemory (Unit {0}) (done self.now 0 (Command.List table index after limit)) self.now (text_bytes result) self.now }
+        ensures told { ToldOrMemory (Unit {0}) (done self.now 0 (Command.List table index after limit)) self.now (said result) self.now }
+        ensures fits { IsSaidOf self.now.database.catalog (said result) }
     {
         let mut steps = Steps::new();
         match list(
@@ -119,72 +168,66 @@ impl<D: Sessions + Drop> Executor<D> {
             limit,
             &mut steps,
         ) {
-            Ok(page) => self.show_page(table, page),
-            Err(refusal) => self.refuse(refusal),
+            Ok(page) => Reply::Rows {
+                table,
+                rows: page.rows,
+                more: page.more,
+            },
+            Err(refusal) => Reply::Refused { table, refusal },
         }
     }
 
-    /// Says how many records stand before one. It takes no memory.
-    pub(crate) fn rank(&self, table: usize, index: usize, id: u64) -> ReplyText
+    /// How many records stand before one.
+    fn rank(&self, table: usize, index: usize, id: u64) -> Reply<'_>
         requires { FitsCatalog self.now.database.catalog (Command.Rank table index id) }
-        ensures { IsGiven (done self.now 0 (Command.Rank table index id)) self.now (text_bytes result) self.now }
+        ensures said { said result ≡ (done self.now 0 (Command.Rank table index id)).0 }
+        ensures fits { IsSaidOf self.now.database.catalog (said result) }
     {
         let mut steps = Steps::new();
         match rank(&self.database, table, index, id, &mut steps) {
-            Ok(before) => self.say(Reply::Ranked(before)),
-            Err(refusal) => self.refuse(refusal),
+            Ok(before) => Reply::Ranked(before),
+            Err(refusal) => Reply::Refused { table, refusal },
         }
     }
 
-    /// Says how many keys are less than a key.
-    pub(crate) fn lower_rank(&self, table: usize, index: usize, key: &[Value]) -> ReplyText
+    /// How many keys are less than a key.
+    fn lower_rank(&self, table: usize, index: usize, key: &[Value]) -> Reply<'_>
         requires { FitsCatalog self.now.database.catalog (Command.LowerRank table index key.now) }
-        ensures { GivenOrMemory (Unit {0}) (done self.now 0 (Command.LowerRank table index key.now)) self.now (text_bytes result) self.now }
+        ensures said { said result ≡ (done self.now 0 (Command.LowerRank table index key.now)).0 }
+        ensures fits { IsSaidOf self.now.database.catalog (said result) }
     {
         let mut steps = Steps::new();
-        let less = lower_rank(&self.database, table, index, key, &mut steps);
-        self.say(Reply::Ranked(less))
+        Reply::Ranked(lower_rank(&self.database, table, index, key, &mut steps))
     }
 
-    /// Says how many keys are not greater than a key.
-    pub(crate) fn upper_rank(&self, table: usize, index: usize, key: &[Value]) -> ReplyText
+    /// How many keys are not greater than a key.
+    fn upper_rank(&self, table: usize, index: usize, key: &[Value]) -> Reply<'_>
         requires { FitsCatalog self.now.database.catalog (Command.UpperRank table index key.now) }
-        ensures { GivenOrMemory (Unit {0}) (done self.now 0 (Command.UpperRank table index key.now)) self.now (text_bytes result) self.now }
+        ensures said { said result ≡ (done self.now 0 (Command.UpperRank table index key.now)).0 }
+        ensures fits { IsSaidOf self.now.database.catalog (said result) }
     {
         let mut steps = Steps::new();
-        let not_greater = upper_rank(&self.database, table, index, key, &mut steps);
-        self.say(Reply::Ranked(not_greater))
+        Reply::Ranked(upper_rank(&self.database, table, index, key, &mut steps))
     }
 
-    /// Says how many records a table has. It takes no memory.
-    pub(crate) fn size(&self, table: usize) -> ReplyText
-        requires { FitsCatalog self.now.database.catalog (Command.Size table) }
-        ensures { IsGiven (done self.now 0 (Command.Size table)) self.now (text_bytes result) self.now }
-    {
-        self.say(Reply::Sized(size(&self.database, table)))
-    }
-
-    /// Shows the records of a page.
-    fn show_page(&self, table: usize, page: Page<'_>) -> ReplyText
+    /// How many records a table has.
+    fn size(&self, table: usize) -> Reply<'_>
         requires { table < length self.now.database.catalog.tables }
-        ensures { GivenOrMemory (Unit {0}) (say.rows table (map (λ r. (r.0, r.1.now)) page.entry.rows.items) page.entry.more, self.now)
-            self.now (text_bytes result) self.now }
+        ensures said { said result ≡ (done self.now 0 (Command.Size table)).0 }
+        ensures fits { IsSaidOf self.now.database.catalog (said result) }
     {
-        self.show(Reply::Rows {
-            table,
-            rows: page.rows,
-            more: page.more,
-        })
+        Reply::Sized(size(&self.database, table))
     }
 
-    /// The text of a reply that shows rows, or the refusal for want of memory.
-    fn show(&self, reply: Reply<'_>) -> ReplyText
-        requires { IsSaidOf self.now.database.catalog (said reply) }
-        ensures { GivenOrMemory (Unit {0}) (said reply.entry, self.now) self.now (text_bytes result) self.now }
+    /// The revision, and how many sessions are open and held by the connection.
+    fn status(&self, conn: u64) -> Reply<'_>
+        ensures said { said result ≡ (done self.now conn Command.Revision).0 }
+        ensures fits { IsSaidOf self.now.database.catalog (said result) }
     {
-        match reply.text_with(self.alloc, self.database.catalog(), &self.labels) {
-            Ok(text) => text,
-            Err(refusal) => self.refuse(refusal),
+        Reply::Status {
+            depth: self.database.depth(),
+            held: held_by(&self.holder, conn),
+            revision: self.database.revision(),
         }
     }
 }

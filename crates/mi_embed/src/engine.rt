@@ -6,11 +6,10 @@ ghost use Rattle.mi_embed.specs.Opening.{IsDescribed, IsOpened};
 ghost use Rattle.mi_embed.specs.State.{line_of, IsCopied};
 
 use crate::fault::OpenFault;
-use arrayvec::ArrayVec;
 use mi_commands::{Executor, Line};
 use mi_database::Linked;
 use mi_multi::MultiIndex;
-use mi_protocol::ReplyText;
+use mi_protocol::Output;
 use mi_schema::{Catalog, built_in, read_catalog};
 use mi_value::limits::{MAX_LINE, MAX_SCHEMA_FILE};
 use std::alloc::Global;
@@ -20,17 +19,16 @@ use std::marker::Model;
 #[derive(Drop)]
 pub struct Engine {
     pub(crate) executor: Executor<Linked<MultiIndex>>,
-    reply: ReplyText,
+    reply: Output,
     pub(crate) alloc: Global,
 }
 
 impl Model for Engine {
-    ghost use Rattle.mi_protocol.specs.Text.{text_bytes};
     ghost use Rattle.mi_embed.specs.State.{EngineState};
 
     ghost Value = { EngineState };
 
-    ghost view = { λ e. record { held = e.executor; reply = text_bytes e.reply } };
+    ghost view = { λ e. record { held = e.executor; reply = e.reply } };
 }
 
 /// The catalog of a schema's text; of no text, that of the built-in table.
@@ -61,7 +59,7 @@ impl Engine {
         executor.make_labels();
         Ok(Engine {
             executor,
-            reply: ReplyText::Short(ArrayVec::new()),
+            reply: Output::new(alloc),
             alloc,
         })
     }
@@ -77,7 +75,7 @@ impl Engine {
         } else {
             Line::Text(line)
         };
-        self.reply = self.executor.answer(conn, asked);
+        self.executor.answer(conn, asked, &mut self.reply);
         self.reply().len()
     }
 

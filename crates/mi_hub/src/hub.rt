@@ -16,7 +16,7 @@ use crate::line::LineBuffer;
 use crate::serve::{Answering, serve_last, serve_piece};
 use crate::watched::Watched;
 use mi_commands::{Executor, Line};
-use mi_protocol::ReplyText;
+use mi_protocol::Output;
 use mi_sessions::Sessions;
 use mi_value::limits::MAX_CONNECTIONS;
 use std::alloc::Global;
@@ -28,16 +28,17 @@ impl<D: Sessions + Drop> Answering for Executor<D> {
 
     ghost gives = { λ conn old line reply new. MayGive conn old line reply new };
 
-    fn answer(&mut self, conn: u64, line: Line<'_>) -> ReplyText {
-        Executor::answer(self, conn, line)
+    fn answer(&mut self, conn: u64, line: Line<'_>, out: &mut Output) {
+        Executor::answer(self, conn, line, out);
     }
 }
 
-/// A database, who holds its open sessions, and the attached connections.
+/// A database, who holds its open sessions, the attached connections, and where the reply to a line is made, whichever asks.
 #[derive(Drop)]
 pub struct Hub<D: Sessions + Drop> {
     executor: Executor<D>,
     connections: Vec<Connection>,
+    output: Output,
     alloc: Global,
 }
 
@@ -61,6 +62,7 @@ impl<D: Sessions + Drop> Hub<D> {
         Hub {
             executor: Executor::new(alloc, database),
             connections: Vec::new(alloc),
+            output: Output::new(alloc),
             alloc,
         }
     }
@@ -137,6 +139,7 @@ impl<D: Sessions + Drop> Hub<D> {
             conn,
             &mut self.connections[at].rest,
             bytes,
+            &mut self.output,
             writer,
         ) {
             Ok(()) => Ok(()),
@@ -162,7 +165,13 @@ impl<D: Sessions + Drop> Hub<D> {
         let Some(at) = self.place(conn) else {
             return Err(HubFault::NotAttached);
         };
-        let served = serve_last(&mut self.executor, conn, &self.connections[at].rest, writer);
+        let served = serve_last(
+            &mut self.executor,
+            conn,
+            &self.connections[at].rest,
+            &mut self.output,
+            writer,
+        );
         self.leave(at, conn);
         match served {
             Ok(()) => Ok(()),

@@ -5,14 +5,13 @@ ghost use Rattle.mi_commands.specs.Asked.{Asked, asked_of};
 ghost use Rattle.mi_hub.specs.Lines.{extended, ended_line, last_line, lines_from, rest_from};
 ghost use Rattle.mi_hub.specs.Served.{Served, CutOff};
 ghost use Rattle.mi_hub.specs.Watching.{has_failed, Writes};
-ghost use Rattle.mi_protocol.specs.Text.{text_bytes};
 
 use crate::line::{LineBuffer, ended_text};
-use crate::send::{WriteFault, send_reply};
+use crate::send::{WriteFault, send};
 use crate::watched::Watched;
 use memchr::memchr;
 use mi_commands::Line;
-use mi_protocol::ReplyText;
+use mi_protocol::Output;
 use std::io::Write;
 
 /// What answers lines.
@@ -20,8 +19,9 @@ pub trait Answering {
     /// From old, the line of this connection may be given this reply, and new is left.
     ghost gives: { ℕ → Self → Asked → List ℕ → Self → Type 0 };
 
-    fn answer(&mut self, conn: u64, line: Line<'_>) -> ReplyText
-        ensures { gives conn self.old (asked_of line.entry) (text_bytes result) self.new };
+    /// Answers a line. The output has its reply then, and nothing else.
+    fn answer(&mut self, conn: u64, line: Line<'_>, out: &mut Output)
+        ensures { gives conn self.old (asked_of line.entry) out.new self.new };
 }
 
 /// Asks one line, and writes its reply.
@@ -29,6 +29,7 @@ fn serve_line<S: Answering, W: Write>(
     served: &mut S,
     conn: u64,
     line: Line<'_>,
+    out: &mut Output,
     writer: &mut Watched<W>,
 ) -> Result<(), WriteFault>
     ensures ok { OnOk result ((out : List ℕ) × Writes W.contents writer.old writer.new out
@@ -38,8 +39,8 @@ fn serve_line<S: Answering, W: Write>(
         × CutOff (S.gives conn) served.old (asked_of line.entry ∷ []) out served.new) }
     ensures failed { OnErr result (has_failed writer.new ≡ true) }
 {
-    let text = served.answer(conn, line);
-    send_reply(text, writer)
+    served.answer(conn, line, out);
+    send(writer, out.line())
 }
 
 /// Asks a line, where there is one.
@@ -47,6 +48,7 @@ fn serve_some<S: Answering, W: Write>(
     served: &mut S,
     conn: u64,
     line: Option<Line<'_>>,
+    out: &mut Output,
     writer: &mut Watched<W>,
 ) -> Result<(), WriteFault>
     ensures ok { OnOk result ((out : List ℕ) × Writes W.contents writer.old writer.new out
@@ -57,7 +59,7 @@ fn serve_some<S: Answering, W: Write>(
     ensures failed { OnErr result (has_failed writer.new ≡ true) }
 {
     match line {
-        Some(line) => serve_line(served, conn, line, writer),
+        Some(line) => serve_line(served, conn, line, out, writer),
         None => Ok(()),
     }
 }
@@ -69,6 +71,7 @@ fn serve_ended<S: Answering, W: Write>(
     conn: u64,
     rest: &mut LineBuffer,
     text: &[u8],
+    out: &mut Output,
     writer: &mut Watched<W>,
 ) -> Result<(), WriteFault>
     ensures ok { OnOk result ((out : List ℕ) × Writes W.contents writer.old writer.new out
@@ -80,10 +83,10 @@ fn serve_ended<S: Answering, W: Write>(
     ensures failed { OnErr result (has_failed writer.new ≡ true) }
 {
     if rest.is_empty() {
-        return serve_some(served, conn, ended_text(text), writer);
+        return serve_some(served, conn, ended_text(text), out, writer);
     }
     rest.fill(text);
-    serve_some(served, conn, rest.ended(), writer)?;
+    serve_some(served, conn, rest.ended(), out, writer)?;
     rest.clear();
     Ok(())
 }
@@ -105,6 +108,7 @@ pub fn serve_piece<S: Answering, W: Write>(
     conn: u64,
     rest: &mut LineBuffer,
     piece: &[u8],
+    out: &mut Output,
     writer: &mut Watched<W>,
 ) -> Result<(), WriteFault>
     ensures ok { OnOk result ((out : List ℕ) × Writes W.contents writer.old writer.new out
@@ -117,7 +121,7 @@ pub fn serve_piece<S: Answering, W: Write>(
 {
     let mut left = piece;
     'lines: while let Some((front, back)) = cut_line(left) {
-        serve_ended(served, conn, rest, front, writer)?;
+        serve_ended(served, conn, rest, front, out, writer)?;
         left = back;
     }
     rest.fill(left);
@@ -129,6 +133,7 @@ pub fn serve_last<S: Answering, W: Write>(
     served: &mut S,
     conn: u64,
     rest: &LineBuffer,
+    out: &mut Output,
     writer: &mut Watched<W>,
 ) -> Result<(), WriteFault>
     ensures ok { OnOk result ((out : List ℕ) × Writes W.contents writer.old writer.new out
@@ -138,5 +143,5 @@ pub fn serve_last<S: Answering, W: Write>(
         × CutOff (S.gives conn) served.old (option_to_list (last_line rest.now)) out served.new) }
     ensures failed { OnErr result (has_failed writer.new ≡ true) }
 {
-    serve_some(served, conn, rest.last(), writer)
+    serve_some(served, conn, rest.last(), out, writer)
 }

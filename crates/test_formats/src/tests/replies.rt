@@ -3,7 +3,7 @@ ghost use Rattle.std.specs.Prelude.{IsTrue};
 ghost use Rattle.mi_protocol.specs.Replies.{said, IsSaidOf, IsRefusalOf};
 
 use mi_catalog::{Catalog, built_in};
-use mi_protocol::{Reply, ReplyLabels};
+use mi_protocol::{Output, Reply, ReplyLabels};
 use mi_value::{Record, Refusal, ValueRef};
 use std::alloc::{AllocError, Global};
 use std::process::Abort;
@@ -59,15 +59,16 @@ fn is_said(catalog: &Catalog, given: &Reply<'_>) -> bool
     }
 }
 
-/// A reply's text is this one, made alone and with labels.
+/// A reply's text is this one, made alone, and put with labels, with a newline behind it.
 fn assert_text(rt: &impl Abort, alloc: Global, catalog: &Catalog, given: &Reply<'_>, want: &str) {
     assert!(rt; is_said(catalog, given), "{want}");
     let text = given.text(alloc, catalog).expect(rt, "memory is there");
     assert_eq!(rt; text.as_slice(), want.as_bytes(), "{want}");
     let labels = ReplyLabels::of(alloc, catalog).expect(rt, "memory is there");
-    let text = given.text_with(alloc, catalog, &labels);
-    let text = text.expect(rt, "memory is there");
-    assert_eq!(rt; text.as_slice(), want.as_bytes(), "{want}");
+    let mut out = Output::new(alloc);
+    out.put(alloc, given, catalog, &labels);
+    assert_eq!(rt; out.as_slice(), want.as_bytes(), "{want}");
+    assert!(rt; out.line().ends_with(b"\n"), "{want}");
 }
 
 fn assert_refused(rt: &impl Abort, alloc: Global, catalog: &Catalog, refusal: Refusal, want: &str) {

@@ -1,0 +1,272 @@
+-- What may have changed nothing has changed nothing; replies without rows; and no command changes the catalog.
+use Rattle.std.proofs.Common.{◌≡◌, ℕ, List, Bool, true, false, cond, nat_eq, not, ◌+◌, ◌-◌, ◌&&◌, Option, Some, None, Result, Ok, Err}
+use Rattle.std.proofs.Common.{refl, sym, ap, ◌∙◌, inl, inr, true≢false}
+use Rattle.std.proofs.lemmas.List.{set-get_or}
+use Rattle.std.specs.Option.{option_map_or}
+use Rattle.mi_value.specs.declared.edit.Edit.{Edit}
+use Rattle.mi_value.specs.declared.refusal.Refusal.{Refusal}
+use Rattle.mi_value.specs.declared.refusal.Refusal.TheVariants.{NoId, Range, Spent, Depth, Lost, Memory}
+use Rattle.mi_value.specs.declared.refusal.NoSession.{NoSession}
+use Rattle.mi_value.specs.declared.limits.TheConstants.{MAX_SESSIONS}
+use Rattle.mi_value.specs.declared.value.Value.{Value}
+use Rattle.mi_value.specs.Edits.{apply}
+use Rattle.mi_catalog.specs.Shape.{Shape, CatalogShape}
+use Rattle.mi_model.specs.Table.{Table, has, row}
+use Rattle.mi_model.specs.Change.{put, erase, relocate}
+use Rattle.mi_model.specs.Conflict.{conflict}
+use Rattle.mi_model.specs.Verdict.{Outcome, unless, is_spent, has_place, as_unique, insert_refusal, insert_outcome, replace_refusal, replace_outcome}
+use Rattle.mi_model.specs.Verdict.{refused_modify, modified, modify_outcome, erase_outcome, erase_key_outcome, relocate_outcome}
+use Rattle.mi_model.specs.Database.{Database, Step, on_table, with_table, table_of, schema_of}
+use Rattle.mi_model.specs.Database.{depth, started, undone, squashed, start_step, undo_step, squash_step}
+use Rattle.mi_protocol.specs.Replies as say
+use Rattle.mi_protocol.specs.Output.{PutOrMemory}
+use Rattle.mi_protocol.specs.Replies.{Said, is_short, reply_text, refused}
+use Rattle.mi_protocol.specs.declared.binding.Command.{Command}
+use Rattle.mi_protocol.specs.declared.binding.Command.TheVariants as command
+use Rattle.mi_commands.specs.Answer.{done_without, GivenOrMemory}
+use Rattle.mi_commands.specs.Holder.{HeldDatabase}
+use Rattle.mi_commands.specs.Performed.{performed, altered, said_of, all_done, or_session, revised, Move, one_up, one_down, done_by}
+use Rattle.mi_commands.specs.Told.{looks_up, SaysMemory, ToldOrMemory, loses, tells_change, may_change}
+use Rattle.mi_commands.proofs.UndoneLaws.{undone_catalog, squashed_catalog, undone_times_catalog}
+
+not_false : {A : Type 0} → true ≡ false → A
+not_false e = absurd (true≢false e)
+
+-- ---- changes of a table
+
+-- what is refused, with no record lost, leaves this
+abbrev Keeps : {A S : Type 0} → Result A Refusal × S → S → Type 0
+Keeps o t = (e : Refusal) → loses e ≡ false → o.0 ≡ Err e → o.1 ≡ t
+
+accepted_keeps : {A S : Type 0} (answer : A) (t u : S) → Keeps {A = A} {S = S} (Ok answer, t) u
+accepted_keeps answer t u e none is = absurd (cc)
+
+refused_keeps : {A S : Type 0} (e : Refusal) (t : S) → Keeps {A = A} {S = S} (Err e, t) t
+refused_keeps e t f none is = refl
+
+unless_keeps : {A : Type 0} (o : Option Refusal) (answer : A) (changed t : Table) → Keeps (unless o answer changed t) t
+unless_keeps None answer changed t = accepted_keeps answer changed t
+unless_keeps (Some e) answer changed t = refused_keeps e t
+
+either_keeps : {A S : Type 0} (b : Bool) (x y : Result A Refusal × S) (t : S) → Keeps x t → Keeps y t → Keeps (cond b x y) t
+either_keeps true x y t h k = h
+either_keeps false x y t h k = k
+
+lost_keeps : {A : Type 0} (index id : ℕ) (changed t : Table) → Keeps {A = A} {S = Table} (Err (Lost index id), changed) t
+lost_keeps index id changed t e none is = not_false (ap loses (same is) ∙ none)
+  where
+    same : {A : Type 0} {e f : Refusal} → ◌≡◌ {A = Result A Refusal} (Err e) (Err f) → e ≡ f
+    same h = cc
+
+refused_modify-keeps : (rollback : Bool) (e : ℕ) (at : ℕ × ℕ) (t : Table) → Keeps (refused_modify rollback e at t) t
+refused_modify-keeps true e at t = refused_keeps (as_unique at) t
+refused_modify-keeps false e at t = lost_keeps at.0 at.1 (erase e t) t
+
+conflicting_keeps : (rollback : Bool) (e : ℕ) (o : Option (ℕ × ℕ)) (changed t : Table)
+    → Keeps (option_map_or (λ at. refused_modify rollback e at t) o (Ok tt, changed)) t
+conflicting_keeps rollback e None changed t = accepted_keeps tt changed t
+conflicting_keeps rollback e (Some at) changed t = refused_modify-keeps rollback e at t
+
+modified_keeps : (s : Shape) (e : ℕ) (rollback : Bool) (r : Option (List Value)) (t : Table) → Keeps (modified s e rollback r t) t
+modified_keeps s e rollback None t = refused_keeps Range t
+modified_keeps s e rollback (Some r) t =
+    either_keeps (is_spent t.arrivals) (Err Spent, t) _ t (refused_keeps Spent t)
+    (conflicting_keeps rollback e (conflict s t r (Some e)) (put s e r t) t)
+
+modify_keeps : (s : Shape) (e : ℕ) (edits : List Edit) (rollback : Bool) (t : Table) → Keeps (modify_outcome s e edits rollback t) t
+modify_keeps s e edits rollback t =
+    either_keeps (not (has t e)) (Err NoId, t) _ t (refused_keeps NoId t) (modified_keeps s e rollback (apply edits (row t e).1) t)
+
+-- the same of the database of the table
+on_table-keeps : {A : Type 0} (n : ℕ) (change : Shape → Table → Outcome A) (d : Database)
+    → Keeps (change (schema_of d n) (table_of d n)) (table_of d n) → Keeps (on_table n change d) d
+on_table-keeps n change d keeps e none is =
+    ap (λ t. with_table n t d) (keeps e none is) ∙ ap (λ ts. record d { tables = ts }) (set-get_or d.tables n _)
+
+-- ---- commands
+
+module _ (s : HeldDatabase) (conn : ℕ) where
+  altered_keeps : {A : Type 0} (accepted : A → Said) (denied : Refusal → Said) (step : Step A) → ((v : A) → tells_change (accepted v) ≡ true)
+      → ((e : Refusal) → tells_change (denied e) ≡ loses e) → Keeps step s.database
+      → tells_change (done_by conn s (altered accepted denied step)).0 ≡ false → (done_by conn s (altered accepted denied step)).1 ≡ s
+  altered_keeps {A} accepted denied step always says keeps h = by_answer step.0 refl h
+    where
+      by_answer : (a : Result A Refusal) → step.0 ≡ a → tells_change (said_of accepted denied a) ≡ false
+          → (done_by conn s (altered accepted denied step)).1 ≡ s
+      by_answer (Ok v) is k = not_false (sym (always v) ∙ k)
+      by_answer (Err e) is k = ap (λ d. record s { database = d }) (keeps e (sym (says e) ∙ k) is)
+
+  revised_keeps : (answer : Result ℕ Refusal) (left : Database) (move : Move)
+      → ((e : Refusal) → answer ≡ Err e → left ≡ s.database) → tells_change (done_by conn s (revised answer left move)).0 ≡ false
+      → (done_by conn s (revised answer left move)).1 ≡ s
+  revised_keeps (Ok n) left move keeps h = not_false h
+  revised_keeps (Err e) left move keeps h = ap (λ d. record s { database = d }) (keeps e refl)
+
+-- a start where the revision is the last, or where as many sessions are open as can be
+abbrev start_after : (spent deep : Bool) (d : Database) → Result ℕ Refusal × Database
+start_after spent deep d = cond spent (Err Spent, d) (cond deep (Err Depth, d) (Ok (d.revision + 1), started d))
+
+start_after-keeps : (spent deep : Bool) (d : Database) (e : Refusal) → (start_after spent deep d).0 ≡ Err e → (start_after spent deep d).1 ≡ d
+start_after-keeps true deep d e is = refl
+start_after-keeps false true d e is = refl
+start_after-keeps false false d e is = absurd (cc)
+
+start_keeps : (d : Database) (e : Refusal) → (start_step d).0 ≡ Err e → (start_step d).1 ≡ d
+start_keeps d e = start_after-keeps (is_spent d.revision) (nat_eq (depth d) MAX_SESSIONS) d e
+
+-- an undo or a squash, where no session may be open
+abbrev session_step : Bool → ℕ → Database → Database → Result ℕ NoSession × Database
+session_step none number left d = cond none (Err (record {}), d) (Ok number, left)
+
+session_keeps : (none : Bool) (number : ℕ) (left d : Database) (e : Refusal) → or_session (session_step none number left d).0 ≡ Err e
+    → (session_step none number left d).1 ≡ d
+session_keeps true number left d e is = refl
+session_keeps false number left d e is = absurd (cc)
+
+-- a command that can't have changed anything leaves all as it is
+pub command_keeps : (s : HeldDatabase) (conn : ℕ) (c : Command) → may_change c (performed s conn c).0 ≡ false → (performed s conn c).1 ≡ s
+command_keeps s conn (command.Insert table values before) h =
+    altered_keeps s conn say.inserted (say.refused table) _ (λ v. refl) (λ e. refl)
+    (on_table-keeps table (λ shape t. insert_outcome shape before values t) s.database
+    (unless_keeps (insert_refusal (schema_of s.database table) before values (table_of s.database table)) _ _ (table_of s.database table))) h
+command_keeps s conn (command.Replace table id values) h =
+    altered_keeps s conn all_done (say.refused table) _ (λ v. refl) (λ e. refl) (on_table-keeps table (λ shape t. replace_outcome shape id values t) s.database
+    (unless_keeps (replace_refusal (schema_of s.database table) id values (table_of s.database table)) _ _ (table_of s.database table))) h
+command_keeps s conn (command.Modify table id edits rollback) h =
+    altered_keeps s conn all_done (say.refused_modify table) _ (λ v. refl) (λ e. refl)
+    (on_table-keeps table (λ shape t. modify_outcome shape id edits rollback t) s.database
+    (modify_keeps (schema_of s.database table) id edits rollback (table_of s.database table))) h
+command_keeps s conn (command.Erase table id) h =
+    altered_keeps s conn all_done (say.refused table) _ (λ v. refl) (λ e. refl) (on_table-keeps table (λ shape t. erase_outcome id t) s.database
+    (either_keeps (has (table_of s.database table) id) (Ok tt, erase id (table_of s.database table)) (Err NoId, table_of s.database table)
+    (table_of s.database table) (accepted_keeps tt _ _) (refused_keeps NoId (table_of s.database table)))) h
+command_keeps s conn (command.EraseKey table index key) h =
+    altered_keeps s conn say.erased (say.refused table) _ (λ v. refl) (λ e. refl)
+    (on_table-keeps table (λ shape t. erase_key_outcome shape index key t) s.database (accepted_keeps _ _ _)) h
+command_keeps s conn (command.Relocate table index id before) h =
+    altered_keeps s conn all_done (say.refused table) _ (λ v. refl) (λ e. refl) (on_table-keeps table (λ shape t. relocate_outcome index id before t) s.database
+    (either_keeps (has (table_of s.database table) id && has_place (table_of s.database table) before)
+    (Ok tt, relocate index id before (table_of s.database table)) (Err NoId, table_of s.database table)
+    (table_of s.database table) (accepted_keeps tt _ _) (refused_keeps NoId (table_of s.database table)))) h
+command_keeps s conn command.Start h = revised_keeps s conn (start_step s.database).0 (start_step s.database).1 one_up (start_keeps s.database) h
+command_keeps s conn command.Undo h = revised_keeps s conn (or_session (undo_step s.database).0) (undo_step s.database).1 one_down
+    (session_keeps (nat_eq (depth s.database) 0) (s.database.revision - 1) (undone s.database) s.database) h
+command_keeps s conn command.Squash h = revised_keeps s conn (or_session (squash_step s.database).0) (squash_step s.database).1 one_down
+    (session_keeps (nat_eq (depth s.database) 0) (s.database.revision - 1) (squashed s.database) s.database) h
+command_keeps s conn (command.Commit x) h = not_false h
+command_keeps s conn command.UndoAll h = not_false h
+command_keeps s conn command.Push h = not_false h
+command_keeps s conn c h = refl
+
+pub told_keeps : {A : Type 0} (s t : HeldDatabase) (conn : ℕ) (c : Command) (told : Said) → ToldOrMemory A (performed s conn c) s told t
+    → may_change c told ≡ false → t ≡ s
+told_keeps s t conn c told (inr p) h = p.2
+told_keeps s t conn c told (inl p) h = p.1 ∙ command_keeps s conn c (sym (ap (may_change c) p.0) ∙ h)
+
+-- ---- replies without rows
+
+said_short : {A : Type 0} (accepted : A → Said) (denied : Refusal → Said) (a : Result A Refusal) → ((v : A) → is_short (accepted v) ≡ true)
+    → ((e : Refusal) → is_short (denied e) ≡ true) → is_short (said_of accepted denied a) ≡ true
+said_short accepted denied (Ok v) h k = h v
+said_short accepted denied (Err e) h k = k e
+
+either_short : (b : Bool) (x y : Said) → is_short x ≡ true → is_short y ≡ true → is_short (cond b x y) ≡ true
+either_short true x y h k = h
+either_short false x y h k = k
+
+change_short : (s : HeldDatabase) (conn : ℕ) (c : Command) → looks_up c ≡ false → is_short (performed s conn c).0 ≡ true
+change_short s conn (command.Insert table values before) h = said_short say.inserted (say.refused table) _ (λ v. refl) (λ e. refl)
+change_short s conn (command.Replace table id values) h = said_short all_done (say.refused table) _ (λ v. refl) (λ e. refl)
+change_short s conn (command.Modify table id edits rollback) h = said_short all_done (say.refused_modify table) _ (λ v. refl) (λ e. refl)
+change_short s conn (command.Erase table id) h = said_short all_done (say.refused table) _ (λ v. refl) (λ e. refl)
+change_short s conn (command.EraseKey table index key) h = refl
+change_short s conn (command.Relocate table index id before) h = said_short all_done (say.refused table) _ (λ v. refl) (λ e. refl)
+change_short s conn command.Start h = said_short say.revised (say.refused 0) (start_step s.database).0 (λ v. refl) (λ e. refl)
+change_short s conn command.Undo h = said_short say.revised (say.refused 0) (or_session (undo_step s.database).0) (λ v. refl) (λ e. refl)
+change_short s conn command.Squash h = said_short say.revised (say.refused 0) (or_session (squash_step s.database).0) (λ v. refl) (λ e. refl)
+change_short s conn (command.Commit x) h = refl
+change_short s conn command.UndoAll h = refl
+change_short s conn command.Push h = refl
+change_short s conn (command.Reserve changes sessions) h = refl
+change_short s conn c h = not_false h
+
+without_short : (s : HeldDatabase) (conn : ℕ) (c : Command) → done_without c ≡ true → is_short (performed s conn c).0 ≡ true
+without_short s conn (command.Rank table index id) h = either_short (has (table_of s.database table) id) _ _ refl refl
+without_short s conn (command.Size table) h = refl
+without_short s conn command.Revision h = refl
+without_short s conn command.Undo h = change_short s conn command.Undo refl
+without_short s conn command.Squash h = change_short s conn command.Squash refl
+without_short s conn (command.Commit x) h = refl
+without_short s conn command.UndoAll h = refl
+without_short s conn command.Push h = refl
+without_short s conn c h = not_false (sym h)
+
+memory_short : (told : Said) → SaysMemory told → is_short told ≡ true
+memory_short (say.refused table e) h = refl
+memory_short (say.refused_modify table e) h = refl
+memory_short told h = absurd h
+
+told_short : {A : Type 0} (s t : HeldDatabase) (conn : ℕ) (c : Command) (told : Said) → looks_up c ≡ false
+    → ToldOrMemory A (performed s conn c) s told t → is_short told ≡ true
+told_short s t conn c told h (inl p) = ap is_short p.0 ∙ change_short s conn c h
+told_short s t conn c told h (inr p) = memory_short told p.1
+
+-- ---- texts
+
+memory_text : (c : CatalogShape) (told : Said) → SaysMemory told → reply_text c told ≡ reply_text c (refused 0 Memory)
+memory_text c (say.refused table Memory) h = refl
+memory_text c (say.refused_modify table Memory) h = refl
+memory_text c told h = absurd h
+
+-- what is told is given as text
+told_given : {A : Type 0} (a : Said × HeldDatabase) (s t : HeldDatabase) (told : Said) (text : List ℕ) → ToldOrMemory A a s told t
+    → text ≡ reply_text s.database.catalog told → GivenOrMemory A a s text t
+told_given a s t told text (inl p) is = inl (is ∙ ap (reply_text s.database.catalog) p.0, p.1)
+told_given a s t told text (inr p) is = inr (p.0, (is ∙ memory_text s.database.catalog told p.1, p.2))
+
+lacks : (s : HeldDatabase) (conn : ℕ) (c : Command) (b : Bool) → done_without c ≡ b → is_short (performed s conn c).0 ≡ false → done_without c ≡ false
+lacks s conn c false is h = is
+lacks s conn c true is h = not_false (sym (without_short s conn c is) ∙ h)
+
+-- ---- the catalog
+
+start_after-catalog : (spent deep : Bool) (d : Database) → (start_after spent deep d).1.catalog ≡ d.catalog
+start_after-catalog true deep d = refl
+start_after-catalog false true d = refl
+start_after-catalog false false d = refl
+
+session_catalog : (none : Bool) (number : ℕ) (left d : Database) → left.catalog ≡ d.catalog → (session_step none number left d).1.catalog ≡ d.catalog
+session_catalog true number left d h = refl
+session_catalog false number left d h = h
+
+command_catalog : (s : HeldDatabase) (conn : ℕ) (c : Command) → (performed s conn c).1.database.catalog ≡ s.database.catalog
+command_catalog s conn command.Start = start_after-catalog (is_spent s.database.revision) (nat_eq (depth s.database) MAX_SESSIONS) s.database
+command_catalog s conn command.Undo = session_catalog (nat_eq (depth s.database) 0) (s.database.revision - 1) (undone s.database) s.database
+    (undone_catalog s.database s.database.old)
+command_catalog s conn command.Squash = session_catalog (nat_eq (depth s.database) 0) (s.database.revision - 1) (squashed s.database) s.database
+    (squashed_catalog s.database s.database.old)
+command_catalog s conn command.UndoAll = undone_times_catalog (depth s.database) s.database
+command_catalog s conn c = refl
+
+told_catalog : {A : Type 0} (s t : HeldDatabase) (conn : ℕ) (c : Command) (told : Said) → ToldOrMemory A (performed s conn c) s told t
+    → t.database.catalog ≡ s.database.catalog
+told_catalog s t conn c told (inl p) = ap (λ (u : HeldDatabase). u.database.catalog) p.1 ∙ command_catalog s conn c
+told_catalog s t conn c told (inr p) = ap (λ (u : HeldDatabase). u.database.catalog) p.2
+
+-- ---- what an output has
+
+-- rows that find no room are refused for want of memory, and a look-up has changed nothing
+pub look_put : (s : HeldDatabase) (conn : ℕ) (c : Command) (told : Said) (text : List ℕ)
+    → ToldOrMemory (done_without c ≡ false) (performed s conn c) s told s → PutOrMemory s.database.catalog told text
+    → GivenOrMemory (done_without c ≡ false) (performed s conn c) s text s
+look_put s conn c told text h (inl is) = told_given (performed s conn c) s s told text h is
+look_put s conn c told text (inl p) (inr q) = inr (lacks s conn c (done_without c) refl (sym (ap is_short p.0) ∙ q.0), (q.1, refl))
+look_put s conn c told text (inr p) (inr q) = inr (p.0, (q.1, refl))
+
+-- what a change tells has no rows
+pub change_put : (s t : HeldDatabase) (conn : ℕ) (c : Command) (told : Said) (text : List ℕ) → looks_up c ≡ false
+    → ToldOrMemory (done_without c ≡ false) (performed s conn c) s told t → PutOrMemory t.database.catalog told text
+    → GivenOrMemory (done_without c ≡ false) (performed s conn c) s text t
+change_put s t conn c told text changes h (inl is) =
+    told_given (performed s conn c) s t told text h (is ∙ ap (λ (k : CatalogShape). reply_text k told) (told_catalog s t conn c told h))
+change_put s t conn c told text changes h (inr q) = not_false (sym (told_short s t conn c told changes h) ∙ q.0)
