@@ -5,4 +5,5 @@ pub mod JoinLemmas
 mod ReplayLemmas
 mod FrontLemmas
 mod RunActLemmas
+mod UndoneBytesLemmas
 mod ExampleLemmas

@@ -3,6 +3,9 @@ ghost use Rattle.mi_replay.specs.LeftOut.{RefusalsChangeNothing, LookUpsChangeNo
 ghost use Rattle.mi_replay.specs.RunActs.{RunsAreActs, HubsReplay};
 ghost use Rattle.mi_replay.specs.ReplayLaws.{RunsHaveJournals, ChangesMayBeKept, JournalsReplay, ReplaysEndAsRuns, JournalsJoin};
 ghost use Rattle.mi_replay.specs.ReplayLaws.{ReplaysAreRuns, FrontsReplay, TornFilesReplay, FilesGrowByLines};
+ghost use Rattle.mi_replay.specs.UndoneBytes.{UndoBytesTakeBack, UndoBytesAreGiven};
+
+use mi_commands::laws::undo_lines_take_back;
 
 /// Every run has a journal; a line that changes anything can always be put into it.
 pub fn runs_have_journals()
@@ -53,3 +56,14 @@ pub fn hubs_replay()
     ensures acts { RunsAreActs }
     ensures journal { HubsReplay }
 {}
+
+/// From the bytes of any connections to what stands in the tables: a connection feeds the line `{"cmd":"start"}`, which is accepted. Then any
+/// events happen to the hub, pieces cut anywhere among them, that leave its session open with k - 1 sessions above it. Then a
+/// connection that isn't kept out feeds k lines `{"cmd":"undo"}`, in pieces cut anywhere. All tables and the revision are those that the
+/// start began with, and each undo was accepted: none is answered `memory`, `busy` or `session`. Such lines are always answered.
+pub fn undo_bytes_take_back()
+    ensures back { UndoBytesTakeBack }
+    ensures given { UndoBytesAreGiven }
+{
+    undo_lines_take_back();
+}
