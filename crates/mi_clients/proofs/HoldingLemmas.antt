@@ -1,9 +1,9 @@
 -- No command leaves a holder that holds none.
-use Rattle.std.proofs.Common.{◌≡◌, inl, inr, ℕ, ◌+◌, ◌-◌, ◌<◌, List, [], ◌∷◌, Bool, true, false, cond, min, nat_eq, nat_le, Option, Some, None, Result, Ok, Err}
-use Rattle.std.proofs.Common.{refl, sym, ap, subst, arith}
+use Rattle.std.proofs.Common.{◌≡◌, inl, inr, ℕ, ◌-◌, ◌<◌, List, [], ◌∷◌, Bool, true, false, cond, min, nat_eq, nat_le, Option, Some, None, Result, Ok, Err}
+use Rattle.std.proofs.Common.{refl, sym, subst, arith}
 use Rattle.mi_commands.specs.Asked.{Asked, text, too_long}
 use Rattle.mi_commands.specs.Answer.{answer, command_answer, command_of, MayGive}
-use Rattle.mi_commands.specs.Holder.{HeldDatabase, released, one_more, one_less, at_most, without_holder}
+use Rattle.mi_commands.specs.Holder.{HeldDatabase, without_holder}
 use Rattle.mi_commands.specs.Performed.{Move, stays, one_up, one_down, down_to, to_nobody, lets_go, if_accepted, moved, effect}
 use Rattle.mi_commands.specs.declared.holder.Holder.{Holder}
 use Rattle.mi_protocol.specs.Lines.{command_line}
@@ -13,7 +13,7 @@ use Rattle.mi_hub.specs.Run.{HubState, Done}
 use Rattle.mi_hub.specs.Served.{InTurn}
 use Rattle.mi_replay.specs.Acts.{Act}
 use Rattle.mi_replay.specs.Replayed.{replayer, replayed}
-use Rattle.mi_clients.specs.Steps.{Step, comes, asks, undoes, goes, event_of, written_in, DoneBy, Makes, HoldsSome}
+use Rattle.mi_clients.specs.Steps.{Step, comes, asks, undoes, goes, event_of, written_in, DoneBy, HoldsSome}
 use Rattle.mi_clients.specs.Laws.{HoldersHoldSome, ReplaysHoldSome}
 
 -- ---- how a holder moves

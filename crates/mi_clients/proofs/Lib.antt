@@ -1,6 +1,7 @@
 pub mod StepLemmas
 pub mod RowLemmas
 pub mod ServedLemmas
+pub mod StreamLemmas
 mod InputLemmas
 mod UndoneLemmas
 mod HoldingLemmas

@@ -1,10 +1,11 @@
 -- A row of connections, and what its hub has attached.
 use Rattle.std.proofs.Common.{◌≡◌, ◌⊎◌, inl, inr, ℕ, zero, suc, ◌+◌, ◌<◌, ◌≤◌, List, [], ◌∷◌, ◌++◌, length, map, Bool, true, false, cond, nat_eq}
-use Rattle.std.proofs.Common.{MatchBool, Some, None, refl, sym, ap, ◌∙◌, subst, arith}
+use Rattle.std.proofs.Common.{take, drop, append-nil, MatchBool, Some, None, refl, sym, ap, ◌∙◌, subst, arith}
 use Rattle.std.specs.Prelude.{◌↔◌, IsTrue, slice_set, slice_index_or}
-use Rattle.std.specs.List.{remove, All, Any, AllWithin, HoldsAt}
+use Rattle.std.specs.List.{remove, All, AllZip, Any, AllWithin, HoldsAt}
 use Rattle.std.proofs.lemmas.Iterator.Search.{true_from_Any}
-use Rattle.std.proofs.lemmas.List.{get_or_default, get_or-set_same, get_or-set_other, length-set}
+use Rattle.std.proofs.Math.ListN.{drop_of_length-le}
+use Rattle.std.proofs.lemmas.List.{take_all, get_or_default, get_or-set_same, get_or-set_other, length-set}
 use Rattle.std.proofs.Math.Seq.{map-set_same}
 use Rattle.std.proofs.lemmas.List.Edits.{get_or-remove_below}
 use Rattle.mi_hub.specs.Connections.{rest_at, others}
@@ -137,6 +138,84 @@ module _ {X : Type 0} (P : X → Type 0) where
 
   pub holds_all : (row : List X) (n : ℕ) → length row ≤ n → HoldsTo P n row → All P row
   holds_all row n all p = λ k d within. p k d (omega (arith, all, within)) within
+
+-- behind a loop over it a row is what its items have become
+pub whole_row : {X : Type 0} (old cur : List X) (n : ℕ) → n ≡ length old → length cur ≡ length old → take n (cur ++ drop (length cur) old) ≡ cur
+whole_row old cur n is same =
+    ap (λ t. take n (cur ++ t)) (drop_of_length-le old (omega arith)) ∙ ap (take n) (append-nil cur) ∙ take_all n cur (omega arith)
+
+-- ---- what is done to one after another
+
+-- the first so many of a row have become so, and the others are as they were
+abbrev pub DoneTo : {X : Type 0} → (X → X → Type 0) → ℕ → List X → List X → Type 0
+DoneTo R zero olds row = row ≡ olds
+DoneTo R (suc i) [] [] = Unit {0}
+DoneTo R (suc i) [] (y ∷ row) = ⊥
+DoneTo R (suc i) (o ∷ olds) [] = ⊥
+DoneTo R (suc i) (o ∷ olds) (y ∷ row) = R o y × DoneTo R i olds row
+
+module _ {X : Type 0} where
+  pub done_set : (R : X → X → Type 0) (olds row : List X) (i : ℕ) (d x : X) → i < length row → R (slice_index_or row i d) x → DoneTo R i olds row
+      → DoneTo R (i + 1) olds (slice_set row i x)
+  done_set R olds row i d x lt one p = subst (λ n. DoneTo R n olds (slice_set row i x)) (next i) (go olds row i lt one p)
+    where
+      next : (i : ℕ) → suc i ≡ i + 1
+      next i = omega arith
+
+      go : (olds row : List X) (i : ℕ) → i < length row → R (slice_index_or row i d) x → DoneTo R i olds row → DoneTo R (suc i) olds (slice_set row i x)
+      go olds [] i lt one p = absurd (omega arith)
+      go olds (y ∷ row) zero lt one p = subst (λ os. DoneTo R 1 os (x ∷ row)) p (one, refl)
+      go [] (y ∷ row) (suc i) lt one p = absurd p
+      go (o ∷ olds) (y ∷ row) (suc i) lt one p = (p.0, go olds row i (omega arith) one p.1)
+
+  pub done_all : (R : X → X → Type 0) (olds row : List X) (i : ℕ) → length row ≤ i → DoneTo R i olds row → AllZip R olds row
+  done_all R olds [] zero le p = subst (λ os. AllZip R os []) p tt
+  done_all R olds (y ∷ row) zero le p = absurd (omega arith)
+  done_all R [] [] (suc i) le p = tt
+  done_all R [] (y ∷ row) (suc i) le p = absurd p
+  done_all R (o ∷ olds) [] (suc i) le p = absurd p
+  done_all R (o ∷ olds) (y ∷ row) (suc i) le p = (p.0, done_all R olds row i (omega arith) p.1)
+
+  -- the next is as it was
+  pub done_next : (R : X → X → Type 0) (olds row : List X) (i : ℕ) (d : X) → i < length row → DoneTo R i olds row
+      → (i < length olds) × (slice_index_or row i d ≡ slice_index_or olds i d)
+  done_next R olds [] i d lt p = absurd (omega arith)
+  done_next R olds (y ∷ row) zero d lt p =
+      (subst (λ os. 0 < length os) p lt, ap (λ os. slice_index_or os 0 d) p)
+  done_next R [] (y ∷ row) (suc i) d lt p = absurd p
+  done_next R (o ∷ olds) (y ∷ row) (suc i) d lt p = let q = done_next R olds row i d (omega arith) p.1 in (omega (arith, q.0), q.1)
+
+  -- what follows place by place
+  pub zip_weaker : (R Q : X → X → Type 0) (f : (x y : X) → R x y → Q x y) (xs ys : List X) → AllZip R xs ys → AllZip Q xs ys
+  zip_weaker R Q f [] [] p = tt
+  zip_weaker R Q f [] (y ∷ ys) p = absurd p
+  zip_weaker R Q f (x ∷ xs) [] p = absurd p
+  zip_weaker R Q f (x ∷ xs) (y ∷ ys) p = (f x y p.0, zip_weaker R Q f xs ys p.1)
+
+  pub zip_then : (R Q W : X → X → Type 0) (f : (x y z : X) → R x y → Q y z → W x z) (xs ys zs : List X) → AllZip R xs ys → AllZip Q ys zs → AllZip W xs zs
+  zip_then R Q W f [] [] [] p q = tt
+  zip_then R Q W f [] [] (z ∷ zs) p q = absurd q
+  zip_then R Q W f [] (y ∷ ys) zs p q = absurd p
+  zip_then R Q W f (x ∷ xs) [] zs p q = absurd p
+  zip_then R Q W f (x ∷ xs) (y ∷ ys) [] p q = absurd q
+  zip_then R Q W f (x ∷ xs) (y ∷ ys) (z ∷ zs) p q = (f x y z p.0 q.0, zip_then R Q W f xs ys zs p.1 q.1)
+
+  -- what then holds of all
+  pub zip_all : (P Q : X → Type 0) (xs ys : List X) → AllZip (λ x y. P x → Q y) xs ys → All P xs → All Q ys
+  zip_all P Q xs ys p all = λ k d within. at xs ys k d within p all
+    where
+      at : (xs ys : List X) (k : ℕ) (d : X) → k < length ys → AllZip (λ x y. P x → Q y) xs ys → All P xs → Q (slice_index_or ys k d)
+      at [] [] k d lt p all = absurd (omega arith)
+      at [] (y ∷ ys) k d lt p all = absurd p
+      at (x ∷ xs) [] k d lt p all = absurd p
+      at (x ∷ xs) (y ∷ ys) zero d lt p all = p.0 (all 0 d (omega arith))
+      at (x ∷ xs) (y ∷ ys) (suc k) d lt p all = at xs ys k d (omega arith) p.1 (λ j e within. all (suc j) e (omega (arith, within)))
+
+  pub zip_map : (f : X → X) (xs ys : List X) → AllZip (λ x y. y ≡ f x) xs ys → ys ≡ map f xs
+  zip_map f [] [] p = refl
+  zip_map f [] (y ∷ ys) p = absurd p
+  zip_map f (x ∷ xs) [] p = absurd p
+  zip_map f (x ∷ xs) (y ∷ ys) p = ap (λ z. z ∷ ys) p.0 ∙ ap (λ zs. f x ∷ zs) (zip_map f xs ys p.1)
 
 -- ---- some is so
 

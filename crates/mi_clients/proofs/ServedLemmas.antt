@@ -3,7 +3,7 @@ use Rattle.std.proofs.Common.{◌≡◌, ◌⊎◌, inl, inr, ℕ, zero, suc, �
 use Rattle.std.proofs.Common.{Result, Ok, Err}
 use Rattle.std.proofs.Common.{append-nil, append_assoc, arith}
 use Rattle.std.proofs.lemmas.List.{length-append, get_or_default}
-use Rattle.std.specs.Prelude.{slice_set, slice_index_or, OnOk, IfSome}
+use Rattle.std.specs.Prelude.{slice_set, slice_index_or, OnOk, IfOk, IfSome}
 use Rattle.std.specs.List.{remove, All, AllZip, Contains}
 use Rattle.std.specs.Io.KnownBytes.{Appends, Consumes, Keeps, IsAtEnd}
 use Rattle.std.proofs.KnownBytes.{Appends-nil, Appends-trans, Consumes-kept, Keeps-refl, Keeps-trans}
@@ -28,6 +28,11 @@ use Rattle.mi_clients.proofs.RowLemmas.{same_test, turned, none_at}
 pub on_ok_all : {T E P Q R W : Type 0} (r : Result T E) → (P → Q → R → W) → OnOk r P → OnOk r Q → OnOk r R → OnOk r W
 on_ok_all (Ok v) f p q s = f p q s
 on_ok_all (Err e) f p q s = tt
+
+-- what follows from a fact of the value of an Ok and another
+pub if_ok_with : {T E Q : Type 0} {P R : T → Type 0} (r : Result T E) → ((v : T) → P v → Q → R v) → IfOk r P → OnOk r Q → IfOk r R
+if_ok_with (Ok v) f p q = f v p q
+if_ok_with (Err e) f p q = tt
 
 -- ---- what is given in steps
 
@@ -451,7 +456,7 @@ none_front k [] ys p = tt
 none_front k (x ∷ xs) ys p = (p.0, none_front k xs ys p.1)
 
 -- c stands in the row
-abbrev IsIn : {S : Type 0} → Client S → List (Client S) → Type 0
+abbrev pub IsIn : {S : Type 0} → Client S → List (Client S) → Type 0
 IsIn c [] = ⊥
 IsIn c (x ∷ row) = (x ≡ c) ⊎ IsIn c row
 
@@ -461,15 +466,15 @@ module _ {S : Type 0} where
   in_at (x ∷ row) c zero lt is = inl is
   in_at (x ∷ row) c (suc k) lt is = inr (in_at row c k (omega arith) is)
 
-  in_from : (row : List (Client S)) (c : Client S) → Contains row c → IsIn c row
+  pub in_from : (row : List (Client S)) (c : Client S) → Contains row c → IsIn c row
   in_from row c p = in_at row c p.0 p.1 p.2
 
-  in_to : (row : List (Client S)) (c : Client S) → IsIn c row → Contains row c
+  pub in_to : (row : List (Client S)) (c : Client S) → IsIn c row → Contains row c
   in_to [] c p = absurd p
   in_to (x ∷ row) c (inl is) = (zero, omega arith, is)
   in_to (x ∷ row) c (inr p) = let q = in_to row c p in (suc q.0, omega (arith, q.1), q.2)
 
-  in_join : (a b : List (Client S)) (c : Client S) → IsIn c (a ++ b) → IsIn c a ⊎ IsIn c b
+  pub in_join : (a b : List (Client S)) (c : Client S) → IsIn c (a ++ b) → IsIn c a ⊎ IsIn c b
   in_join [] b c p = inr p
   in_join (x ∷ a) b c (inl is) = inl (inl is)
   in_join (x ∷ a) b c (inr p) = elim (in_join a b c p) [ inl q ↦ inl (inr q) | inr q ↦ inr q ]
@@ -494,7 +499,7 @@ module _ {S : Type 0} where
   in_more (y ∷ row) (suc i) d c lt (inr p) = elim (in_more row i d c (omega arith) p) [ inl q ↦ inl (inr q) | inr is ↦ inr is ]
 
   -- what holds of two rows, place by place
-  zip_from : (R : Client S → Client S → Type 0) (a b : List (Client S)) (new : Client S) → AllZip R a b → IsIn new b → (old : Client S) × IsIn old a × R old new
+  pub zip_from : (R : Client S → Client S → Type 0) (a b : List (Client S)) (new : Client S) → AllZip R a b → IsIn new b → (old : Client S) × IsIn old a × R old new
   zip_from R [] [] new p h = absurd h
   zip_from R [] (y ∷ b) new p h = absurd p
   zip_from R (x ∷ a) [] new p h = absurd p

@@ -1,10 +1,11 @@
 -- What a connection is to be sent, and what becomes of that while some steps are made.
-use Rattle.std.specs.Prelude.{◌≡◌, ◌⊎◌, ◌≤◌, ◌<◌, ℕ, List, [], ◌∷◌, ◌++◌, length, IsTrue, IsFalse, Option, IfSome}
+use Rattle.std.specs.Prelude.{◌≡◌, ◌⊎◌, ◌≤◌, ◌<◌, ◌==◌, ◌||◌, ℕ, ℤ, Bool, true, List, [], ◌∷◌, ◌++◌, length, IsTrue, IsFalse, Option, IfSome, if◌then◌else◌}
 use Rattle.std.specs.Io.KnownBytes.{Appends, Consumes, IsAtEnd}
 use Rattle.mi_ledger.specs.HeldReplies.{bytes_of}
 use Rattle.mi_clients.specs.Output.{unsent, HoldsNothing}
 use Rattle.mi_clients.specs.Input.{waiting}
 use Rattle.mi_clients.specs.Lines.{SameLines, Ends}
+use Rattle.mi_clients.specs.Stream.{one_more}
 use Rattle.mi_clients.specs.Steps.{Step, asks, given_to}
 use Rattle.mi_hub.specs.Ended.{ended}
 use Rattle.mi_clients.specs.declared.client.Client.{Client}
@@ -114,3 +115,37 @@ pub record IsWoken {S : Type 0} (old new : Client S) : Type 0 where
   pub output : new.output ≡ old.output
   pub phase : new.phase ≡ old.phase
   pub has_lines : new.has_lines ≡ old.has_lines
+
+-- where its stream has failed it is broken
+abbrev pub BreaksWith : {S : Type 0} → (S → Bool) → Client S → Type 0
+BreaksWith has_failed c = has_failed c.stream ≡ true → c.phase ≡ Broken
+
+-- it has kept its number, and its stream
+abbrev pub IsSame : {S : Type 0} → (S → ℤ) → Client S → Client S → Type 0
+IsSame handle old new = (new.conn ≡ old.conn) × (handle new.stream ≡ handle old.stream)
+
+-- where it wanted bytes, its stream was read once
+abbrev pub IsRead : {S : Type 0} → (S → Option ℕ) → Client S → Client S → Type 0
+IsRead reads old new = WantsBytes old → reads new.stream ≡ one_more (reads old.stream)
+
+-- It is to be read no more only where it wasn't before, or the read would have waited; or where this piece is shorter than the room for it, and
+-- nobody has said that its peer has closed.
+abbrev pub StopsReading : {S : Type 0} → (S → Bool) → List ℕ → ℕ → Client S → Client S → Type 0
+StopsReading is_dry piece room old new = IsFalse new.may_read
+    → IsFalse old.may_read ⊎ ((is_dry new.stream ≡ true) ⊎ (IsFalse old.is_closing × (length piece < room)))
+
+-- what becomes of it where its stream is reported ready: of one that closes both a read and a write may tell that
+abbrev pub woken : {S : Type 0} → Bool → Bool → Bool → Client S → Client S
+woken readable writable closing c = record c {
+  may_read = c.may_read || readable || closing;
+  may_write = c.may_write || writable || closing;
+  is_closing = c.is_closing || closing;
+}
+
+-- the same, where it has this number
+abbrev pub told : {S : Type 0} → ℕ → Bool → Bool → Bool → Client S → Client S
+told conn readable writable closing c = if c.conn == conn then woken readable writable closing c else c
+
+-- Nothing of it is to be done that takes memory: none of its lines may be asked, its stream isn't to be read, and it isn't whole.
+abbrev pub IsIdle : {S : Type 0} → Client S → Type 0
+IsIdle c = ¬ MayAsk c × ¬ WantsBytes c × ¬ IsWhole c

@@ -3,6 +3,7 @@ pub mod Steps
 pub mod Lines
 pub mod Input
 pub mod Output
+pub mod Stream
 pub mod Client
 pub mod Row
 pub mod Laws

@@ -1,14 +1,17 @@
 -- The connections of a service in a row are those that its hub has attached, in this order, and none has a rest there.
-use Rattle.std.specs.Prelude.{◌≡◌, ◌⊎◌, ℕ, List, [], ◌∷◌, ◌++◌, map, false, ◌==◌, Some, Option}
+use Rattle.std.specs.Prelude.{◌≡◌, ◌⊎◌, ◌<◌, ℕ, ℤ, Bool, true, List, [], ◌∷◌, ◌++◌, map, false, ◌==◌, Some, Option}
 use Rattle.std.specs.List.{All, AllZip, Contains}
 use Rattle.std.specs.Io.KnownBytes.{Keeps}
 use Rattle.mi_hub.specs.declared.connection.Connection.{Connection}
-use Rattle.mi_clients.specs.Client.{owed, IsServed, IsOver, IsAsFar, AsksAll, AsksWhatCame, GoesOn, IsWoken}
+use Rattle.mi_hub.specs.Run.{HubState, attach, Refused as HubRefuses}
+use Rattle.mi_clients.specs.Client.{owed, IsServed, IsOver, IsAsFar, AsksAll, AsksWhatCame, GoesOn, IsWoken, IsWhole, BreaksWith, IsSame, IsRead}
 use Rattle.mi_clients.specs.Input.{waiting}
 use Rattle.mi_clients.specs.Steps.{Step, given_to, asked_by, OnlyAsks}
 use Rattle.mi_clients.specs.declared.client.Client.{Client}
 use Rattle.mi_clients.specs.declared.client.Phase.TheVariants.{Open}
 use Rattle.mi_clients.specs.declared.input.Input.{Input}
+use Rattle.mi_clients.specs.declared.row.Admission.{Admission}
+use Rattle.mi_clients.specs.declared.row.Admission.TheVariants.{Seated, Refused}
 
 -- the numbers of clients, in order
 abbrev pub ids : {S : Type 0} → List (Client S) → List ℕ
@@ -103,3 +106,51 @@ StayersOnlyAsk {S} steps olds news =
 -- the readiness of some of a row was told, and nothing else of it is another
 abbrev pub EachWoken : {S : Type 0} → List (Client S) → List (Client S) → Type 0
 EachWoken olds news = AllZip (λ old new. IsWoken old new) olds news
+
+-- nobody in a row is whole: of each whose bytes have ended a whole line may wait still, or its sessions are undone
+abbrev pub NoneIsWhole : {S : Type 0} → List (Client S) → Type 0
+NoneIsWhole row = All (λ c. ¬ IsWhole c) row
+
+-- each of a row whose stream has failed is broken
+abbrev pub AllBreakWith : {S : Type 0} → (S → Bool) → List (Client S) → Type 0
+AllBreakWith has_failed row = All (λ c. BreaksWith has_failed c) row
+
+-- no stream of a row has failed
+abbrev pub NoneHasFailed : {S : Type 0} → (S → Bool) → List (Client S) → Type 0
+NoneHasFailed has_failed row = All (λ c. ¬ (has_failed c.stream ≡ true)) row
+
+-- each of a row has kept its number, and its stream
+abbrev pub EachSame : {S : Type 0} → (S → ℤ) → List (Client S) → List (Client S) → Type 0
+EachSame handle olds news = AllZip (λ old new. IsSame handle old new) olds news
+
+-- the stream of each of a row that wanted bytes was read once
+abbrev pub EachRead : {S : Type 0} → (S → Option ℕ) → List (Client S) → List (Client S) → Type 0
+EachRead reads olds news = AllZip (λ old new. IsRead reads old new) olds news
+
+-- no stream of a row was read
+abbrev pub EachUncounted : {S : Type 0} → (S → Option ℕ) → List (Client S) → List (Client S) → Type 0
+EachUncounted reads olds news = AllZip (λ old new. reads new.stream ≡ reads old.stream) olds news
+
+-- it was in a row before, with its number and its stream
+abbrev pub StoodIn : {S : Type 0} → (S → ℤ) → List (Client S) → Client S → Type 0
+StoodIn {S} handle olds new = (old : Client S) × Contains olds old × IsSame handle old new
+
+-- each that is in a row was in it before so
+abbrev pub StayersSame : {S : Type 0} → (S → ℤ) → List (Client S) → List (Client S) → Type 0
+StayersSame {S} handle olds news = (new : Client S) → Contains news new → StoodIn handle olds new
+
+-- Each that is in a row was in it before so, or has a number above this one: it has come since.
+abbrev pub SameStreams : {S : Type 0} → (S → ℤ) → ℕ → List (Client S) → List (Client S) → Type 0
+SameStreams {S} handle last olds news = (new : Client S) → Contains news new → StoodIn handle olds new ⊎ (last < new.conn)
+
+-- each that is in a row was in it before, and where it wanted bytes its stream was read once
+abbrev pub StayersRead : {S : Type 0} → (S → Option ℕ) → List (Client S) → List (Client S) → Type 0
+StayersRead {S} reads olds news = (new : Client S) → Contains news new
+    → (old : Client S) × Contains olds old × (new.conn ≡ old.conn) × IsRead reads old new
+
+-- What became of a connection that came under this number over this stream: it stands behind the others, or the hub has refused it for this
+-- reason, and nothing has changed.
+abbrev pub Admits : {S : Type 0} → ℕ → S → HubState → HubState → List (Client S) → List (Client S) → Admission → Type 0
+Admits {S} conn stream old new olds news Seated =
+    (client : Client S) × (news ≡ olds ++ client ∷ []) × (client.conn ≡ conn) × (client.stream ≡ stream) × IsNew client olds
+Admits {S} conn stream old new olds news (Refused fault) = HubRefuses old (attach conn) fault × (new ≡ old) × (news ≡ olds)

@@ -1,5 +1,5 @@
 //! The lines of one connection, asked of the ledger. It reads and writes no stream.
-ghost use Rattle.std.specs.Prelude.{◌≡◌, ◌⊎◌, ◌<◌, ◌++◌, ℕ, List, [], ◌∷◌, Some, Err, true, false, length, IsTrue, IsFalse, OnOk, OnErr, IfOk};
+ghost use Rattle.std.specs.Prelude.{◌≡◌, ◌⊎◌, ◌<◌, ◌++◌, ℕ, List, [], ◌∷◌, Some, Err, true, false, length, IsTrue, IsFalse, OnOk, OnErr, IfOk, IsOk};
 ghost use Rattle.std.specs.Io.KnownBytes.{Keeps};
 ghost use Rattle.mi_commands.specs.Holder.{held_by, released};
 ghost use Rattle.mi_hub.specs.Connections.{rest_at, others};
@@ -9,7 +9,7 @@ ghost use Rattle.mi_clients.specs.Steps.{Step, asks, Makes, GivesNone, AsksNone,
 ghost use Rattle.mi_clients.specs.Input.{waiting};
 ghost use Rattle.mi_ledger.specs.HeldReplies.{bytes_of};
 ghost use Rattle.mi_clients.specs.Output.{unsent};
-ghost use Rattle.mi_clients.specs.Client.{owed, Owes, IsWhole, IsAsked, IsAsFar, AsksWithin};
+ghost use Rattle.mi_clients.specs.Client.{owed, Owes, IsWhole, IsAsked, IsAsFar, AsksWithin, MayAsk};
 ghost use Rattle.mi_hub.specs.Ended.{ended};
 ghost use Rattle.mi_clients.specs.declared.client.Phase.TheVariants as phases;
 
@@ -57,6 +57,7 @@ pub fn release<D: Sessions + Drop, L: Log + Drop, S>(
     ensures owes { OnOk result (Owes [] client.old client.new) }
     ensures phase { OnOk result ((client.new.phase ≡ phases.Broken) ⊎ (client.new.phase ≡ client.old.phase)) }
     ensures input { OnOk result (client.new.input ≡ client.old.input) }
+    ensures has_lines { OnOk result (client.new.has_lines ≡ client.old.has_lines) }
     ensures none { OnOk result (bytes_of client.new.held ≡ []) }
     ensures unsent { OnErr result (client.new.output ≡ client.old.output) }
     ensures hub { hub_of ledger.new ≡ hub_of ledger.old }
@@ -138,6 +139,7 @@ pub fn ask_lines<D: Sessions + Drop, L: Log + Drop, S>(
         × AsksWithin client.old steps) }
     ensures all { OnOk result (IsAsked client.new) }
     ensures phase { OnOk result (IsAsFar client.old client.new) }
+    ensures idle { ¬ MayAsk client.old → IsOk result × (client.new ≡ client.old) }
     ensures attached { OnOk result ((hub_of ledger.new).attached ≡ (hub_of ledger.old).attached) }
     ensures failed { result ≡ Err LedgerFault.Journal → L.has_failed (log_of ledger.new) ≡ true }
     ensures settled { OnOk result (IsSettled L.appended L.synced ledger.new) }
@@ -192,6 +194,8 @@ pub fn settle<D: Sessions + Drop, L: Log + Drop, S>(
     ensures still { IsWhole client.old ⊎ (ledger.new ≡ ledger.old) }
     ensures none { OnOk result ((client.new ≡ client.old)
         ⊎ ((client.new.phase ≡ phases.Asked) × (IsWhole client.old × (held_by client.new.conn (hub_of ledger.new).held.holder ≡ 0)))) }
+    ensures whole { OnOk result (¬ IsWhole client.new) }
+    ensures idle { ¬ IsWhole client.old → IsOk result }
     ensures left { OnOk result (IsWhole client.old → HoldsSome (hub_of ledger.old).held.holder
         → (client.new.phase ≡ phases.Asked) × ((hub_of ledger.new).held ≡ released client.old.conn (hub_of ledger.old).held)) }
     ensures input { OnOk result (client.new.input ≡ client.old.input) }

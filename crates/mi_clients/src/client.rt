@@ -32,7 +32,7 @@ pub enum Phase {
 #[derive(Drop)]
 pub struct Client<S> {
     /// The number under which the hub has it attached.
-    pub conn: u64,
+    pub(crate) conn: u64,
     /// What its bytes come from and go to.
     pub(crate) stream: S,
     /// What it has sent and wasn't asked yet.
@@ -60,7 +60,7 @@ pub struct Client<S> {
 }
 
 impl<S> Client<S> {
-    ghost use Rattle.mi_clients.specs.Client.{owed, IsOver, HasRoom, MayAsk, IsAsked, WantsBytes, IsBusy, IsWoken};
+    ghost use Rattle.mi_clients.specs.Client.{owed, IsOver, HasRoom, MayAsk, IsAsked, WantsBytes, IsBusy, IsWoken, woken};
 
     /// A connection that has just come.
     pub(crate) fn new(alloc: Global, conn: u64, stream: S) -> Client<S>
@@ -84,6 +84,13 @@ impl<S> Client<S> {
             has_lines: false,
             alloc,
         }
+    }
+
+    /// The number under which the hub has it attached.
+    pub fn conn(&self) -> u64
+        ensures { result ≡ self.now.conn }
+    {
+        self.conn
     }
 
     /// Whether so little of its replies is unsent that a line may be asked.
@@ -137,8 +144,7 @@ impl<S> Client<S> {
     /// Its stream is ready again: to be read, to be written to, or closed by its peer or failed, which a read or a write will tell.
     pub fn wake(&mut self, readable: bool, writable: bool, closing: bool)
         ensures woken { IsWoken self.old self.new }
-        ensures told { let reads = self.old.may_read || readable || closing in let writes = self.old.may_write || writable || closing in
-            self.new ≡ record self.old { may_read = reads; may_write = writes; is_closing = self.old.is_closing || closing } }
+        ensures told { self.new ≡ woken readable writable closing self.old }
     {
         self.may_read = self.may_read || readable || closing;
         self.may_write = self.may_write || writable || closing;
@@ -148,7 +154,8 @@ impl<S> Client<S> {
 
 impl<S: Duplex> Client<S> {
     ghost use Rattle.std.specs.Io.KnownBytes.{Keeps, Consumes, IsAtEnd};
-    ghost use Rattle.mi_clients.specs.Client.{owed, HasSent, GoesOn};
+    ghost use Rattle.mi_clients.specs.Client.{owed, HasSent, GoesOn, WantsBytes, BreaksWith, IsSame, IsRead, StopsReading};
+    ghost use Rattle.mi_clients.specs.Stream.{Passes};
     ghost use Rattle.mi_clients.specs.Output.{Sends};
     ghost use Rattle.mi_clients.specs.Lines.{SameLines, Ends};
 
@@ -158,12 +165,16 @@ impl<S: Duplex> Client<S> {
         ensures piece { (piece : List ℕ) × Consumes (S.remaining self.old.stream) (S.remaining self.new.stream) piece
             × ((self.new.phase ≡ phases.Broken) ⊎ (SameLines (waiting self.old.input ++ piece) (waiting self.new.input)
             ⊎ ((self.new.phase ≡ phases.Ended) × (piece ≡ []) × IsAtEnd (S.remaining self.new.stream)
-            × Ends (waiting self.old.input) (waiting self.new.input)))) }
+            × Ends (waiting self.old.input) (waiting self.new.input))))
+            × StopsReading S.is_dry piece (length buffer.old) self.old self.new }
         ensures contents { Keeps (S.contents self.old.stream) (S.contents self.new.stream) }
         ensures owed { owed self.new ≡ owed self.old }
         ensures broken { self.old.phase ≡ phases.Broken → self.new.phase ≡ phases.Broken }
         ensures goes_on { GoesOn self.new → GoesOn self.old }
-        ensures conn { self.new.conn ≡ self.old.conn }
+        ensures same { IsSame S.handle self.old self.new }
+        ensures read { IsRead S.reads self.old self.new }
+        ensures unread { ¬ WantsBytes self.old → self.new ≡ self.old }
+        ensures failed { BreaksWith S.has_failed self.old → BreaksWith S.has_failed self.new }
     {
         if !self.wants_bytes() {
             return;
@@ -180,7 +191,8 @@ impl<S: Duplex> Client<S> {
 
     /// A piece was read, and less than there was room for: then no more is there now, unless the peer has closed.
     fn note_short_read(&mut self, short: bool)
-        ensures { self.new ≡ record self.old { may_read = self.new.may_read } }
+        ensures same { self.new ≡ record self.old { may_read = self.new.may_read } }
+        ensures stops { IsFalse self.new.may_read → IsFalse self.old.may_read ⊎ (IsTrue short × IsFalse self.old.is_closing) }
     {
         if short && !self.is_closing {
             self.may_read = false;
@@ -189,6 +201,8 @@ impl<S: Duplex> Client<S> {
 
     /// A read has failed, or would wait.
     fn fail(&mut self, kind: ErrorKind)
+        ensures lasts { ¬ Passes kind → self.new.phase ≡ phases.Broken }
+        ensures stops { IsFalse self.new.may_read → IsFalse self.old.may_read ⊎ (kind ≡ ErrorKind.WouldBlock) }
         ensures input { self.new.input ≡ self.old.input }
         ensures has_lines { self.new.has_lines ≡ self.old.has_lines }
         ensures same { self.new ≡ record self.old { input = self.new.input; may_read = self.new.may_read; phase = self.new.phase; has_lines = self.new.has_lines; lines = self.new.lines; all_asked = self.new.all_asked } }
@@ -230,6 +244,11 @@ impl<S: Duplex> Client<S> {
     pub(crate) fn send(&mut self)
         ensures sent { Sends S.contents self.old.stream self.new.stream (owed self.old) (owed self.new) }
         ensures remaining { Keeps (S.remaining self.old.stream) (S.remaining self.new.stream) }
+        ensures handle { S.handle self.new.stream ≡ S.handle self.old.stream }
+        ensures reads { S.reads self.new.stream ≡ S.reads self.old.stream }
+        ensures failed { BreaksWith S.has_failed self.old → BreaksWith S.has_failed self.new }
+        ensures lost { self.new.phase ≡ phases.Broken → (self.old.phase ≡ phases.Broken) ⊎ (S.is_lost self.new.stream ≡ true) }
+        ensures full { IsFalse self.new.may_write → IsFalse self.old.may_write ⊎ (S.is_full self.new.stream ≡ true) }
         ensures all { HasSent self.new }
         ensures broken { self.old.phase ≡ phases.Broken → self.new.phase ≡ phases.Broken }
         ensures phase { (self.new.phase ≡ phases.Broken) ⊎ (self.new.phase ≡ self.old.phase) }

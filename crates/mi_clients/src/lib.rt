@@ -16,4 +16,4 @@ mod sending;
 pub use asking::part;
 pub use client::Client;
 pub use duplex::Duplex;
-pub use row::{admit, is_any_busy, serve_all};
+pub use row::{Admission, admit, is_any_busy, serve_all, wake_one};

@@ -1,24 +1,33 @@
 //! The attached connections in a row, each step over all of them.
-ghost use Rattle.std.specs.Prelude.{◌≡◌, ◌<◌, ◌⊎◌, ◌↔◌, ◌++◌, ◌∷◌, List, [], Some, Err, length, true, IsTrue, OnOk, OnErr};
+ghost use Rattle.std.specs.Prelude.{◌≡◌, ◌<◌, ◌↔◌, ◌++◌, ◌∷◌, List, [], Some, Err, length, map, true, IsTrue, OnOk, OnErr, IfOk, IsOk};
 ghost use Rattle.std.specs.List.{All, Any};
 ghost use Rattle.std.specs.Io.KnownBytes.{Keeps};
 ghost use Rattle.mi_ledger.specs.Ledger.{hub_of, log_of, IsSettled};
-ghost use Rattle.mi_clients.specs.Client.{IsServed, IsAsked, IsSent, IsBusy, GoesOn, AsksWhatCame};
+ghost use Rattle.mi_clients.specs.Client.{IsServed, IsAsked, IsSent, IsBusy, IsIdle, IsWhole, GoesOn, AsksWhatCame, BreaksWith, IsSame, IsRead, told};
 ghost use Rattle.mi_clients.specs.Steps.{Step, Makes, given_to, asked_by, GivesOnly, GivesNone, AsksOnly, AsksNone, OnlyAsks, LeavesOthers};
-ghost use Rattle.mi_clients.specs.Row.{ids, inputs, Attends, EachServed, EachAsked, EachUnread, StayersAsked, EachAsFar, OpenOnlyAsk, AllOnlyAsk, IsNew, Joins, LetsGo, NoneIsOver, Serves};
-ghost use Rattle.mi_clients.specs.declared.client.Client.{Client};
-ghost use Rattle.mi_clients.specs.declared.client.Phase.TheVariants as phases;
+ghost use Rattle.mi_clients.specs.Row.{ids, inputs, Attends, EachServed, EachAsked, EachUnread, StayersAsked, EachAsFar, OpenOnlyAsk, AllOnlyAsk, Joins, LetsGo, NoneIsOver, Serves, EachWoken};
+ghost use Rattle.mi_clients.specs.Row.{NoneIsWhole, AllBreakWith, NoneHasFailed, EachSame, EachRead, EachUncounted, StayersSame, StayersRead, Admits};
 ghost use Rattle.mi_hub.specs.Connections.{rest_at};
 
 use crate::asking::{ask_lines, part, release, settle};
 use crate::client::Client;
 use crate::duplex::Duplex;
+use mi_hub::HubFault;
 use mi_ledger::{Ledger, LedgerFault};
 use mi_log::Log;
 use mi_sessions::Sessions;
 use std::alloc::Global;
 
-/// What is ready of a connection is read, and its lines are asked.
+/// What became of a connection that came.
+#[derive(Clone, Copy, Drop)]
+pub enum Admission {
+    /// It is attached, and stands behind the others.
+    Seated,
+    /// The hub has refused it for this reason, and nothing has changed. Its stream is let go.
+    Refused(HubFault),
+}
+
+/// What is ready of a connection is read, its lines are asked, and once its bytes have ended and all of them are asked its sessions are undone.
 fn serve<D: Sessions + Drop, L: Log + Drop, S: Duplex>(
     ledger: &mut Ledger<D, L>,
     client: &mut Client<S>,
@@ -36,6 +45,11 @@ fn serve<D: Sessions + Drop, L: Log + Drop, S: Duplex>(
         × AsksOnly client.old.conn steps) }
     ensures goes_on { OnOk result (GoesOn client.new → GoesOn client.old) }
     ensures asked { OnOk result (IsAsked client.new) }
+    ensures whole { OnOk result (¬ IsWhole client.new) }
+    ensures idle { IsIdle client.old → IsOk result }
+    ensures same { OnOk result (IsSame S.handle client.old client.new) }
+    ensures read { OnOk result (IsRead S.reads client.old client.new) }
+    ensures broken { OnOk result (BreaksWith S.has_failed client.old → BreaksWith S.has_failed client.new) }
     ensures attached { OnOk result ((hub_of ledger.new).attached ≡ (hub_of ledger.old).attached) }
     ensures failed { result ≡ Err LedgerFault.Journal → L.has_failed (log_of ledger.new) ≡ true }
     ensures settled { OnOk result (IsSettled L.appended L.synced ledger.new) }
@@ -59,6 +73,11 @@ pub fn ask_all<D: Sessions + Drop, L: Log + Drop, S: Duplex>(
         × Makes steps (hub_of ledger.old) (hub_of ledger.new) (L.appended (log_of ledger.old)) (L.appended (log_of ledger.new))
         × OpenOnlyAsk steps row.new.items × EachAsked S.remaining steps row.old.items row.new.items) }
     ensures asked { OnOk result (All IsAsked row.new.items) }
+    ensures whole { OnOk result (NoneIsWhole row.new.items) }
+    ensures idle { All IsIdle row.old.items → IsOk result }
+    ensures same { OnOk result (EachSame S.handle row.old.items row.new.items) }
+    ensures read { OnOk result (EachRead S.reads row.old.items row.new.items) }
+    ensures broken { OnOk result (AllBreakWith S.has_failed row.old.items → AllBreakWith S.has_failed row.new.items) }
     ensures attends { OnOk result (Attends (ids row.new.items) (hub_of ledger.new).attached) }
     ensures failed { result ≡ Err LedgerFault.Journal → L.has_failed (log_of ledger.new) ≡ true }
     ensures settled { OnOk result (IsSettled L.appended L.synced ledger.new) }
@@ -81,6 +100,10 @@ pub fn send_all<D: Sessions + Drop, L: Log + Drop, S: Duplex>(
     ensures far { OnOk result (EachAsFar row.old.items row.new.items) }
     ensures inputs { OnOk result (inputs row.new.items ≡ inputs row.old.items) }
     ensures unread { OnOk result (EachUnread S.remaining row.old.items row.new.items) }
+    ensures whole { OnOk result (NoneIsWhole row.old.items → NoneIsWhole row.new.items) }
+    ensures same { OnOk result (EachSame S.handle row.old.items row.new.items) }
+    ensures uncounted { OnOk result (EachUncounted S.reads row.old.items row.new.items) }
+    ensures broken { OnOk result (AllBreakWith S.has_failed row.old.items → AllBreakWith S.has_failed row.new.items) }
     ensures hub { OnOk result (hub_of ledger.new ≡ hub_of ledger.old) }
     ensures appended { OnOk result (Keeps (L.appended (log_of ledger.old)) (L.appended (log_of ledger.new))) }
     ensures attends { OnOk result (Attends (ids row.new.items) (hub_of ledger.new).attached) }
@@ -123,12 +146,13 @@ pub fn let_go<D: Sessions + Drop, L: Log + Drop, S: Drop>(
 }
 
 /// A connection stands behind the others.
-fn seat<S: Drop>(row: &mut Vec<Client<S>>, client: Client<S>) -> Result<(), LedgerFault>
+fn seat<S: Drop>(row: &mut Vec<Client<S>>, client: Client<S>) -> Result<Admission, LedgerFault>
+    ensures says { IfOk result (λ admission. admission ≡ Admission.Seated) }
     ensures seated { OnOk result (row.new.items ≡ row.old.items ++ client ∷ []) }
     ensures memory { OnErr result (result ≡ Err LedgerFault.Memory) }
 {
     match row.push(client) {
-        Ok(()) => Ok(()),
+        Ok(()) => Ok(Admission::Seated),
         Err(_error) => Err(LedgerFault::Memory),
     }
 }
@@ -152,6 +176,10 @@ pub fn serve_all<D: Sessions + Drop, L: Log + Drop, S: Duplex + Drop>(
         × OpenOnlyAsk steps row.new.items × StayersAsked S.remaining steps row.old.items row.new.items) }
     ensures sent { OnOk result (All IsSent row.new.items) }
     ensures stay { OnOk result (NoneIsOver row.new.items) }
+    ensures whole { OnOk result (NoneIsWhole row.new.items) }
+    ensures same { OnOk result (StayersSame S.handle row.old.items row.new.items) }
+    ensures read { OnOk result (StayersRead S.reads row.old.items row.new.items) }
+    ensures broken { OnOk result (AllBreakWith S.has_failed row.old.items → NoneHasFailed S.has_failed row.new.items) }
     ensures attends { OnOk result (Attends (ids row.new.items) (hub_of ledger.new).attached) }
     ensures failed { result ≡ Err LedgerFault.Journal → L.has_failed (log_of ledger.new) ≡ true }
     ensures settled { OnOk result (IsSettled L.appended L.synced ledger.new) }
@@ -161,29 +189,57 @@ pub fn serve_all<D: Sessions + Drop, L: Log + Drop, S: Duplex + Drop>(
     let_go(alloc, ledger, row)
 }
 
-/// A connection comes: it is attached under this number, and stands behind the others. Where the hub refuses it, it is let go, and nothing
-/// has changed.
+/// A connection comes: it is attached under this number, and stands behind the others. Where the hub refuses it, its stream is let go, nothing
+/// has changed, and the answer is the hub's reason.
+///
+/// `Memory` where the row has no room for it; it is attached then, and the service is to end.
 pub fn admit<D: Sessions + Drop, L: Log + Drop, S: Drop>(
     alloc: Global,
     ledger: &mut Ledger<D, L>,
     row: &mut Vec<Client<S>>,
     conn: u64,
     stream: S,
-) -> Result<(), LedgerFault>
+) -> Result<Admission, LedgerFault>
     requires attends { Attends (ids row.old.items) (hub_of ledger.old).attached }
     requires settled { IsSettled L.appended L.synced ledger.old }
     ensures comes { OnOk result ((steps : List Step) × GivesNone steps × Joins row.old.items row.new.items
         × Makes steps (hub_of ledger.old) (hub_of ledger.new) (L.appended (log_of ledger.old)) (L.appended (log_of ledger.new))
         × AllOnlyAsk steps (ids row.old.items)) }
-    ensures row { OnOk result ((row.new.items ≡ row.old.items)
-        ⊎ ((client : Client S) × (row.new.items ≡ row.old.items ++ client ∷ []) × (client.conn ≡ conn) × (client.stream ≡ stream) × IsNew client row.old.items)) }
+    ensures admits { IfOk result (λ admission. Admits conn stream (hub_of ledger.old) (hub_of ledger.new) row.old.items row.new.items admission) }
     ensures attends { OnOk result (Attends (ids row.new.items) (hub_of ledger.new).attached) }
     ensures memory { OnErr result (result ≡ Err LedgerFault.Memory) }
     ensures settled { OnOk result (IsSettled L.appended L.synced ledger.new) }
 {
     match ledger.attach(conn) {
         Ok(()) => seat(row, Client::new(alloc, conn, stream)),
-        Err(_fault) => Ok(()),
+        Err(fault) => Ok(Admission::Refused(fault)),
+    }
+}
+
+/// Tells a connection what is reported of the one of this number.
+fn tell<S>(client: &mut Client<S>, conn: u64, readable: bool, writable: bool, closing: bool)
+    ensures { client.new ≡ told conn readable writable closing client.old }
+{
+    if client.conn == conn {
+        client.wake(readable, writable, closing);
+    }
+}
+
+/// The stream of the connection of this number is ready: to be read, to be written to, or closed by its peer or failed. The others are as they
+/// were, and so are all where none has this number.
+pub fn wake_one<S>(
+    row: &mut Vec<Client<S>>,
+    conn: u64,
+    readable: bool,
+    writable: bool,
+    closing: bool,
+)
+    ensures told { row.new.items ≡ map (told conn readable writable closing) row.old.items }
+    ensures ids { ids row.new.items ≡ ids row.old.items }
+    ensures woken { EachWoken row.old.items row.new.items }
+{
+    for client in row.iter_mut() {
+        tell(client, conn, readable, writable, closing);
     }
 }
 

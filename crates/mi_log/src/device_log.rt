@@ -1,16 +1,18 @@
 //! A log over a device, which it doesn't touch again once a write or a sync has failed.
-ghost use Rattle.std.specs.Prelude.{◌≡◌, false, OnOk, OnErr};
+ghost use Rattle.std.specs.Prelude.{◌≡◌, None, false, not, is_ok, is_some, option_map, OnOk, OnErr};
 ghost use Rattle.std.specs.Io.KnownBytes.{Appends, Keeps};
 ghost use Rattle.mi_log.specs.Kept.{AppendsFront};
 
 use crate::device::Device;
 use crate::log::{Log, LogFault};
+use std::io;
+use std::io::{Error, ErrorKind};
 
 /// The log of what is appended to a device from here on.
 #[derive(Drop)]
 pub struct DeviceLog<D> {
     device: D,
-    failed: bool,
+    error: Option<io::Error>,
 }
 
 impl<D> DeviceLog<D> {
@@ -23,7 +25,7 @@ impl<D> DeviceLog<D> {
     {
         DeviceLog {
             device,
-            failed: false,
+            error: None,
         }
     }
 
@@ -33,10 +35,17 @@ impl<D> DeviceLog<D> {
     {
         &self.device
     }
+
+    /// What the device has said, where a call of it has failed.
+    pub fn error(&self) -> Option<&io::Error>
+        ensures { option_map (λ error. error.now) result ≡ self.now.error }
+    {
+        self.error.as_ref()
+    }
 }
 
 /// Writes all the bytes, by write after write; or a front of them, and then fails.
-fn write_all<D: Device>(device: &mut D, bytes: &[u8]) -> Result<(), LogFault>
+fn write_all<D: Device>(device: &mut D, bytes: &[u8]) -> io::Result<()>
     ensures ok { OnOk result (Appends (D.contents device.old) (D.contents device.new) bytes.now) }
     ensures err { OnErr result (AppendsFront (D.contents device.old) (D.contents device.new) bytes.now) }
     ensures stays { Keeps (D.stays device.old) (D.stays device.new) }
@@ -45,12 +54,27 @@ fn write_all<D: Device>(device: &mut D, bytes: &[u8]) -> Result<(), LogFault>
     let mut at = 0;
     'bytes: while at < bytes.len() {
         let (_, left) = bytes.split_at(at);
-        match device.write(left) {
-            Ok(n) if n > 0 => at += n,
-            _ => return Err(LogFault),
+        match device.write(left)? {
+            0 => return Err(Error::from(ErrorKind::WriteZero)),
+            n => at += n,
         }
     }
     Ok(())
+}
+
+/// Notes what came of a call of the device, where none has failed before.
+fn note(error: &mut Option<io::Error>, came: io::Result<()>) -> Result<(), LogFault>
+    requires { error.old ≡ None }
+    ensures noted { is_some error.new ≡ not (is_ok result) }
+    ensures result { is_ok result ≡ is_ok came }
+{
+    match came {
+        Ok(()) => Ok(()),
+        Err(said) => {
+            *error = Some(said);
+            Err(LogFault)
+        }
+    }
 }
 
 impl<D: Device> Log for DeviceLog<D> {
@@ -65,24 +89,18 @@ impl<D: Device> Log for DeviceLog<D> {
     ghost has_failed = { λ l. is_broken l };
 
     fn append(&mut self, bytes: &[u8]) -> Result<(), LogFault> {
-        if self.failed {
+        if self.error.is_some() {
             return Err(LogFault);
         }
         let written = write_all(&mut self.device, bytes);
-        self.failed = written.is_err();
-        written
+        note(&mut self.error, written)
     }
 
     fn sync(&mut self) -> Result<(), LogFault> {
-        if self.failed {
+        if self.error.is_some() {
             return Err(LogFault);
         }
-        match self.device.sync_data() {
-            Ok(()) => Ok(()),
-            Err(_error) => {
-                self.failed = true;
-                Err(LogFault)
-            }
-        }
+        let synced = self.device.sync_data();
+        note(&mut self.error, synced)
     }
 }

@@ -1,6 +1,6 @@
 mod BufferLemmas
 mod EndingLemmas
-mod MatchedLemmas
+pub mod MatchedLemmas
 mod NumberLemmas
 mod ServingLemmas
 mod TextLemmas

@@ -1,2 +1,4 @@
 mod TurnLemmas
 mod OpeningLemmas
+mod WordsLemmas
+mod ServedLemmas

@@ -1,5 +1,9 @@
 -- To be read in this order, behind those of mi_clients.
 pub mod Turns
+pub mod JournalFile
 pub mod Device
 pub mod Words
+pub mod Status
 pub mod Recovery
+pub mod Fingerprint
+pub mod Served

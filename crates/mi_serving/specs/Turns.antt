@@ -1,5 +1,7 @@
 -- What the turns of a service do, one behind another: connection 2 comes and asks in one turn, and goes away in the next.
-use Rattle.std.specs.Prelude.{ℕ, List, Bool, true, false, Option}
+use Rattle.std.specs.Prelude.{◌≤◌, ℕ, List, Bool, true, false, Option}
+use Rattle.std.specs.List.{Contains}
+use Rattle.mi_clients.specs.declared.client.Client.{Client}
 use Rattle.mi_hub.specs.Run.{HubState}
 use Rattle.mi_clients.specs.Steps.{Step, Makes}
 use Rattle.mi_serving.specs.declared.failure.Failure.{Failure}
@@ -21,6 +23,10 @@ use Rattle.mi_serving.specs.declared.failure.Failure.TheVariants.{
 -- From old, some steps are made, and new is left.
 abbrev pub Goes : HubState → HubState → Option (List ℕ) → Option (List ℕ) → Type 0
 Goes old new before after = (steps : List Step) × Makes steps old new before after
+
+-- no connection of a row has a number above this one
+abbrev pub AllUpTo : {S : Type 0} → ℕ → List (Client S) → Type 0
+AllUpTo {S} last row = (c : Client S) → Contains row c → c.conn ≤ last
 
 -- whether a service that serves may end by this failure
 abbrev pub ends_serving : Failure → Bool

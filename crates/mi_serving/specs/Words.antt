@@ -1,5 +1,13 @@
 -- What the words of the command line ask for.
-use Rattle.std.specs.Prelude.{Bool, true, false}
+use Rattle.std.specs.Prelude.{◌≡◌, ℕ, List, Bool, true, false, if◌then◌else◌, Option, Some, None, option_map, codes, bytes_eq, pos}
+use Rattle.std.specs.Str.Parse.{digits_value, without_leading_plus}
+use Rattle.std.specs.String.{string_bytes}
+use Rattle.clap.specs.Words.{App, Row, with_rule, new_app, first_of, one_of}
+use Rattle.clap.specs.declared.builder.value_parser.ValueParser.{ValueParser}
+use Rattle.clap.specs.declared.builder.value_parser.ValueParser.TheVariants as vp
+use Rattle.mi_program.specs.Words.{option_rule, number_rule}
+use Rattle.mi_serving.specs.declared.words.Options.{Options}
+use Rattle.mi_serving.specs.declared.words.JournalWords.{JournalWords}
 use Rattle.mi_serving.specs.declared.words.SyncMode.{SyncMode}
 use Rattle.mi_serving.specs.declared.words.SyncMode.TheVariants.{Always, Turn, Never}
 
@@ -8,3 +16,45 @@ abbrev pub asks_sync : SyncMode → Bool
 asks_sync Always = true
 asks_sync Turn = true
 asks_sync Never = false
+
+-- whether each line is to be synced by itself
+abbrev pub syncs_each : SyncMode → Bool
+syncs_each Always = true
+syncs_each Turn = false
+syncs_each Never = false
+
+-- whether each line of a journal is to be synced by itself
+abbrev pub asks_each : Option JournalWords → Bool
+asks_each None = false
+asks_each (Some words) = syncs_each words.sync
+
+-- ports are 0 to 65535
+abbrev pub port_parser : ValueParser
+port_parser = vp.Signed (pos 0) (pos 65535)
+
+-- the options that the service knows
+abbrev pub service_options : App
+service_options = with_rule (with_rule (with_rule (with_rule (new_app (codes "mi_service")) (option_rule (codes "schema")))
+    (number_rule (codes "listen") port_parser)) (option_rule (codes "journal"))) (option_rule (codes "sync"))
+
+-- when lines are made to stay by this word: with no word once a turn
+abbrev pub sync_of : List ℕ → Option SyncMode
+sync_of word = if bytes_eq word (codes "always") then Some Always
+    else (if bytes_eq word (codes "turn") then Some Turn else (if bytes_eq word (codes "never") then Some Never else None))
+
+abbrev pub sync_by : Option (List ℕ) → Option SyncMode
+sync_by None = Some Turn
+sync_by (Some word) = sync_of word
+
+-- the journal that these words of `--journal` and `--sync` name, or none
+abbrev pub IsJournal : Option (List ℕ) → Option (List ℕ) → Option JournalWords → Type 0
+IsJournal None None journal = journal ≡ None
+IsJournal None (Some word) journal = ⊥
+IsJournal (Some file) word None = ⊥
+IsJournal (Some file) word (Some journal) = (string_bytes journal.file ≡ file) × (sync_by word ≡ Some journal.sync)
+
+-- The options are the values that were matched.
+pub record AreValues (options : Options) (rows : List Row) : Type 0 where
+  pub schema : option_map string_bytes options.schema ≡ first_of (codes "schema") rows
+  pub port : (text : List ℕ) × (one_of (codes "listen") rows ≡ Some text) × (options.port ≡ digits_value 10 (without_leading_plus text))
+  pub journal : IsJournal (first_of (codes "journal") rows) (first_of (codes "sync") rows) options.journal

@@ -1,93 +1,66 @@
-//! The journal's file: it is locked for this process alone, its name is made to stay, and a torn end is cut off it. It reads no journal.
-use crate::failure::Failure;
-use std::fs;
-use std::fs::{File, OpenOptions, TryLockError};
-use std::io::ErrorKind;
-use std::os::unix::fs::MetadataExt;
-use std::path::Path;
-use std::rt::Files;
+//! The claim on a journal's file: it is opened, locked for this process alone, and seen under its path. It reads no journal.
+ghost use Rattle.std.specs.Prelude.{◌≡◌, true, IfOk, OnOk};
+
+use crate::failure::{Failure, Fault};
+use crate::journal_file::{JournalFile, JournalFiles};
+use std::fs::TryLockError;
+use std::io::{Error, ErrorKind};
 
 /// Times that a path is opened again, at most, while other files take its place.
 const MOST_TRIES: usize = 16;
 
-/// The file at a path, to be appended to; it is made where none is there.
-fn to_append<R: Files<File = File>>(rt: &R, path: &str) -> Result<File, Failure> {
-    match OpenOptions::new().append(true).create(true).open(rt, path) {
-        Ok(file) => Ok(file),
-        Err(_error) => Err(Failure::JournalFile),
-    }
-}
-
-/// Whether a path still names this file.
-fn is_named<R: Files<File = File>>(rt: &R, path: &str, file: &File) -> Result<bool, Failure> {
-    let Ok(opened) = file.metadata() else {
-        return Err(Failure::JournalFile);
-    };
-    match fs::metadata(rt, path) {
-        Ok(named) => Ok(named.ino() == opened.ino() && named.dev() == opened.dev()),
-        Err(error) => match error.kind() {
-            ErrorKind::NotFound => Ok(false),
-            _ => Err(Failure::JournalFile),
-        },
-    }
-}
-
 /// Locks a file for this process alone. `JournalLocked` where another has it, `JournalFile` where it can't be locked.
-fn lock(file: &File) -> Result<(), Failure> {
+fn lock<F: JournalFile>(file: &mut F) -> Result<(), Fault>
+    ensures { OnOk result (F.is_locked file.new ≡ true) }
+{
     match file.try_lock() {
         Ok(()) => Ok(()),
-        Err(TryLockError::WouldBlock) => Err(Failure::JournalLocked),
-        Err(TryLockError::Error(_error)) => Err(Failure::JournalFile),
+        Err(TryLockError::WouldBlock) => Err(Fault::from(Failure::JournalLocked)),
+        Err(TryLockError::Error(error)) => Err(Fault::of(Failure::JournalFile, error)),
     }
 }
 
-/// The file of a journal, to be appended to by this process alone. `JournalLocked` where another has it.
+/// Whether a path names a file now.
+fn is_named<P: JournalFiles>(files: &P, path: &str, file: &P::File) -> Result<bool, Fault>
+    ensures { IfOk result (λ named. named ≡ true → P.is_seen files.now path.now file.now) }
+{
+    match files.names(path, file) {
+        Ok(named) => Ok(named),
+        Err(error) => Err(Fault::of(Failure::JournalFile, error)),
+    }
+}
+
+/// The file of a journal, which this process alone has; it is made where none is there. `JournalLocked` where another process has it.
 ///
 /// Who makes a journal shorter puts another file in its place, and has the old one locked until then. Where that was done between the open
 /// and the lock, the file that was opened has no name any more, and the path is opened again.
-pub fn claimed<R: Files<File = File>>(rt: &R, path: &str) -> Result<File, Failure> {
+pub fn claimed<P: JournalFiles>(files: &P, path: &str) -> Result<P::File, Fault>
+    ensures locked { IfOk result (λ file. P.File.is_locked file ≡ true) }
+    ensures seen { IfOk result (λ file. P.is_seen files.now path.now file) }
+{
     for _try in 0..MOST_TRIES {
-        let file = to_append(rt, path)?;
-        lock(&file)?;
-        if is_named(rt, path, &file)? {
+        let mut file = match files.open(path) {
+            Ok(file) => file,
+            Err(error) => return Err(Fault::of(Failure::JournalFile, error)),
+        };
+        lock(&mut file)?;
+        if is_named(files, path, &file)? {
             return Ok(file);
         }
     }
-    Err(Failure::JournalLocked)
+    Err(Fault::from(Failure::JournalLocked))
 }
 
-/// The folder that a path's file stands in.
-fn folder_of(path: &str) -> Path<'_> {
-    match Path::new(path).parent() {
-        Some(folder) if !folder.as_str().is_empty() => folder,
-        _ => Path::new("."),
-    }
-}
-
-/// Makes the name of a file stay: its folder is synced, where the file system knows that.
-pub fn keep_name<R: Files<File = File>>(rt: &R, path: &str) -> Result<(), Failure> {
-    let Ok(folder) = fs::open(rt, folder_of(path)) else {
-        return Err(Failure::JournalFile);
-    };
-    match folder.sync_all() {
-        Ok(()) => Ok(()),
-        Err(error) => match error.kind() {
-            ErrorKind::InvalidInput => Ok(()),
-            _ => Err(Failure::Journal),
-        },
-    }
-}
-
-/// Cuts so many bytes off the end of a file.
-pub fn cut_off(file: &File, torn: u64) -> Result<(), Failure> {
-    if torn == 0 {
+/// Whether a path names the claimed file still, now that it was read. `JournalFile` where it doesn't: whoever moved it has the journal,
+/// which is left as it is.
+pub fn check_name<P: JournalFiles>(files: &P, path: &str, file: &P::File) -> Result<(), Fault>
+    ensures { OnOk result (P.is_seen files.now path.now file.now) }
+{
+    if is_named(files, path, file)? {
         return Ok(());
     }
-    let Ok(metadata) = file.metadata() else {
-        return Err(Failure::JournalFile);
-    };
-    match file.set_len(metadata.len().saturating_sub(torn)) {
-        Ok(()) => Ok(()),
-        Err(_error) => Err(Failure::JournalFile),
-    }
+    Err(Fault::of(
+        Failure::JournalFile,
+        Error::new(ErrorKind::NotFound, "it was moved while it was read"),
+    ))
 }

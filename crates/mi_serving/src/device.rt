@@ -1,8 +1,6 @@
 //! Where a journal is appended to: nowhere, or a file that is synced or isn't.
 use mi_log::Device;
-use std::fs::OpenFile;
 use std::io;
-use std::io::Write;
 
 /// Whether what is appended is made to stay where that is asked.
 #[derive(Clone, Copy, Drop)]
@@ -13,7 +11,8 @@ pub enum Keeping {
     Unsynced,
 }
 
-/// What a service's journal is appended to. It tells nothing of its bytes; but what it is given is written to its file, where it has one.
+/// What a service's journal is appended to. What it is given is written to its file, where it has one; where that is synced, it tells what
+/// its file tells.
 #[derive(Drop)]
 pub struct JournalDevice<F> {
     file: Option<F>,
@@ -21,7 +20,7 @@ pub struct JournalDevice<F> {
 }
 
 impl<F> JournalDevice<F> {
-    ghost use Rattle.std.specs.Prelude.{◌≡◌};
+    ghost use Rattle.std.specs.Prelude.{◌≡◌, option_map};
     ghost use Rattle.mi_serving.specs.Device.{file_of, keeping_of};
 
     /// A file, or none, which takes what it is given and keeps nothing.
@@ -31,21 +30,32 @@ impl<F> JournalDevice<F> {
     {
         JournalDevice { file, keeping }
     }
+
+    /// Its file, where it has one.
+    pub fn file(&self) -> Option<&F>
+        ensures { option_map (λ file. file.now) result ≡ file_of self.now }
+    {
+        self.file.as_ref()
+    }
 }
 
-impl<F: Write + OpenFile> Device for JournalDevice<F> {
-    ghost use Rattle.std.specs.Prelude.{◌≡◌, None};
+impl<F: Device> Device for JournalDevice<F> {
+    ghost use Rattle.std.specs.Prelude.{◌≡◌};
     ghost use Rattle.std.specs.Io.{WritesAtMost};
     ghost use Rattle.std.specs.Io.KnownBytes.{WriteAppends, Keeps};
-    ghost use Rattle.mi_serving.specs.Device.{keeping_of, written_to, is_staying};
+    ghost use Rattle.mi_serving.specs.Device.{keeping_of, written_to, told_of, is_staying};
+
+    ghost contents = { λ d. told_of F.contents d };
+
+    ghost stays = { λ d. told_of F.stays d };
 
     ghost makes_stay = { λ d. is_staying d };
 
-    /// Its file has what it took, where it has one that tells.
+    /// Its file has what it took.
     fn write(&mut self, bytes: &[u8]) -> io::Result<usize>
         ensures bound { WritesAtMost result bytes.now }
-        ensures bytes { WriteAppends None None result bytes.now }
-        ensures stays { Keeps None None }
+        ensures bytes { WriteAppends (told_of F.contents self.old) (told_of F.contents self.new) result bytes.now }
+        ensures stays { Keeps (told_of F.stays self.old) (told_of F.stays self.new) }
         ensures file { WriteAppends (written_to F.contents self.old) (written_to F.contents self.new) result bytes.now }
         ensures keeping { keeping_of self.new ≡ keeping_of self.old }
         ensures makes_stay { is_staying self.new ≡ is_staying self.old }
@@ -57,7 +67,7 @@ impl<F: Write + OpenFile> Device for JournalDevice<F> {
     }
 
     fn sync_data(&mut self) -> io::Result<()> {
-        match (&self.file, self.keeping) {
+        match (&mut self.file, self.keeping) {
             (Some(file), Keeping::Synced) => file.sync_data(),
             _ => Ok(()),
         }

@@ -1,10 +1,9 @@
 //! What the system tells of sockets: which connections come, and which are ready. It reads and writes none of their bytes.
-ghost use Rattle.std.specs.Prelude.{◌≡◌, Err, OnErr};
-ghost use Rattle.mi_clients.specs.Client.{IsWoken};
+ghost use Rattle.std.specs.Prelude.{◌≡◌, Err, IfErr, OnErr};
 ghost use Rattle.mi_clients.specs.Row.{ids, EachWoken};
 
-use crate::failure::Failure;
-use mi_clients::Client;
+use crate::failure::{Failure, Fault};
+use mi_clients::{Client, wake_one};
 use mio::event::Event;
 use mio::net::{TcpListener, TcpStream};
 use mio::{Events, Interest, Poll, Token};
@@ -45,40 +44,34 @@ fn listen<R: Net + AllocGlobal>(rt: &R, port: u16) -> io::Result<Door> {
     })
 }
 
-/// Tells a connection what was reported, where it is the event's.
-fn tell_one<S>(client: &mut Client<S>, event: &Event)
-    ensures { IsWoken client.old client.new }
-{
-    if client.conn as usize == event.token().0 {
-        let closing = event.is_read_closed() || event.is_write_closed() || event.is_error();
-        client.wake(event.is_readable(), event.is_writable(), closing);
-    }
-}
-
 /// Tells the connection of an event what was reported of it.
 fn tell(event: &Event, row: &mut Vec<Client<TcpStream>>)
     ensures ids { ids row.new.items ≡ ids row.old.items }
     ensures woken { EachWoken row.old.items row.new.items }
 {
-    for client in row.iter_mut() {
-        tell_one(client, event);
-    }
+    let closing = event.is_read_closed() || event.is_write_closed() || event.is_error();
+    let conn = event.token().0 as u64;
+    wake_one(row, conn, event.is_readable(), event.is_writable(), closing);
 }
 
 impl Door {
     /// Listens on a port of 127.0.0.1; on one that is free where it is 0.
-    pub fn open<R: Net + AllocGlobal>(rt: &R, port: u16) -> Result<Door, Failure> {
+    pub fn open<R: Net + AllocGlobal>(rt: &R, port: u16) -> Result<Door, Fault>
+        ensures { IfErr result (λ fault. fault.failure ≡ Failure.Listen) }
+    {
         match listen(rt, port) {
             Ok(door) => Ok(door),
-            Err(_error) => Err(Failure::Listen),
+            Err(error) => Err(Fault::of(Failure::Listen, error)),
         }
     }
 
     /// The port that is listened on.
-    pub fn port(&self) -> Result<u16, Failure> {
+    pub fn port(&self) -> Result<u16, Fault>
+        ensures { IfErr result (λ fault. fault.failure ≡ Failure.Listen) }
+    {
         match self.listener.local_addr() {
             Ok(address) => Ok(address.port()),
-            Err(_error) => Err(Failure::Listen),
+            Err(error) => Err(Fault::of(Failure::Listen, error)),
         }
     }
 

@@ -1,12 +1,13 @@
 //! Why the service ends: the line on standard error and the exit status.
 ghost use Rattle.std.specs.Prelude.{◌≡◌, ◌⊎◌, true};
 ghost use Rattle.mi_serving.specs.Recovery.{ends_replay, told_as};
+ghost use Rattle.mi_serving.specs.Status.{status_of};
 
 use mi_ledger::{LedgerFault, ReplayFault};
 use mi_schema::SchemaFault;
-use std::fmt;
+use std::{fmt, io};
 
-/// Why the service ends. The text is its line on standard error.
+/// Why the service ends. The text is how its line on standard error begins.
 #[derive(Clone, Copy, Drop)]
 pub enum Failure {
     /// The schema's file can't be read, or has more than 65,536 bytes.
@@ -60,7 +61,9 @@ impl Failure {
     }
 
     /// The exit status: 3 where the schema or the journal is at fault, else 4.
-    pub fn status(&self) -> u8 {
+    pub fn status(&self) -> u8
+        ensures { result ≡ status_of self.now }
+    {
         match self {
             Failure::SchemaFile
             | Failure::Schema(_)
@@ -103,5 +106,37 @@ impl fmt::Display for Failure {
 impl From<LedgerFault> for Failure {
     fn from(fault: LedgerFault) -> Failure {
         Failure::of_ledger(fault)
+    }
+}
+
+/// Why the service ends, and what the system said, where it was a call of the system that failed.
+#[derive(Drop)]
+pub struct Fault {
+    /// Why it ends.
+    pub failure: Failure,
+    /// What the system said.
+    pub error: Option<io::Error>,
+}
+
+impl Fault {
+    /// A failure of which the system has said this.
+    pub fn of(failure: Failure, error: io::Error) -> Fault
+        ensures { result.failure ≡ failure }
+    {
+        Fault {
+            failure,
+            error: Some(error),
+        }
+    }
+}
+
+impl From<Failure> for Fault {
+    ghost from_gives = { λ failure fault. fault.failure ≡ failure };
+
+    fn from(failure: Failure) -> Fault {
+        Fault {
+            failure,
+            error: None,
+        }
     }
 }

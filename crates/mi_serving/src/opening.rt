@@ -1,37 +1,43 @@
 //! The journal at the start: what it has is asked again, a torn end of it is cut off, and it is opened to go on with, under a name that stays.
-ghost use Rattle.std.specs.Prelude.{◌≡◌, ◌++◌, ◌∷◌, List, [], ℕ, true, false, Ok, OnOk, IfOk, IfErr, IfSome};
+ghost use Rattle.std.specs.Prelude.{◌≡◌, ◌-◌, ◌++◌, ◌∷◌, List, [], ℕ, true, false, take, length, Some, Ok, OnOk, IfOk, IfErr, IfSome};
 ghost use Rattle.std.specs.Io.BufRead.{ends_with_byte};
-ghost use Rattle.std.specs.Io.KnownBytes.{Keeps};
+ghost use Rattle.std.specs.Io.KnownBytes.{Keeps, Appends};
 ghost use Rattle.mi_log.specs.LogLines.{reader_of};
 ghost use Rattle.mi_replay.specs.Replayed.{replayer};
 ghost use Rattle.mi_log.specs.DeviceLog.{device_of};
 ghost use Rattle.mi_ledger.specs.Ledger.{hub_of, log_of};
-ghost use Rattle.mi_serving.specs.Device.{is_synced, is_staying};
+ghost use Rattle.mi_serving.specs.Device.{is_synced, is_staying, told_of};
 ghost use Rattle.mi_clients.specs.Row.{fresh};
 ghost use Rattle.mi_clients.specs.Steps.{Step, Makes, GivesNone};
-ghost use Rattle.mi_serving.specs.Recovery.{HasHeader, IsBeginning, IsReplayed, IsRecovered, IsWith, IsResumed, ends_replay};
+ghost use Rattle.mi_serving.specs.Recovery.{HasHeader, IsBeginning, IsReplayed, IsRecovered, IsWith, IsResumed, IsFound, IsOpened, Has, kept_bytes, ends_replay};
 
-use crate::claim::{claimed, cut_off, keep_name};
+use crate::claim::{check_name, claimed};
 use crate::device::{JournalDevice, Keeping};
-use crate::failure::Failure;
+use crate::failure::{Failure, Fault};
+use crate::file_reader::FileReader;
+use crate::journal_file::{JournalFile, JournalFiles};
 use mi_clients::part;
 use mi_hub::Hub;
 use mi_ledger::{HeldReplies, Ledger, REPLAYER, replay};
-use mi_log::{DeviceLog, Heading, Log, LogLines, judge_heading};
+use mi_log::{Device, DeviceLog, Heading, Log, LogLines, OpenedFile, judge_heading};
 use mi_sessions::Sessions;
 use std::alloc::Global;
-use std::fs;
 use std::fs::File;
-use std::io::{BufRead, BufReader, ErrorKind};
-use std::rt::Files;
+use std::io::{BufRead, BufReader, Error};
 
 /// A ledger over a journal in a file, or over none.
-pub type FileLedger<D> = Ledger<D, DeviceLog<JournalDevice<File>>>;
+pub type JournalLedger<F, D> = Ledger<D, DeviceLog<JournalDevice<F>>>;
+
+/// The same over a file of the system.
+pub type FileLedger<D> = JournalLedger<OpenedFile<File>, D>;
 
 /// Makes the name of a journal's file stay, where what is appended to it is made to stay.
-fn named<R: Files<File = File>>(rt: &R, path: &str, keeping: Keeping) -> Result<(), Failure> {
+fn named<P: JournalFiles>(files: &P, path: &str, keeping: Keeping) -> Result<(), Fault> {
     match keeping {
-        Keeping::Synced => keep_name(rt, path),
+        Keeping::Synced => match files.keep_name(path) {
+            Ok(()) => Ok(()),
+            Err(error) => Err(Fault::of(Failure::Journal, error)),
+        },
         Keeping::Unsynced => Ok(()),
     }
 }
@@ -134,59 +140,114 @@ pub fn recovered<D: Sessions + Drop, R: BufRead + Drop>(
     Ok(Journaled::Journal(torn as u64))
 }
 
-/// What a file that may not be there has.
-fn found<R: Files<File = File> + AllocGlobal, D: Sessions + Drop>(
-    rt: &R,
+/// What a file has: it is read from its start to its end.
+fn found<F: JournalFile, D: Sessions + Drop>(
+    alloc: Global,
     hub: &mut Hub<D>,
-    path: &str,
+    file: &F,
     header: &[u8],
 ) -> Result<Journaled, Failure>
     requires { hub.old.attached ≡ [] }
-    ensures { IfOk result (λ found. IsWith found hub.new.attached) }
+    ensures journal { IfOk result (λ found. IfSome (F.contents file.now) (λ bytes. IsRecovered header.now bytes found hub.old.held hub.new.held)) }
+    ensures attached { IfOk result (λ found. IsWith found hub.new.attached) }
+    ensures fails { IfErr result (λ failure. ends_replay failure ≡ true) }
 {
-    match fs::open(rt, path) {
-        Ok(file) => match BufReader::with_capacity(rt.alloc(), 65_536, file) {
-            Ok(reader) => recovered(rt.alloc(), hub, reader, header),
-            Err(_error) => Err(Failure::Memory),
-        },
-        Err(error) => match error.kind() {
-            ErrorKind::NotFound => Ok(Journaled::Nothing),
-            _ => Err(Failure::JournalFile),
-        },
+    match BufReader::with_capacity(alloc, 65_536, FileReader::new(file)) {
+        Ok(reader) => recovered(alloc, hub, reader, header),
+        Err(_error) => Err(Failure::Memory),
     }
 }
 
-/// The log of a journal that begins: its header is appended.
-fn begun(
-    file: File,
-    keeping: Keeping,
-    header: &str,
-) -> Result<DeviceLog<JournalDevice<File>>, Failure>
-    ensures { IfOk result (λ log. is_staying (device_of log) ≡ is_synced keeping) }
+/// A failure, with what a log's device has said, where it has failed.
+pub(crate) fn log_fault<D>(failure: Failure, log: &DeviceLog<D>) -> Fault
+    ensures { result.failure ≡ failure }
 {
-    if file.set_len(0).is_err() {
-        return Err(Failure::JournalFile);
+    let Some(error) = log.error() else {
+        return Fault::from(failure);
+    };
+    match error.raw_os_error() {
+        Some(code) => Fault::of(failure, Error::from_raw_os_error(code)),
+        None => Fault::from(failure),
     }
+}
+
+/// Appends some bytes, or none.
+fn append<D: Device>(log: &mut DeviceLog<D>, bytes: &[u8]) -> Result<(), Fault>
+    ensures appended { OnOk result (Appends (D.contents (device_of log.old)) (D.contents (device_of log.new)) bytes.now) }
+    ensures makes_stay { D.makes_stay (device_of log.new) ≡ D.makes_stay (device_of log.old) }
+{
+    if bytes.is_empty() {
+        return Ok(());
+    }
+    match log.append(bytes) {
+        Ok(()) => Ok(()),
+        Err(_fault) => Err(log_fault(Failure::Journal, log)),
+    }
+}
+
+/// How many bytes a file has.
+fn size_of<F: JournalFile>(file: &F) -> Result<u64, Fault>
+    ensures { IfOk result (λ size. IfSome (F.contents file.now) (λ bytes. size ≡ length bytes)) }
+{
+    match file.size() {
+        Ok(size) => Ok(size),
+        Err(error) => Err(Fault::of(Failure::JournalFile, error)),
+    }
+}
+
+/// The log of a journal that begins: what its file lacks of the header is appended to it. Nothing is cut off the file.
+///
+/// `JournalFile` where the file is longer than the header, `Journal` where it can't be appended to.
+fn begun<F: JournalFile + Drop>(
+    file: F,
+    keeping: Keeping,
+    header: &[u8],
+) -> Result<DeviceLog<JournalDevice<F>>, Fault>
+    requires { IfSome (F.contents file) (IsBeginning header.now) }
+    ensures has { IfOk result (λ log. IfSome (F.contents file) (λ _. Has keeping (header.now ++ 10 ∷ []) (told_of F.contents (device_of log)))) }
+    ensures makes_stay { IfOk result (λ log. is_staying (device_of log) ≡ is_synced keeping) }
+{
+    let size = size_of(&file)?;
+    if size > header.len() as u64 {
+        return Err(Fault::from(Failure::JournalFile));
+    }
+    let (_, missing) = header.split_at(size as usize);
     let mut log = DeviceLog::new(JournalDevice::new(Some(file), keeping));
-    if !header.is_empty() && log.append(header.as_bytes()).is_err() || log.append(b"\n").is_err() {
-        return Err(Failure::Journal);
-    }
+    append(&mut log, missing)?;
+    append(&mut log, b"\n")?;
     Ok(log)
 }
 
+/// Cuts so many bytes off the end of a file.
+fn cut_off<F: JournalFile>(file: &mut F, torn: u64) -> Result<(), Fault>
+    ensures { OnOk result (IfSome (F.contents file.old) (λ bytes. F.contents file.new ≡ Some (take (length bytes - torn) bytes))) }
+{
+    if torn == 0 {
+        return Ok(());
+    }
+    let size = size_of(file)?;
+    match file.cut_to(size.saturating_sub(torn)) {
+        Ok(()) => Ok(()),
+        Err(error) => Err(Fault::of(Failure::JournalFile, error)),
+    }
+}
+
 /// The log of a journal that goes on behind what was found.
-fn continued(
-    file: File,
+fn continued<F: JournalFile + Drop>(
+    file: F,
     keeping: Keeping,
     found: Journaled,
-    header: &str,
-) -> Result<DeviceLog<JournalDevice<File>>, Failure>
-    ensures { IfOk result (λ log. is_staying (device_of log) ≡ is_synced keeping) }
+    header: &[u8],
+) -> Result<DeviceLog<JournalDevice<F>>, Fault>
+    requires { IfSome (F.contents file) (λ bytes. IsFound header.now bytes found) }
+    ensures has { IfOk result (λ log. IfSome (F.contents file) (λ bytes. Has keeping (kept_bytes header.now bytes found) (told_of F.contents (device_of log)))) }
+    ensures makes_stay { IfOk result (λ log. is_staying (device_of log) ≡ is_synced keeping) }
 {
     match found {
         Journaled::Nothing => begun(file, keeping, header),
         Journaled::Journal(torn) => {
-            cut_off(&file, torn)?;
+            let mut file = file;
+            cut_off(&mut file, torn)?;
             Ok(DeviceLog::new(JournalDevice::new(Some(file), keeping)))
         }
     }
@@ -218,8 +279,12 @@ fn resumed<D: Sessions + Drop, L: Log + Drop>(
 }
 
 /// A hub with no journal.
-pub fn without<D: Sessions + Drop>(alloc: Global, hub: Hub<D>) -> FileLedger<D>
+pub fn without<F: JournalFile + Drop, D: Sessions + Drop>(
+    alloc: Global,
+    hub: Hub<D>,
+) -> JournalLedger<F, D>
     ensures hub { hub_of result ≡ hub }
+    ensures settled { Keeps (told_of F.contents (device_of (log_of result))) (told_of F.stays (device_of (log_of result))) }
     ensures stays { is_staying (device_of (log_of result)) ≡ false }
 {
     Ledger::new(
@@ -229,23 +294,34 @@ pub fn without<D: Sessions + Drop>(alloc: Global, hub: Hub<D>) -> FileLedger<D>
     )
 }
 
-/// A hub that a journal's lines were asked of again, and that goes on with it. The sessions that were held at its end are undone, and
-/// what it has stays, its name too.
-pub fn opened<R: Files<File = File> + AllocGlobal, D: Sessions + Drop>(
-    rt: &R,
+/// A hub that the lines of a path's journal were asked of again, and that goes on with it. The file is locked, read, and seen under its
+/// path behind that; then its torn end is cut off, or the header is appended where it has none. The sessions that were held at its end are
+/// undone, by lines that are appended, and what it has stays, its name too.
+///
+/// `JournalLocked` where another process has the file; `JournalFile` where it can't be opened, read or cut, or was moved meanwhile;
+/// `JournalSchema` and `JournalLine` where it is no journal of this header; `Journal` where it can't be appended to or made to stay. The
+/// file is as it was then, but that it may lack its torn end or have the header's begin.
+pub fn opened<P: JournalFiles, D: Sessions + Drop>(
+    alloc: Global,
+    files: &P,
     hub: Hub<D>,
     path: &str,
     keeping: Keeping,
     header: &str,
-) -> Result<FileLedger<D>, Failure>
+) -> Result<JournalLedger<P::File, D>, Fault>
     requires { hub.attached ≡ [] }
+    ensures opened { IfOk result (λ ledger. (file : P.File) × (P.File.is_locked file ≡ true) × P.is_seen files.now path.now file
+        × IfSome (P.File.contents file) (λ bytes.
+        IsOpened header.now bytes keeping hub (hub_of ledger) (told_of P.File.contents (device_of (log_of ledger))))) }
     ensures attached { IfOk result (λ ledger. (hub_of ledger).attached ≡ []) }
+    ensures settled { IfOk result (λ ledger. Keeps (told_of P.File.contents (device_of (log_of ledger))) (told_of P.File.stays (device_of (log_of ledger)))) }
     ensures stays { IfOk result (λ ledger. is_staying (device_of (log_of ledger)) ≡ is_synced keeping) }
 {
     let mut hub = hub;
-    let file = claimed(rt, path)?;
-    named(rt, path, keeping)?;
-    let found = found(rt, &mut hub, path, header.as_bytes())?;
-    let log = continued(file, keeping, found, header)?;
-    resumed(rt.alloc(), hub, log, found)
+    let file = claimed(files, path)?;
+    named(files, path, keeping)?;
+    let found = found(alloc, &mut hub, &file, header.as_bytes())?;
+    check_name(files, path, &file)?;
+    let log = continued(file, keeping, found, header.as_bytes())?;
+    Ok(resumed(alloc, hub, log, found)?)
 }

@@ -1,17 +1,24 @@
 //! What the program does, in its order: the words are judged, the schema is read, the port is listened on, the journal is asked again,
 //! and then connections are served.
-ghost use Rattle.std.specs.Prelude.{◌≡◌, [], None, false, IfOk, IsNone, MatchOption};
+ghost use Rattle.std.specs.Prelude.{◌≡◌, [], Ok, true, false, is_some, option_map, IfOk, MatchOption};
+ghost use Rattle.std.specs.String.{string_bytes};
+ghost use Rattle.std.specs.Io.KnownBytes.{Keeps};
 ghost use Rattle.mi_log.specs.DeviceLog.{device_of};
 ghost use Rattle.mi_ledger.specs.Ledger.{hub_of, log_of};
-ghost use Rattle.mi_serving.specs.Device.{is_staying};
-ghost use Rattle.mi_model.specs.Database.{opened_database};
-ghost use Rattle.mi_serving.specs.Words.{asks_sync};
+ghost use Rattle.mi_serving.specs.Device.{is_staying, is_synced, told_of};
+ghost use Rattle.mi_serving.specs.Words.{asks_sync, asks_each};
+ghost use Rattle.mi_serving.specs.Fingerprint.{journal_header};
+ghost use Rattle.mi_serving.specs.Served.{empty_hub, Begins, HasServed};
+ghost use Rattle.mi_catalog.specs.Shape.{CatalogShape};
+ghost use Rattle.mi_program.specs.Source.{IsCatalog};
 
 use crate::device::Keeping;
 use crate::digest::fingerprint;
 use crate::door::Door;
-use crate::failure::Failure;
-use crate::opening::{FileLedger, opened, without};
+use crate::failure::{Failure, Fault};
+use crate::journal_file::{JournalFiles, SystemFiles};
+use crate::opening::{JournalLedger, log_fault, opened, without};
+use crate::report::{conclude, refuse};
 use crate::service::serve;
 use crate::source::catalog;
 use crate::words::{JournalWords, Options, SyncMode, read_words};
@@ -20,7 +27,8 @@ use mi_database::Linked;
 use mi_hub::Hub;
 use mi_log::header_line;
 use mi_multi::MultiIndex;
-use mi_program::{WordsFault, drawn};
+use mi_program::drawn;
+use mi_sessions::Sessions;
 use std::alloc::{AllocError, Global};
 use std::convert::AsStr;
 use std::fs::File;
@@ -33,39 +41,49 @@ use std::rt::Files;
 type Tables = Linked<MultiIndex>;
 
 /// The header of a catalog's journal.
-fn header_of(alloc: Global, catalog: &Catalog) -> Result<String, AllocError> {
+fn header_of(alloc: Global, catalog: &Catalog) -> Result<String, AllocError>
+    ensures { IfOk result (λ header. string_bytes header ≡ journal_header catalog.now) }
+{
     let hash = fingerprint(alloc, catalog)?;
     header_line(alloc, catalog.first_revision(), hash.as_str())
 }
 
-/// The hub of a catalog's tables, with the journal that the words name.
-fn ledger_of<R: Files<File = File> + AllocGlobal + RandomSource>(
-    rt: &R,
-    catalog: Catalog,
+/// What is done of a sync that is asked for.
+fn keeping_by(sync: SyncMode) -> Keeping
+    ensures { is_synced result ≡ asks_sync sync }
+{
+    match sync {
+        SyncMode::Always | SyncMode::Turn => Keeping::Synced,
+        SyncMode::Never => Keeping::Unsynced,
+    }
+}
+
+/// A hub that goes on with the journal that the words name, where they name one.
+fn ledger_of<P: JournalFiles, D: Sessions + Drop>(
+    alloc: Global,
+    files: &P,
+    hub: Hub<D>,
+    header: &str,
     journal: Option<&JournalWords>,
-) -> Result<FileLedger<Tables>, Failure>
-    ensures tables { IfOk result (λ ledger. IsNone journal.entry
-        → (hub_of ledger).held ≡ record { database = opened_database catalog; holder = None }) }
+) -> Result<JournalLedger<P::File, D>, Fault>
+    requires { hub.attached ≡ [] }
+    ensures begins { IfOk result (λ ledger. Begins P.File.is_locked (P.is_seen files.now) P.File.contents header.now hub
+        (option_map (λ words. words.now) journal.entry) (hub_of ledger) (told_of P.File.contents (device_of (log_of ledger)))) }
     ensures attached { IfOk result (λ ledger. (hub_of ledger).attached ≡ []) }
+    ensures settled { IfOk result (λ ledger. Keeps (told_of P.File.contents (device_of (log_of ledger))) (told_of P.File.stays (device_of (log_of ledger)))) }
     ensures stays { IfOk result (λ ledger. MatchOption journal.entry (is_staying (device_of (log_of ledger)) ≡ false)
         (λ words. is_staying (device_of (log_of ledger)) ≡ asks_sync words.now.sync)) }
 {
-    let Ok(header) = header_of(rt.alloc(), &catalog) else {
-        return Err(Failure::Memory);
-    };
-    let Ok(tables) = Linked::new(rt.alloc(), catalog, drawn(rt)) else {
-        return Err(Failure::Memory);
-    };
-    let hub = Hub::new(rt.alloc(), tables);
     match journal {
-        Some(words) => {
-            let keeping = match words.sync {
-                SyncMode::Always | SyncMode::Turn => Keeping::Synced,
-                SyncMode::Never => Keeping::Unsynced,
-            };
-            opened(rt, hub, words.file.as_str(), keeping, header.as_str())
-        }
-        None => Ok(without(rt.alloc(), hub)),
+        Some(words) => opened(
+            alloc,
+            files,
+            hub,
+            words.file.as_str(),
+            keeping_by(words.sync),
+            header,
+        ),
+        None => Ok(without(alloc, hub)),
     }
 }
 
@@ -77,46 +95,78 @@ fn announce<W: Write>(output: &mut W, port: u16) -> Result<(), Failure> {
     Ok(())
 }
 
-/// Does what the options say, until something fails.
-fn perform<R: Files<File = File> + Net + AllocGlobal + RandomSource, W: Write>(
-    rt: &R,
-    options: &Options,
-    output: &mut W,
-) -> Result<(), Failure> {
-    let catalog = catalog(rt, options.schema.as_deref())?;
-    let mut door = Door::open(rt, options.port)?;
-    let port = door.port()?;
-    let mut ledger = ledger_of(rt, catalog, options.journal.as_ref())?;
-    announce(output, port)?;
-    let each = match &options.journal {
+/// Whether each line of a journal is to be synced by itself.
+fn syncs_each(journal: Option<&JournalWords>) -> bool
+    ensures { result ≡ asks_each (option_map (λ words. words.now) journal.entry) }
+{
+    match journal {
         Some(words) => matches!(words.sync, SyncMode::Always),
         None => false,
-    };
-    Err(serve(rt.alloc(), &mut ledger, &mut door, each))
-}
-
-/// Reports what came of the options, and answers the status.
-fn conclude<E: Write>(failure: Failure, errors: &mut E) -> u8 {
-    let _ = writeln!(errors, "{failure}");
-    failure.status()
-}
-
-/// Reports words that give no options, and answers the status.
-fn refuse<E: Write>(fault: &WordsFault, errors: &mut E) -> u8 {
-    match fault {
-        WordsFault::Parse(error) => {
-            let _ = write!(errors, "{error}");
-            2
-        }
-        WordsFault::Rules => {
-            let _ = writeln!(
-                errors,
-                "usage: --listen is needed; --sync goes with --journal and is always, turn or never"
-            );
-            2
-        }
-        WordsFault::Memory => conclude(Failure::Memory, errors),
     }
+}
+
+/// Serves a hub, with what the journal has, until something fails, which is the answer. It says where it listens once it is ready. An
+/// error comes before the first connection.
+fn serve_hub<P: JournalFiles, D: Sessions + Drop, W: Write>(
+    alloc: Global,
+    files: &P,
+    hub: Hub<D>,
+    header: &str,
+    journal: Option<&JournalWords>,
+    door: &mut Door,
+    output: &mut W,
+) -> Result<Fault, Fault>
+    requires { hub.attached ≡ [] }
+    ensures { IfOk result (λ ended. HasServed P.File.is_locked (P.is_seen files.now) P.File.contents header.now hub
+        (option_map (λ words. words.now) journal.entry) ended.failure) }
+{
+    let port = door.port()?;
+    let mut ledger = ledger_of(alloc, files, hub, header, journal)?;
+    announce(output, port)?;
+    let failure = serve(alloc, &mut ledger, door, syncs_each(journal));
+    Ok(log_fault(failure, ledger.log()))
+}
+
+/// The tables of a catalog, none of which has a row, under a hub with no connection. The failure is `Memory`.
+fn open_tables<R: AllocGlobal + RandomSource>(
+    rt: &R,
+    catalog: Catalog,
+) -> Result<Hub<Tables>, Failure>
+    ensures { IfOk result (λ hub. hub ≡ empty_hub catalog) }
+{
+    match Linked::new(rt.alloc(), catalog, drawn(rt)) {
+        Ok(tables) => Ok(Hub::new(rt.alloc(), tables)),
+        Err(_refused) => Err(Failure::Memory),
+    }
+}
+
+/// Does what the options say, until something fails, which is the answer. An error comes before the first connection.
+fn perform<R: Files + Net + AllocGlobal + RandomSource, P: JournalFiles, W: Write>(
+    rt: &R,
+    files: &P,
+    options: &Options,
+    output: &mut W,
+) -> Result<Fault, Fault>
+    ensures { IfOk result (λ ended. (catalog : CatalogShape) × IsCatalog R.File.remaining (is_some options.now.schema) (Ok catalog)
+        × HasServed P.File.is_locked (P.is_seen files.now) P.File.contents (journal_header catalog) (empty_hub catalog) options.now.journal
+        ended.failure) }
+{
+    let catalog = catalog(rt, options.schema.as_deref())?;
+    let mut door = Door::open(rt, options.port)?;
+    let Ok(header) = header_of(rt.alloc(), &catalog) else {
+        return Err(Fault::from(Failure::Memory));
+    };
+    let hub = open_tables(rt, catalog)?;
+    let journal = options.journal.as_ref();
+    serve_hub(
+        rt.alloc(),
+        files,
+        hub,
+        header.as_str(),
+        journal,
+        &mut door,
+        output,
+    )
 }
 
 /// Does what the service does with these words, the first of which is its name, and answers its exit status:
@@ -126,6 +176,8 @@ fn refuse<E: Write>(fault: &WordsFault, errors: &mut E) -> u8 {
 /// | 2 | the words are refused, or ask for help | the parser's text, or the rule that they break |
 /// | 3 | the schema or the journal can't be read or is refused | `schema: ` or `journal: ` and a word |
 /// | 4 | the journal, the listener or memory failed | `fault: ` and a word |
+///
+/// Behind the word stand the file or the port, and what the system said, where it said something.
 pub fn run<
     R: Files<File = File> + Net + AllocGlobal + RandomSource,
     S: AsStr,
@@ -134,10 +186,15 @@ pub fn run<
 >(rt: &R, words: &[S], output: W, errors: E) -> u8 {
     let (mut output, mut errors) = (output, errors);
     match read_words(rt.alloc(), words) {
-        Ok(options) => match perform(rt, &options, &mut output) {
-            Ok(()) => 0,
-            Err(failure) => conclude(failure, &mut errors),
-        },
+        Ok(options) => {
+            let (Ok(fault) | Err(fault)) = perform(
+                rt,
+                &SystemFiles::new(rt),
+                &options,
+                &mut output,
+            );
+            conclude(rt.alloc(), &fault, &options, &mut errors)
+        }
         Err(fault) => refuse(&fault, &mut errors),
     }
 }

@@ -1,13 +1,15 @@
 //! The loop of the service: it waits until something is ready, and takes a turn.
-ghost use Rattle.std.specs.Prelude.{◌≡◌, ◌<◌, ◌⊎◌, List, [], length, None, Err, true, OnOk, OnErr};
+ghost use Rattle.std.specs.Prelude.{◌≡◌, ◌+◌, ◌^◌, ◌<◌, ◌≤◌, ◌⊎◌, List, [], length, Some, None, Err, true, IfOk, OnOk, OnErr};
+ghost use Rattle.mi_value.specs.declared.limits.TheConstants.{MAX_CONNECTIONS as most_connections};
+ghost use Rattle.mi_hub.specs.declared.fault.HubFault.{HubFault};
 ghost use Rattle.mi_ledger.specs.Ledger.{hub_of, log_of, IsSettled};
 ghost use Rattle.mi_clients.specs.Steps.{Step, Makes, GivesNone};
-ghost use Rattle.mi_clients.specs.Row.{ids, Attends, Joins, NoneIsOver, Serves, AllOnlyAsk, StayersOnlyAsk, EachWoken};
-ghost use Rattle.mi_serving.specs.Turns.{Goes, ends_serving};
+ghost use Rattle.mi_clients.specs.Row.{ids, Attends, Joins, NoneIsOver, NoneIsWhole, SameStreams, Serves, AllOnlyAsk, StayersOnlyAsk, EachWoken};
+ghost use Rattle.mi_serving.specs.Turns.{Goes, AllUpTo, ends_serving};
 
 use crate::door::Door;
 use crate::failure::Failure;
-use mi_clients::{Client, admit, is_any_busy, serve_all};
+use mi_clients::{Admission, Client, Duplex, admit, is_any_busy, serve_all};
 use mi_ledger::{Ledger, LedgerFault, REPLAYER};
 use mi_log::Log;
 use mi_sessions::Sessions;
@@ -21,30 +23,40 @@ const MAX_TURNS: u64 = 4_611_686_018_427_387_904;
 /// Bytes of one read, at most.
 const READ: usize = 16_384;
 
-/// Accepts a connection, where one has come.
+/// Accepts a connection, where one has come, under a number that none has had. `last` is the number of the one that came last.
+///
+/// One that the hub refuses is let go; `Memory` is the only reason for that. `Memory` is the fault where the row has no room for it.
 fn accept_one<D: Sessions + Drop, L: Log + Drop>(
     alloc: Global,
     ledger: &mut Ledger<D, L>,
     door: &mut Door,
     row: &mut Vec<Client<TcpStream>>,
     last: &mut u64,
-) -> Result<(), LedgerFault>
+) -> Result<Option<Admission>, LedgerFault>
     requires attends { Attends (ids row.old.items) (hub_of ledger.old).attached }
     requires settled { IsSettled L.appended L.synced ledger.old }
+    requires known { AllUpTo last.old row.old.items }
+    requires room { length row.old.items < most_connections }
+    requires more { last.old + 1 < 2 ^ 64 }
     ensures comes { OnOk result ((steps : List Step) × GivesNone steps × Joins row.old.items row.new.items
         × Makes steps (hub_of ledger.old) (hub_of ledger.new) (L.appended (log_of ledger.old)) (L.appended (log_of ledger.new))
         × AllOnlyAsk steps (ids row.old.items)) }
+    ensures known { OnOk result (AllUpTo last.new row.new.items) }
+    ensures rises { last.old ≤ last.new }
+    ensures same { OnOk result (SameStreams ⟦<TcpStream as Duplex>⟧.handle last.old row.old.items row.new.items) }
+    ensures refused { IfOk result (λ came. (fault : HubFault) → came ≡ Some (Admission.Refused fault) → fault ≡ HubFault.Memory) }
     ensures attends { OnOk result (Attends (ids row.new.items) (hub_of ledger.new).attached) }
     ensures memory { OnErr result (result ≡ Err LedgerFault.Memory) }
     ensures settled { OnOk result (IsSettled L.appended L.synced ledger.new) }
 {
-    let conn = last.saturating_add(1);
+    let conn = *last + 1;
     match door.accept(conn) {
         Some(stream) => {
             *last = conn;
-            admit(alloc, ledger, row, conn, stream)
+            let admission = admit(alloc, ledger, row, conn, stream)?;
+            Ok(Some(admission))
         }
-        None => Ok(()),
+        None => Ok(None),
     }
 }
 
@@ -58,15 +70,19 @@ fn accept_all<D: Sessions + Drop, L: Log + Drop>(
 ) -> Result<(), LedgerFault>
     requires attends { Attends (ids row.old.items) (hub_of ledger.old).attached }
     requires settled { IsSettled L.appended L.synced ledger.old }
+    requires known { AllUpTo last.old row.old.items }
     ensures comes { OnOk result ((steps : List Step) × GivesNone steps × Joins row.old.items row.new.items
         × Makes steps (hub_of ledger.old) (hub_of ledger.new) (L.appended (log_of ledger.old)) (L.appended (log_of ledger.new))
         × AllOnlyAsk steps (ids row.old.items)) }
+    ensures known { OnOk result (AllUpTo last.new row.new.items) }
+    ensures rises { last.old ≤ last.new }
+    ensures same { OnOk result (SameStreams ⟦<TcpStream as Duplex>⟧.handle last.old row.old.items row.new.items) }
     ensures attends { OnOk result (Attends (ids row.new.items) (hub_of ledger.new).attached) }
     ensures memory { OnErr result (result ≡ Err LedgerFault.Memory) }
     ensures settled { OnOk result (IsSettled L.appended L.synced ledger.new) }
 {
     'places: for _place in 0..MAX_CONNECTIONS {
-        if row.len() >= MAX_CONNECTIONS || !door.may_accept() {
+        if row.len() >= MAX_CONNECTIONS || !door.may_accept() || *last == u64::MAX {
             return Ok(());
         }
         accept_one(alloc, ledger, door, row, last)?;
@@ -76,7 +92,8 @@ fn accept_all<D: Sessions + Drop, L: Log + Drop>(
 
 /// What is done once some connections are ready: those that have come are accepted, what is ready is read, its lines are asked, the
 /// replies are sent once the journal stays, and those that are over are let go. What a connection receives are the replies to its own
-/// lines, whole and in their order.
+/// lines, whole and in their order. A connection keeps its number and its stream, and once its bytes have ended and its lines are asked nothing
+/// of it is held.
 ///
 /// `Memory` where memory for a reply or for the row is refused, or one that goes holds sessions still once 1,025 lines undid some;
 /// `Journal` where a line can't be appended whole, or what was appended can't be made to stay. Nothing is said of the hub then, and
@@ -92,10 +109,15 @@ pub fn take_turn<D: Sessions + Drop, L: Log + Drop>(
 ) -> Result<(), LedgerFault>
     requires attends { Attends (ids row.old.items) (hub_of ledger.old).attached }
     requires settled { IsSettled L.appended L.synced ledger.old }
+    requires known { AllUpTo last.old row.old.items }
     requires room { 0 < length buffer.old }
     ensures serves { OnOk result ((steps : List Step) × Serves (λ _. None) steps row.old.items row.new.items
         × Makes steps (hub_of ledger.old) (hub_of ledger.new) (L.appended (log_of ledger.old)) (L.appended (log_of ledger.new))
         × StayersOnlyAsk steps row.old.items row.new.items) }
+    ensures known { OnOk result (AllUpTo last.new row.new.items) }
+    ensures rises { last.old ≤ last.new }
+    ensures same { OnOk result (SameStreams ⟦<TcpStream as Duplex>⟧.handle last.old row.old.items row.new.items) }
+    ensures whole { OnOk result (NoneIsWhole row.new.items) }
     ensures stay { OnOk result (NoneIsOver row.new.items) }
     ensures attends { OnOk result (Attends (ids row.new.items) (hub_of ledger.new).attached) }
     ensures failed { result ≡ Err LedgerFault.Journal → L.has_failed (log_of ledger.new) ≡ true }

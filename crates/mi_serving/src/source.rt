@@ -5,7 +5,7 @@ ghost use Rattle.mi_catalog.specs.Accounts.{accounts};
 ghost use Rattle.mi_schema.specs.Reading.{catalog_read};
 ghost use Rattle.mi_program.specs.Source.{IsRead, IsCatalog};
 
-use crate::failure::Failure;
+use crate::failure::{Failure, Fault};
 use mi_program::whole_text;
 use mi_schema::{Catalog, SchemaFault, built_in, read_catalog};
 use std::alloc::{AllocError, Global};
@@ -50,15 +50,18 @@ fn catalog_in<R: Read + Drop>(alloc: Global, file: R) -> Result<Catalog, Failure
 }
 
 /// The catalog of the named file, or the built-in one where none is named.
-pub fn catalog<R: Files + AllocGlobal>(rt: &R, file: Option<&str>) -> Result<Catalog, Failure>
+pub fn catalog<R: Files + AllocGlobal>(rt: &R, file: Option<&str>) -> Result<Catalog, Fault>
     ensures { IfOk result (λ catalog. IsCatalog R.File.remaining (is_some file.entry) (Ok catalog)) }
 {
     let alloc = rt.alloc();
     match file {
         Some(path) => match fs::open(rt, path) {
-            Ok(opened) => catalog_in(alloc, opened),
-            Err(_error) => Err(Failure::SchemaFile),
+            Ok(opened) => Ok(catalog_in(alloc, opened)?),
+            Err(error) => Err(Fault::of(Failure::SchemaFile, error)),
         },
-        None => built_in_catalog(alloc).map_err(|_| Failure::Schema(SchemaFault::Memory)),
+        None => match built_in_catalog(alloc) {
+            Ok(catalog) => Ok(catalog),
+            Err(_refused) => Err(Fault::from(Failure::Schema(SchemaFault::Memory))),
+        },
     }
 }

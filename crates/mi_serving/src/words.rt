@@ -1,4 +1,12 @@
 //! The words that the service is called with: which options it has, and what the words say by them.
+ghost use Rattle.std.specs.Prelude.{◌≡◌, false, true, map, option_map, IfOk};
+ghost use Rattle.std.specs.String.{string_bytes};
+ghost use Rattle.clap.specs.Words.{app_of, rule_of, rows_of, found_of, matches_of, is_simple_and_free};
+ghost use Rattle.clap.specs.Built.{IsPlainArg};
+ghost use Rattle.mi_program.specs.Words.{option_rule, number_rule, HasOptions};
+ghost use Rattle.mi_serving.specs.Words as spec;
+ghost use Rattle.mi_serving.specs.Words.{service_options, sync_by, IsJournal, AreValues};
+
 use clap::builder::ValueParser;
 use clap::error::ErrorKind;
 use clap::{Arg, ArgAction, ArgMatches, Command};
@@ -38,7 +46,11 @@ pub struct Options {
 }
 
 /// An option `--name VALUE`, whose help calls the value by `value`.
-fn option<'a>(alloc: Global, name: &'a str, value: &'a str, help: &'a str) -> Arg<'a> {
+fn option<'a>(alloc: Global, name: &'a str, value: &'a str, help: &'a str) -> Arg<'a>
+    ensures rule { rule_of result ≡ option_rule name.entry.now }
+    ensures local { result.global ≡ false }
+    ensures plain { IsPlainArg result }
+{
     Arg::new(alloc, name)
         .long(name)
         .action(ArgAction::Set)
@@ -46,26 +58,45 @@ fn option<'a>(alloc: Global, name: &'a str, value: &'a str, help: &'a str) -> Ar
         .help(help)
 }
 
+/// An option `--name N` of a number that `parser` takes.
+fn number<'a>(
+    alloc: Global,
+    name: &'a str,
+    value: &'a str,
+    parser: ValueParser<'a>,
+    help: &'a str,
+) -> Arg<'a>
+    ensures rule { rule_of result ≡ number_rule name.entry.now parser.entry }
+    ensures local { result.global ≡ false }
+    ensures plain { IsPlainArg result }
+{
+    option(alloc, name, value, help).value_parser(parser)
+}
+
 /// Ports are 0 to 65535.
-fn port_parser<'a>() -> ValueParser<'a> {
+fn port_parser<'a>() -> ValueParser<'a>
+    ensures { result ≡ spec.port_parser }
+{
     clap::value_parser!(u16).range(0..)
 }
 
 /// The options that the service knows.
-fn command<'a>(alloc: Global) -> Result<Command<'a>, AllocError> {
+fn command<'a>(alloc: Global) -> Result<Command<'a>, AllocError>
+    ensures { IfOk result (λ c. HasOptions c service_options) }
+{
     let with_schema = Command::new(alloc, "mi_service").arg(option(
         alloc,
         "schema",
         "FILE",
         "Reads the schema from this TOML file; without it the table `accounts` is served",
     ))?;
-    let with_listen = with_schema.arg(option(
+    let with_listen = with_schema.arg(number(
         alloc,
         "listen",
         "PORT",
+        port_parser(),
         "Serves connections on this port of 127.0.0.1, on any that is free where it is 0",
-    )
-    .value_parser(port_parser()))?;
+    ))?;
     let with_journal = with_listen.arg(option(
         alloc,
         "journal",
@@ -90,16 +121,28 @@ fn parser_fault(error: clap::Error) -> WordsFault {
     }
 }
 
-/// What was matched in the words.
-fn parse<'a, S: AsStr>(alloc: Global, words: &'a [S]) -> Result<ArgMatches<'a>, WordsFault> {
-    match command(alloc)?.try_get_matches_from(words) {
+/// What a command matches in the words.
+fn matched<'a, S: AsStr>(command: Command<'a>, words: &'a [S]) -> Result<ArgMatches<'a>, WordsFault>
+    requires { is_simple_and_free (app_of command) ≡ true }
+    ensures { IfOk result (λ m. rows_of (found_of m) ≡ matches_of (app_of command.entry) (map S.text words.entry.now)) }
+{
+    match command.try_get_matches_from(words) {
         Ok(matches) => Ok(matches),
         Err(error) => Err(parser_fault(error)),
     }
 }
 
+/// What was matched in the words.
+fn parse<'a, S: AsStr>(alloc: Global, words: &'a [S]) -> Result<ArgMatches<'a>, WordsFault>
+    ensures { IfOk result (λ m. rows_of (found_of m) ≡ matches_of service_options (map S.text words.entry.now)) }
+{
+    matched(command(alloc)?, words)
+}
+
 /// A copy of a text.
-fn owned(alloc: Global, text: Option<&str>) -> Result<Option<String>, AllocError> {
+fn owned(alloc: Global, text: Option<&str>) -> Result<Option<String>, AllocError>
+    ensures { IfOk result (λ copy. option_map string_bytes copy ≡ option_map (λ t. t.now) text.entry) }
+{
     match text {
         Some(text) => Ok(Some(String::from_str(alloc, text)?)),
         None => Ok(None),
@@ -107,7 +150,9 @@ fn owned(alloc: Global, text: Option<&str>) -> Result<Option<String>, AllocError
 }
 
 /// When a journal's lines are made to stay, by this word.
-fn sync_mode(word: Option<&str>) -> Option<SyncMode> {
+fn sync_mode(word: Option<&str>) -> Option<SyncMode>
+    ensures { result ≡ sync_by (option_map (λ w. w.now) word.entry) }
+{
     match word {
         None => Some(SyncMode::Turn),
         Some(word) => {
@@ -129,7 +174,9 @@ fn journal_words(
     alloc: Global,
     file: Option<&str>,
     sync: Option<&str>,
-) -> Result<Option<JournalWords>, WordsFault> {
+) -> Result<Option<JournalWords>, WordsFault>
+    ensures { IfOk result (λ journal. IsJournal (option_map (λ t. t.now) file.entry) (option_map (λ w. w.now) sync.entry) journal) }
+{
     match (file, sync) {
         (None, None) => Ok(None),
         (None, Some(_word)) => Err(WordsFault::Rules),
@@ -144,7 +191,9 @@ fn journal_words(
 }
 
 /// The options that were matched. The fault is `Rules` or `Memory`.
-fn values(alloc: Global, matches: &ArgMatches<'_>) -> Result<Options, WordsFault> {
+fn values(alloc: Global, matches: &ArgMatches<'_>) -> Result<Options, WordsFault>
+    ensures { IfOk result (λ options. AreValues options (rows_of (found_of matches.now))) }
+{
     let schema = owned(alloc, matches.get_str("schema"))?;
     let Some(port) = matches.get_one::<u16>("listen") else {
         return Err(WordsFault::Rules);
@@ -161,7 +210,9 @@ fn values(alloc: Global, matches: &ArgMatches<'_>) -> Result<Options, WordsFault
 ///
 /// `Parse` where they are refused or ask for help, `Rules` where `--listen` is missing, or `--sync` stands without `--journal` or names no
 /// way, `Memory` where a growth was refused.
-pub fn read_words<S: AsStr>(alloc: Global, words: &[S]) -> Result<Options, WordsFault> {
+pub fn read_words<S: AsStr>(alloc: Global, words: &[S]) -> Result<Options, WordsFault>
+    ensures { IfOk result (λ options. AreValues options (matches_of service_options (map S.text words.now))) }
+{
     let matches = parse(alloc, words)?;
     values(alloc, &matches)
 }

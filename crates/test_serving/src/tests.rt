@@ -1,11 +1,17 @@
-//! A journal that is asked again: torn lines at each byte, a damaged line, another header, and none.
+//! A journal that is asked again: torn lines at each byte, a damaged line, another header, and none; and its file, which is taken by another
+//! process, moved while it is read, or longer than what was read of it.
 ghost use Rattle.std.specs.Prelude.{◌≡◌, [], IfOk};
 
 use mi_catalog::{Catalog, built_in};
 use mi_hub::Hub;
+use mi_log::Device;
 use mi_plain::Plain;
-use mi_serving::{Journaled, recovered};
+use mi_serving::{JournalFile, JournalFiles, Journaled, Keeping, opened, recovered};
 use std::alloc::Global;
+use std::cell::Cell;
+use std::fs::TryLockError;
+use std::io;
+use std::io::{Error, ErrorKind};
 use std::test::Fail;
 
 /// A hub over the table `accounts`, with no connection.
@@ -41,6 +47,148 @@ fn journals_are_recovered(rt: HostRuntime) -> Result<(), Fail> {
         b"",
     ] {
         assert_eq!(rt; torn_of(rt.alloc(), other)?, None);
+    }
+    Ok(())
+}
+
+/// A file in memory, which tells no clause what it has.
+#[derive(Drop)]
+struct MemoryFile {
+    bytes: Vec<u8>,
+    is_taken: bool,
+}
+
+impl Device for MemoryFile {
+    fn write(&mut self, bytes: &[u8]) -> io::Result<usize> {
+        match self.bytes.extend_from_slice(bytes) {
+            Ok(()) => Ok(bytes.len()),
+            Err(_error) => Err(Error::from(ErrorKind::OutOfMemory)),
+        }
+    }
+
+    fn sync_data(&mut self) -> io::Result<()> {
+        Ok(())
+    }
+}
+
+impl JournalFile for MemoryFile {
+    fn try_lock(&mut self) -> Result<(), TryLockError> {
+        if self.is_taken {
+            return Err(TryLockError::WouldBlock);
+        }
+        Ok(())
+    }
+
+    fn read_at(&self, buffer: &mut [u8], at: u64) -> io::Result<usize> {
+        let bytes = self.bytes.as_slice();
+        let (_, left) = bytes.split_at(bytes.len().min(at as usize));
+        let count = left.len().min(buffer.len()).min(3);
+        buffer[..count].copy_from_slice(&left[..count]);
+        Ok(count)
+    }
+
+    fn size(&self) -> io::Result<u64> {
+        Ok(self.bytes.len() as u64)
+    }
+
+    fn cut_to(&mut self, size: u64) -> io::Result<()> {
+        self.bytes.truncate(size as usize);
+        Ok(())
+    }
+}
+
+/// One file, under any path, which names it so often.
+#[derive(Drop)]
+struct OneFile<'a> {
+    alloc: Global,
+    bytes: &'a [u8],
+    is_taken: bool,
+    named: Cell<u64>,
+}
+
+impl<'a> JournalFiles for OneFile<'a> {
+    ghost use Rattle.std.specs.Prelude.{⊤};
+
+    type File = MemoryFile;
+
+    ghost is_seen = { λ _ _ _. ⊤ };
+
+    fn open(&self, _path: &str) -> io::Result<MemoryFile> {
+        match Vec::from_slice(self.alloc, self.bytes) {
+            Ok(bytes) => Ok(MemoryFile {
+                bytes,
+                is_taken: self.is_taken,
+            }),
+            Err(_error) => Err(Error::from(ErrorKind::OutOfMemory)),
+        }
+    }
+
+    fn names(&self, _path: &str, _file: &MemoryFile) -> io::Result<bool> {
+        let left = self.named.get();
+        self.named.set(left.saturating_sub(1));
+        Ok(left > 0)
+    }
+
+    fn keep_name(&self, _path: &str) -> io::Result<()> {
+        Ok(())
+    }
+}
+
+/// What a file has once it is opened, or the line of the failure.
+fn left_of(
+    alloc: Global,
+    bytes: &[u8],
+    is_taken: bool,
+    named: u64,
+) -> Result<Result<String, String>, Fail> {
+    let files = OneFile {
+        alloc,
+        bytes,
+        is_taken,
+        named: Cell::new(named),
+    };
+    match opened(alloc, &files, hub(alloc)?, "j", Keeping::Synced, "head") {
+        Ok(ledger) => match ledger.log().device().file() {
+            Some(file) => Ok(Ok(String::from_utf8_lossy(alloc, file.bytes.as_slice())?)),
+            None => Ok(Err(String::from_str(alloc, "no file")?)),
+        },
+        Err(fault) => Ok(Err(fault.failure.to_string(alloc)?)),
+    }
+}
+
+#[test]
+fn files_go_on(rt: HostRuntime) -> Result<(), Fail> {
+    for (bytes, want) in [
+        ("", "head\n"),
+        ("he", "head\n"),
+        ("head", "head\n"),
+        ("head\n", "head\n"),
+        ("head\n{\"cmd\":\"st", "head\n"),
+        (
+            "head\n{\"cmd\":\"start\"}\n{\"c",
+            "head\n{\"cmd\":\"start\"}\n{\"cmd\":\"undo\"}\n",
+        ),
+    ] {
+        match left_of(rt.alloc(), bytes.as_bytes(), false, 2)? {
+            Ok(left) => assert!(rt; left.as_str() == want),
+            Err(_word) => assert!(rt; false),
+        }
+    }
+    Ok(())
+}
+
+#[test]
+fn files_are_refused(rt: HostRuntime) -> Result<(), Fail> {
+    for (bytes, is_taken, named, want) in [
+        ("heads", false, 2, "journal: line 1"),
+        ("head\n", true, 2, "journal: locked"),
+        ("head\n", false, 0, "journal: locked"),
+        ("head\n", false, 1, "journal: file"),
+    ] {
+        match left_of(rt.alloc(), bytes.as_bytes(), is_taken, named)? {
+            Ok(_left) => assert!(rt; false),
+            Err(word) => assert!(rt; word.as_str() == want),
+        }
     }
     Ok(())
 }

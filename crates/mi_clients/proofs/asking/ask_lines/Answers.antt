@@ -1,10 +1,12 @@
 -- Each line that is asked is a step more, and its reply is owed.
-use Rattle.std.proofs.Common.{◌≡◌, ◌++◌, ◌∷◌, [], ◌∙◌, inl, inr, refl, sym, ap, arith, true}
+use Rattle.std.proofs.Common.{◌≡◌, ◌++◌, ◌∷◌, [], ◌∙◌, inl, inr, refl, sym, ap, subst, arith, true}
 use Rattle.std.proofs.KnownBytes.{Keeps-refl}
 use Rattle.mi_hub.specs.Run.{HubState}
 use Rattle.mi_ledger.specs.Ledger.{hub_of}
 use Rattle.mi_clients.specs.Input.{waiting}
 use Rattle.mi_clients.specs.Steps.{asks}
+use Rattle.mi_clients.specs.Client.{MayAsk}
+use Rattle.mi_clients.specs.declared.client.Client.{Client}
 use Rattle.mi_clients.specs.declared.client.Phase.TheVariants.{Broken}
 use Rattle.mi_clients.proofs.StepLemmas.{makes_none, makes_then, makes_kept, asks_of, asks_more, waits_more}
 use Rattle.mi_clients.proofs.ServedLemmas.{owes_none, owes_more, owes_reply, far_then, room_left}
@@ -22,6 +24,7 @@ lines-init g c = record {
   owes = owes_none c.args.client.now;
   far = inr refl;
   within = inl refl;
+  idle = λ no. refl;
   makes = makes_none _ _ _ (Keeps-refl _);
 }
 
@@ -55,6 +58,7 @@ lines-preserved g c =
         room_left c.args.client.now c.lines.client before.steps before.taken before.given before.own before.owes sound
             (c.may_ask.ensures.may.0 c.lines-test.true).2,
       );
+      idle = λ no. absurd (no (subst (λ (x : Client _). MayAsk x) (before.idle no) (c.may_ask.ensures.may.0 c.lines-test.true)));
       makes = makes_kept (before.steps ++ step ∷ []) _ (hub_of c.ask_line.new.ledger) _ _ _ _
           (makes_then before.steps (step ∷ []) _ (hub_of c.lines.ledger) _ _ _ _ before.makes
           (asks_of c.lines.client.conn conn one.0 one.1 (hub_of c.lines.ledger) (hub_of c.ask_line.new.ledger) _ _ before.owes.conn one.5))

@@ -2,7 +2,7 @@ use Rattle.std.proofs.Common.{◌≡◌, ◌++◌, ℕ, List, length}
 use Rattle.mi_ledger.specs.Ledger.{hub_of, log_of, IsSettled}
 use Rattle.mi_clients.specs.Steps.{Step, Makes, AreAsks}
 use Rattle.mi_clients.specs.Input.{waiting}
-use Rattle.mi_clients.specs.Client.{Owes, IsAsFar, AsksWithin}
+use Rattle.mi_clients.specs.Client.{Owes, IsAsFar, AsksWithin, MayAsk}
 use Rattle.mi_clients.proofs.asking.ask_lines.Given as goal
 
 -- the lines so far are the first of what waited, and their replies are owed
@@ -18,6 +18,7 @@ invariant-lines g l = record {
   owes : Owes given l.fn.client l.client;
   far : IsAsFar l.fn.client l.client;
   within : AsksWithin l.fn.client steps;
+  idle : ¬ MayAsk l.fn.client → l.client ≡ l.fn.client;
   makes : Makes steps (hub_of l.fn.ledger) (hub_of l.ledger) (g.L.Log.appended (log_of l.fn.ledger)) (g.L.Log.appended (log_of l.ledger));
 }
 

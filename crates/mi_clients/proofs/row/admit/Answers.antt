@@ -1,14 +1,14 @@
 -- Who comes stands behind the others; who is refused changes nothing.
-use Rattle.std.proofs.Common.{◌∷◌, [], inr, sym, subst}
+use Rattle.std.proofs.Common.{◌∷◌, [], sym, subst}
 use Rattle.std.proofs.lemmas.Result.{on_ok_weaker}
 use Rattle.std.proofs.KnownBytes.{Keeps-refl}
 use Rattle.std.specs.Io.KnownBytes.{Keeps}
 use Rattle.mi_ledger.specs.Ledger.{hub_of, log_of}
 use Rattle.mi_clients.specs.Steps.{comes}
-use Rattle.mi_clients.specs.Row.{ids, Attends, Joins, IsNoneOf}
+use Rattle.mi_clients.specs.Row.{ids, Attends, Joins, IsNoneOf, Admits}
 use Rattle.mi_clients.proofs.StepLemmas.{comes_makes, makes_none, makes_kept}
 use Rattle.mi_clients.proofs.RowLemmas.{attends_more, none_of_attended}
-use Rattle.mi_clients.proofs.ServedLemmas.{nothing_given, comes_none_given, joins_none, joins_one, only_none, only_others}
+use Rattle.mi_clients.proofs.ServedLemmas.{if_ok_with, nothing_given, comes_none_given, joins_none, joins_one, only_none, only_others}
 use Rattle.mi_clients.proofs.row.admit.Goals as goal
 
 pub returns-in-Ok-clause-comes : goal.returns-in-Ok-clause-comes
@@ -25,13 +25,15 @@ returns-in-Ok-clause-comes g c =
       only_others c.args.conn (comes c.args.conn ∷ []) (ids row) (λ k other. (other, tt)) none,
     )) c.seat.ensures.seated
 
-pub returns-in-Ok-clause-row : goal.returns-in-Ok-clause-row
-returns-in-Ok-clause-row g c =
+pub returns-in-Ok-clause-admits : goal.returns-in-Ok-clause-admits
+returns-in-Ok-clause-admits g c =
     let row = c.args.row.now.items in
     let new = subst (λ k. IsNoneOf k (ids row)) (sym c.new.ensures.conn)
     (none_of_attended c.args.conn (ids row) (hub_of c.args.ledger.now) (hub_of c.attach.new.self) c.requires.attends c.in-Ok.ensures.ok) in
-    on_ok_weaker c.seat.result (λ items. inr
-    (c.new.result, items, c.new.ensures.conn, c.new.ensures.stream, (c.new.ensures.open, c.new.ensures.none.0, c.new.ensures.none.1, new))) c.seat.ensures.seated
+    if_ok_with c.seat.result (λ admission is items.
+    subst (Admits c.args.conn c.args.stream (hub_of c.args.ledger.now) (hub_of c.attach.new.self) row c.seat.new.row.items) (sym is)
+    (c.new.result, items, c.new.ensures.conn, c.new.ensures.stream, (c.new.ensures.open, c.new.ensures.none.0, c.new.ensures.none.1, new)))
+    c.seat.ensures.says c.seat.ensures.seated
 
 pub returns-in-Ok-clause-attends : goal.returns-in-Ok-clause-attends
 returns-in-Ok-clause-attends g c =

@@ -1,16 +1,16 @@
 -- Each connection is one that the hub has attached, keeps its number, and alone is given the replies to its lines.
-use Rattle.std.proofs.Common.{rules, ◌≡◌, ℕ, ◌+◌, suc, ◌<◌, ◌≤◌, List, ◌++◌, [], length, take, drop, sym, ap, ◌∙◌, subst, arith, append-nil}
-use Rattle.std.proofs.lemmas.List.{take_all}
-use Rattle.std.proofs.Math.ListN.{drop_of_length-le}
+use Rattle.std.proofs.Common.{rules, ◌≡◌, ◌+◌, suc, ◌<◌, ◌≤◌, ◌++◌, [], length, false, refl, sym, subst, arith}
 use Rattle.std.specs.List.{All}
 use Rattle.std.proofs.KnownBytes.{Keeps-refl}
 use Rattle.std.specs.Prelude.{slice_set}
 use Rattle.mi_ledger.specs.Ledger.{hub_of}
-use Rattle.mi_clients.specs.Client.{IsAsked}
+use Rattle.mi_clients.specs.Client.{IsAsked, IsIdle}
+use Rattle.mi_clients.specs.declared.client.Client.{Client}
 use Rattle.mi_clients.specs.Row.{ids, Attends, EachServed, EachAsked, OpenOnlyAsk}
 use Rattle.mi_clients.proofs.StepLemmas.{makes_none, makes_then}
-use Rattle.mi_clients.proofs.RowLemmas.{ids_set, attends_at, holds_none, holds_set, holds_all}
+use Rattle.mi_clients.proofs.RowLemmas.{ids_set, attends_at, holds_none, holds_set, holds_all, done_set, done_next, whole_row, true_false}
 use Rattle.mi_clients.proofs.ServedLemmas.{nothing_given, each_none, each_set, each_then, opens_none, opens_set, AskedTo, asked_to_none, asked_to_set, asked_to_all}
+use Rattle.mi_clients.proofs.StreamLemmas.{Attended, attended_all}
 use Rattle.mi_clients.proofs.row.ask_all.Goals as goal
 
 pub loop-client-init : goal.loop-client-init
@@ -21,6 +21,7 @@ loop-client-init g c = record {
   steps = [];
   each = subst (EachServed g.S.Duplex.contents [] c.args.row.now.items) (sym c.deref_mut-client-items.ensures.value)
       (each_none g.S.Duplex.contents [] c.args.row.now.items nothing_given);
+  done = c.deref_mut-client-items.ensures.value;
   came = subst (AskedTo g.S.Duplex.remaining [] 0 c.args.row.now.items) (sym c.deref_mut-client-items.ensures.value)
       (asked_to_none g.S.Duplex.remaining c.args.row.now.items);
   opens = opens_none _;
@@ -48,6 +49,9 @@ loop-client-preserved g c =
       steps = before.steps ++ one.0;
       asked = holds_set (λ x. IsAsked x) row at c.serve.new.client within c.in_ok-serve.ensures.asked before.asked;
       each = each_then g.S.Duplex.contents before.steps one.0 c.args.row.now.items row (slice_set row at c.serve.new.client) before.each set;
+      done = done_set (λ x y. Attended g.S.Duplex.handle g.S.Duplex.reads g.S.Duplex.has_failed x y) c.args.row.now.items row at c.client-item.result
+          c.serve.new.client within
+          (c.in_ok-serve.ensures.same, c.in_ok-serve.ensures.read, c.in_ok-serve.ensures.broken, c.in_ok-serve.ensures.whole) before.done;
       came = subst (λ n. AskedTo g.S.Duplex.remaining (before.steps ++ one.0) n c.args.row.now.items (slice_set row at c.serve.new.client)) one_more
           (asked_to_set g.S.Duplex.remaining before.steps one.0 c.args.row.now.items row at c.client-item.result c.serve.new.client before.attends.differ
           within one.7 one.2.conn one.4 before.came);
@@ -55,11 +59,6 @@ loop-client-preserved g c =
           c.in_ok-serve.ensures.goes_on one.6 before.opens;
       makes = makes_then before.steps one.0 _ (hub_of c.loop-client.ledger) _ _ _ _ before.makes one.3;
     }
-
--- behind the loop the row is what its items have become
-whole_row : {X : Type 0} (old cur : List X) (n : ℕ) → n ≡ length old → length cur ≡ length old → take n (cur ++ drop (length cur) old) ≡ cur
-whole_row old cur n is same =
-    ap (λ t. take n (cur ++ t)) (drop_of_length-le old (omega arith)) ∙ ap (take n) (append-nil cur) ∙ take_all n cur (omega arith)
 
 pub returns-clause-serves : goal.returns-clause-serves
 returns-clause-serves g c =
@@ -87,3 +86,53 @@ returns-clause-asked g c =
     let le : length row ≤ c.loop-client.client-index = omega (arith, c.loop-client-test.false, c.loop-client.auto.client-items) in
     subst (λ items. All (λ x. IsAsked x) items) (sym (whole_row old row c.args.row.now.len len same))
     (holds_all (λ x. IsAsked x) row c.loop-client.client-index le c.loop-client.invariant.asked)
+
+pub returns-clause-whole : goal.returns-clause-whole
+returns-clause-whole g c =
+    let old = c.args.row.now.items in
+    let row = c.loop-client.client-items in
+    let len : c.args.row.now.len ≡ length old = search rules in
+    let same : length row ≡ length old = search rules in
+    let le : length row ≤ c.loop-client.client-index = omega (arith, c.loop-client-test.false, c.loop-client.auto.client-items) in
+    (attended_all g.S.Duplex.handle g.S.Duplex.reads g.S.Duplex.has_failed old row _ c.loop-client.client-index le
+    (whole_row old row c.args.row.now.len len same) c.loop-client.invariant.done).0
+
+pub returns-clause-same : goal.returns-clause-same
+returns-clause-same g c =
+    let old = c.args.row.now.items in
+    let row = c.loop-client.client-items in
+    let len : c.args.row.now.len ≡ length old = search rules in
+    let same : length row ≡ length old = search rules in
+    let le : length row ≤ c.loop-client.client-index = omega (arith, c.loop-client-test.false, c.loop-client.auto.client-items) in
+    (attended_all g.S.Duplex.handle g.S.Duplex.reads g.S.Duplex.has_failed old row _ c.loop-client.client-index le
+    (whole_row old row c.args.row.now.len len same) c.loop-client.invariant.done).1
+
+pub returns-clause-read : goal.returns-clause-read
+returns-clause-read g c =
+    let old = c.args.row.now.items in
+    let row = c.loop-client.client-items in
+    let len : c.args.row.now.len ≡ length old = search rules in
+    let same : length row ≡ length old = search rules in
+    let le : length row ≤ c.loop-client.client-index = omega (arith, c.loop-client-test.false, c.loop-client.auto.client-items) in
+    (attended_all g.S.Duplex.handle g.S.Duplex.reads g.S.Duplex.has_failed old row _ c.loop-client.client-index le
+    (whole_row old row c.args.row.now.len len same) c.loop-client.invariant.done).2
+
+pub returns-clause-broken : goal.returns-clause-broken
+returns-clause-broken g c =
+    let old = c.args.row.now.items in
+    let row = c.loop-client.client-items in
+    let len : c.args.row.now.len ≡ length old = search rules in
+    let same : length row ≡ length old = search rules in
+    let le : length row ≤ c.loop-client.client-index = omega (arith, c.loop-client-test.false, c.loop-client.auto.client-items) in
+    (attended_all g.S.Duplex.handle g.S.Duplex.reads g.S.Duplex.has_failed old row _ c.loop-client.client-index le
+    (whole_row old row c.args.row.now.len len same) c.loop-client.invariant.done).3
+
+pub returns-in_err-serve-clause-idle : goal.returns-in_err-serve-clause-idle
+returns-in_err-serve-clause-idle g c = λ all.
+    let row = c.loop-client.client-items in
+    let at = c.loop-client.client-index in
+    let within : at < length row = omega (arith, c.loop-client-test.true, c.loop-client.auto.client-items) in
+    let next = done_next (λ x y. Attended g.S.Duplex.handle g.S.Duplex.reads g.S.Duplex.has_failed x y) c.args.row.now.items row at c.client-item.result
+    within c.loop-client.invariant.done in
+    absurd (true_false false
+    (c.in_err-serve.ensures.idle (subst (λ (x : Client _). IsIdle x) (sym next.1) (all at c.client-item.result next.0))) refl)

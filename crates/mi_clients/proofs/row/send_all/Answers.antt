@@ -1,5 +1,5 @@
 -- Nothing is asked, and each connection is sent what it is owed itself.
-use Rattle.std.proofs.Common.{◌<◌, [], length, ◌∙◌, refl, sym, ap, subst, arith}
+use Rattle.std.proofs.Common.{rules, ◌≡◌, ◌<◌, ◌≤◌, [], length, ◌∙◌, refl, sym, ap, subst, arith}
 use Rattle.std.proofs.KnownBytes.{Keeps-refl, Keeps-trans}
 use Rattle.std.specs.Io.KnownBytes.{Keeps}
 use Rattle.std.specs.Prelude.{slice_set, slice_index_or}
@@ -8,8 +8,9 @@ use Rattle.mi_ledger.specs.Ledger.{hub_of}
 use Rattle.mi_clients.specs.Client.{IsSent}
 use Rattle.mi_clients.specs.Row.{ids, inputs, Attends, EachServed, EachUnread, EachAsFar}
 use Rattle.mi_clients.specs.declared.client.Client.{Client}
-use Rattle.mi_clients.proofs.RowLemmas.{ids_set, inputs_set, holds_none, holds_set}
+use Rattle.mi_clients.proofs.RowLemmas.{ids_set, inputs_set, holds_none, holds_set, done_set, whole_row}
 use Rattle.mi_clients.proofs.ServedLemmas.{nothing_given, each_none, each_set, each_then, served_then, served_owes, served_sends, sent_all, far_none, far_then, far_set, unread_none, unread_set}
+use Rattle.mi_clients.proofs.StreamLemmas.{Written, written_one, written_all}
 use Rattle.mi_clients.proofs.row.send_all.Goals as goal
 
 pub loop-client-init : goal.loop-client-init
@@ -20,6 +21,7 @@ loop-client-init g c = record {
   far = subst (EachAsFar c.args.row.now.items) (sym c.deref_mut-client-items.ensures.value) (far_none c.args.row.now.items);
   unread = subst (EachUnread g.S.Duplex.remaining c.args.row.now.items) (sym c.deref_mut-client-items.ensures.value)
       (unread_none g.S.Duplex.remaining c.args.row.now.items);
+  done = c.deref_mut-client-items.ensures.value;
   inputs = ap inputs c.deref_mut-client-items.ensures.value;
   each = subst (EachServed g.S.Duplex.contents [] c.args.row.now.items) (sym c.deref_mut-client-items.ensures.value)
       (each_none g.S.Duplex.contents [] c.args.row.now.items nothing_given);
@@ -52,8 +54,53 @@ loop-client-preserved g c =
           (far_then old c.release.new.client c.send.new.self c.in_ok-release.ensures.phase c.send.ensures.phase) before.far;
       unread = unread_set g.S.Duplex.remaining c.args.row.now.items row at c.client-item.result c.send.new.self within
           (subst (λ s. Keeps (g.S.Duplex.remaining s) (g.S.Duplex.remaining c.send.new.self.stream)) released.stream c.send.ensures.remaining) before.unread;
+      done = done_set (λ x y. Written g.S.Duplex.handle g.S.Duplex.reads g.S.Duplex.has_failed x y) c.args.row.now.items row at c.client-item.result
+          c.send.new.self within (written_one g.S.Duplex.handle g.S.Duplex.reads g.S.Duplex.has_failed old c.release.new.client c.send.new.self released
+          (far_then old c.release.new.client c.send.new.self c.in_ok-release.ensures.phase c.send.ensures.phase)
+          (c.send.ensures.has_lines ∙ c.in_ok-release.ensures.has_lines) (ap (λ (x : Client _). x.conn) c.send.ensures.same) c.send.ensures.handle
+          c.send.ensures.reads c.send.ensures.failed) before.done;
       inputs = inputs_set row at c.send.new.self c.client-item.result kept ∙ before.inputs;
       each = each_then contents [] [] c.args.row.now.items row (slice_set row at c.send.new.self) before.each set;
       hub = c.release.ensures.hub ∙ before.hub;
       appended = Keeps-trans _ _ _ before.appended c.release.ensures.appended;
     }
+
+pub returns-clause-whole : goal.returns-clause-whole
+returns-clause-whole g c =
+    let old = c.args.row.now.items in
+    let row = c.loop-client.client-items in
+    let len : c.args.row.now.len ≡ length old = search rules in
+    let same : length row ≡ length old = search rules in
+    let le : length row ≤ c.loop-client.client-index = omega (arith, c.loop-client-test.false, c.loop-client.auto.client-items) in
+    (written_all g.S.Duplex.handle g.S.Duplex.reads g.S.Duplex.has_failed old row _ c.loop-client.client-index le
+    (whole_row old row c.args.row.now.len len same) c.loop-client.invariant.done).0
+
+pub returns-clause-same : goal.returns-clause-same
+returns-clause-same g c =
+    let old = c.args.row.now.items in
+    let row = c.loop-client.client-items in
+    let len : c.args.row.now.len ≡ length old = search rules in
+    let same : length row ≡ length old = search rules in
+    let le : length row ≤ c.loop-client.client-index = omega (arith, c.loop-client-test.false, c.loop-client.auto.client-items) in
+    (written_all g.S.Duplex.handle g.S.Duplex.reads g.S.Duplex.has_failed old row _ c.loop-client.client-index le
+    (whole_row old row c.args.row.now.len len same) c.loop-client.invariant.done).1
+
+pub returns-clause-uncounted : goal.returns-clause-uncounted
+returns-clause-uncounted g c =
+    let old = c.args.row.now.items in
+    let row = c.loop-client.client-items in
+    let len : c.args.row.now.len ≡ length old = search rules in
+    let same : length row ≡ length old = search rules in
+    let le : length row ≤ c.loop-client.client-index = omega (arith, c.loop-client-test.false, c.loop-client.auto.client-items) in
+    (written_all g.S.Duplex.handle g.S.Duplex.reads g.S.Duplex.has_failed old row _ c.loop-client.client-index le
+    (whole_row old row c.args.row.now.len len same) c.loop-client.invariant.done).2
+
+pub returns-clause-broken : goal.returns-clause-broken
+returns-clause-broken g c =
+    let old = c.args.row.now.items in
+    let row = c.loop-client.client-items in
+    let len : c.args.row.now.len ≡ length old = search rules in
+    let same : length row ≡ length old = search rules in
+    let le : length row ≤ c.loop-client.client-index = omega (arith, c.loop-client-test.false, c.loop-client.auto.client-items) in
+    (written_all g.S.Duplex.handle g.S.Duplex.reads g.S.Duplex.has_failed old row _ c.loop-client.client-index le
+    (whole_row old row c.args.row.now.len len same) c.loop-client.invariant.done).3

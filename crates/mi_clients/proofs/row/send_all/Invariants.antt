@@ -3,7 +3,8 @@ use Rattle.std.specs.Io.KnownBytes.{Keeps}
 use Rattle.mi_ledger.specs.Ledger.{hub_of, log_of, IsSettled}
 use Rattle.mi_clients.specs.Client.{IsSent}
 use Rattle.mi_clients.specs.Row.{ids, inputs, Attends, EachServed, EachUnread, EachAsFar}
-use Rattle.mi_clients.proofs.RowLemmas.{HoldsTo}
+use Rattle.mi_clients.proofs.RowLemmas.{HoldsTo, DoneTo}
+use Rattle.mi_clients.proofs.StreamLemmas.{Written}
 use Rattle.mi_clients.proofs.row.send_all.Given as goal
 
 -- nothing is asked, what each is owed goes to its own stream, and the first are sent it
@@ -14,6 +15,7 @@ invariant-loop-client g l = record {
   sent : HoldsTo (λ c. IsSent c) l.client-index l.client-items;
   far : EachAsFar l.fn.row.items l.client-items;
   unread : EachUnread g.S.Duplex.remaining l.fn.row.items l.client-items;
+  done : DoneTo (λ old new. Written g.S.Duplex.handle g.S.Duplex.reads g.S.Duplex.has_failed old new) l.client-index l.fn.row.items l.client-items;
   inputs : inputs l.client-items ≡ inputs l.fn.row.items;
   each : EachServed g.S.Duplex.contents [] l.fn.row.items l.client-items;
   hub : hub_of l.ledger ≡ hub_of l.fn.ledger;

@@ -1,11 +1,14 @@
 -- Its stream is read, its lines are asked, and then its sessions may be undone.
-use Rattle.std.proofs.Common.{◌++◌, ◌∙◌, subst}
+use Rattle.std.proofs.Common.{◌≡◌, ◌++◌, ◌∙◌, sym, ap, subst}
 use Rattle.std.proofs.lemmas.Result.{on_ok_weaker}
 use Rattle.mi_ledger.specs.Ledger.{hub_of}
+use Rattle.mi_clients.specs.Client.{MayAsk, IsWhole}
+use Rattle.mi_clients.specs.declared.client.Client.{Client}
 use Rattle.mi_clients.specs.Steps.{AreAsks, AreUndos, asked_by}
 use Rattle.mi_clients.proofs.StepLemmas.{makes_then}
 use Rattle.mi_ledger.proofs.JournalLemmas.{on_ok_both}
 use Rattle.mi_clients.proofs.ServedLemmas.{on_ok_all, asked_still, served_read, served_whole, taken_in, asks_others, asks_alone, came_whole, went_on, on_alone, serve_asks_only}
+use Rattle.mi_clients.proofs.StreamLemmas.{same_owes, same_then, breaks_owes}
 use Rattle.mi_clients.proofs.row.serve.Goals as goal
 
 pub returns-clause-serves : goal.returns-clause-serves
@@ -18,10 +21,10 @@ returns-clause-serves g c =
     let mid = c.ask_lines.new.client in
     let last = c.settle.new.client in
     let contents = g.S.Duplex.contents in
-    let first = served_read contents old read c.read.ensures.conn c.read.ensures.contents c.read.ensures.owed c.read.ensures.broken in
-    let own = subst (λ k. AreAsks k asked.0 asked.1 asked.2) c.read.ensures.conn asked.3 in
+    let first = served_read contents old read c.read.ensures.same.0 c.read.ensures.contents c.read.ensures.owed c.read.ensures.broken in
+    let own = subst (λ k. AreAsks k asked.0 asked.1 asked.2) c.read.ensures.same.0 asked.3 in
     on_ok_all c.settle.result (λ undone settled input.
-    let gone = subst (λ k. AreUndos k undone.0) (asked.5.conn ∙ c.read.ensures.conn) undone.1 in
+    let gone = subst (λ k. AreUndos k undone.0) (asked.5.conn ∙ c.read.ensures.same.0) undone.1 in
     let all = served_whole contents old read mid last asked.0 undone.0 asked.1 asked.2 first own asked.5 gone undone.2 in (
       asked.0 ++ undone.0,
       all.0,
@@ -44,3 +47,34 @@ pub returns-clause-asked : goal.returns-clause-asked
 returns-clause-asked g c =
     on_ok_both c.settle.result (λ undone same. asked_still c.ask_lines.new.client c.settle.new.client undone.2 same c.in_ok-ask_lines.ensures.all)
     c.settle.ensures.undoes c.settle.ensures.input
+
+pub returns-clause-same : goal.returns-clause-same
+returns-clause-same g c =
+    let handle = g.S.Duplex.handle in
+    let asked = c.in_ok-ask_lines.ensures.asks in
+    let old = c.args.client.now in
+    let read = c.read.new.self in
+    let mid = c.ask_lines.new.client in
+    on_ok_weaker c.settle.result (λ undone.
+    same_then handle old mid c.settle.new.client
+    (same_then handle old read mid c.read.ensures.same (same_owes handle asked.2 read mid asked.5)) (same_owes handle _ mid c.settle.new.client undone.2))
+    c.settle.ensures.undoes
+
+pub returns-clause-read : goal.returns-clause-read
+returns-clause-read g c =
+    on_ok_weaker c.settle.result (λ undone wants.
+    ap g.S.Duplex.reads (undone.2.stream ∙ c.in_ok-ask_lines.ensures.asks.5.stream) ∙ c.read.ensures.read wants) c.settle.ensures.undoes
+
+pub returns-clause-broken : goal.returns-clause-broken
+returns-clause-broken g c =
+    let has_failed = g.S.Duplex.has_failed in
+    let asked = c.in_ok-ask_lines.ensures.asks in
+    on_ok_weaker c.settle.result (λ undone breaks.
+    breaks_owes has_failed _ c.ask_lines.new.client c.settle.new.client undone.2
+    (breaks_owes has_failed asked.2 c.read.new.self c.ask_lines.new.client asked.5 (c.read.ensures.failed breaks))) c.settle.ensures.undoes
+
+pub returns-clause-idle : goal.returns-clause-idle
+returns-clause-idle g c = λ idle.
+    let still : c.read.new.self ≡ c.args.client.now = c.read.ensures.unread idle.1 in
+    let asked = c.ask_lines.ensures.idle (subst (λ (x : Client _). ¬ MayAsk x) (sym still) idle.0) in
+    c.settle.ensures.idle (subst (λ (x : Client _). ¬ IsWhole x) (sym (asked.1 ∙ still)) idle.2)

@@ -4,8 +4,9 @@ use Rattle.std.proofs.lemmas.Result.{on_ok_weaker}
 use Rattle.mi_ledger.specs.Ledger.{hub_of}
 use Rattle.mi_ledger.proofs.JournalLemmas.{on_ok_both}
 use Rattle.mi_clients.proofs.StepLemmas.{makes_then, makes_kept}
-use Rattle.mi_clients.specs.Client.{IsSent}
+use Rattle.mi_clients.specs.Client.{IsSent, IsWhole}
 use Rattle.mi_clients.proofs.ServedLemmas.{serves_each, opens_all, all_left, stayers_asked}
+use Rattle.mi_clients.proofs.StreamLemmas.{stayers_same, stayers_read, none_failed}
 use Rattle.mi_clients.proofs.row.serve_all.Goals as goal
 
 pub returns-clause-serves : goal.returns-clause-serves
@@ -30,3 +31,27 @@ pub returns-clause-sent : goal.returns-clause-sent
 returns-clause-sent g c =
     on_ok_weaker c.let_go.result (λ gone.
     all_left (λ x. IsSent x) c.send_all.new.row.items c.let_go.new.row.items gone.2 c.in_ok-send_all.ensures.sent) c.let_go.ensures.goes
+
+pub returns-clause-whole : goal.returns-clause-whole
+returns-clause-whole g c =
+    on_ok_weaker c.let_go.result (λ gone.
+    all_left (λ x. ¬ IsWhole x) c.send_all.new.row.items c.let_go.new.row.items gone.2 (c.in_ok-send_all.ensures.whole c.in_ok-ask_all.ensures.whole))
+    c.let_go.ensures.goes
+
+pub returns-clause-same : goal.returns-clause-same
+returns-clause-same g c =
+    on_ok_weaker c.let_go.result (λ gone.
+    stayers_same g.S.Duplex.handle c.args.row.now.items c.ask_all.new.row.items c.send_all.new.row.items c.let_go.new.row.items
+    c.in_ok-ask_all.ensures.same c.in_ok-send_all.ensures.same gone.2) c.let_go.ensures.goes
+
+pub returns-clause-read : goal.returns-clause-read
+returns-clause-read g c =
+    on_ok_weaker c.let_go.result (λ gone.
+    stayers_read g.S.Duplex.handle g.S.Duplex.reads c.args.row.now.items c.ask_all.new.row.items c.send_all.new.row.items c.let_go.new.row.items
+    c.in_ok-ask_all.ensures.same c.in_ok-ask_all.ensures.read c.in_ok-send_all.ensures.same c.in_ok-send_all.ensures.uncounted gone.2) c.let_go.ensures.goes
+
+pub returns-clause-broken : goal.returns-clause-broken
+returns-clause-broken g c =
+    on_ok_both c.let_go.result (λ gone stay breaks.
+    none_failed g.S.Duplex.has_failed c.send_all.new.row.items c.let_go.new.row.items
+    (c.in_ok-send_all.ensures.broken (c.in_ok-ask_all.ensures.broken breaks)) gone.2 stay) c.let_go.ensures.goes c.let_go.ensures.stay

@@ -1,5 +1,5 @@
 -- What the stream takes is the front of what waits.
-use Rattle.std.proofs.Common.{◌++◌, ◌∙◌, sym, ap, take, drop, append_assoc}
+use Rattle.std.proofs.Common.{inl, inr, ◌++◌, ◌∙◌, sym, ap, take, drop, append_assoc}
 use Rattle.std.proofs.KnownBytes.{Appends-trans, Keeps-trans}
 use Rattle.std.proofs.lemmas.List.{take-append-drop}
 use Rattle.mi_clients.specs.Output.{unsent}
@@ -20,5 +20,8 @@ out-preserved g c =
             ∙ ap (λ t. front ++ t) (ap (drop c.in-Ok.count) c.waiting-in-out.ensures ∙ sym c.pass.ensures))
             ∙ sym (append_assoc before.0 front rest),
       );
+      handle = c.write.ensures.handle ∙ c.out.invariant.handle;
+      reads = c.write.ensures.reads ∙ c.out.invariant.reads;
+      failed = λ failed. elim (c.in-Ok.ensures.failed failed) [ inl before ↦ c.out.invariant.failed before | inr none ↦ absurd none ];
       remaining = Keeps-trans _ _ _ c.out.invariant.remaining c.write.ensures.remaining;
     }

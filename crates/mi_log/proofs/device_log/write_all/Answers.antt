@@ -6,8 +6,8 @@ use Rattle.mi_log.proofs.device_log.write_all.Goals as goal
 
 pub bytes-preserved : goal.bytes-preserved
 bytes-preserved g c = record {
-  within = omega (arith, c.in-Ok.ensures.bound);
-  written = rw (take-add, ← c.split_at.ensures.back) (Appends-trans _ _ _ _ _ c.bytes.invariant.written c.in-Ok.ensures.bytes);
-  stays = Keeps-trans _ _ _ c.bytes.invariant.stays c.in-Ok.ensures.stays;
-  makes_stay = c.in-Ok.ensures.makes_stay ∙ c.bytes.invariant.makes_stay;
+  within = omega (arith, c.in_ok-n.ensures.bound);
+  written = rw (take-add, ← c.split_at.ensures.back) (Appends-trans _ _ _ _ _ c.bytes.invariant.written c.in_ok-n.ensures.bytes);
+  stays = Keeps-trans _ _ _ c.bytes.invariant.stays c.in_ok-n.ensures.stays;
+  makes_stay = c.in_ok-n.ensures.makes_stay ∙ c.bytes.invariant.makes_stay;
 }

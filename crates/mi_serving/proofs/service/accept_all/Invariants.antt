@@ -1,13 +1,18 @@
-use Rattle.std.proofs.Common.{List}
+use Rattle.std.proofs.Common.{List, ◌≤◌}
+use Rattle.mio.specs.Net.{stream_fd}
 use Rattle.mi_ledger.specs.Ledger.{hub_of, log_of, IsSettled}
 use Rattle.mi_clients.specs.Steps.{Step, Makes, GivesNone}
-use Rattle.mi_clients.specs.Row.{ids, Attends, Joins, AllOnlyAsk}
+use Rattle.mi_clients.specs.Row.{ids, Attends, Joins, AllOnlyAsk, SameStreams}
+use Rattle.mi_serving.specs.Turns.{AllUpTo}
 use Rattle.mi_serving.proofs.service.accept_all.Given as goal
 
 -- the row stays what the hub has attached, and those that were there stay as they are
 abbrev pub invariant-places : goal.invariant-places
 invariant-places g l = record {
   attends : Attends (ids l.row.items) (hub_of l.ledger).attached;
+  known : AllUpTo l.last l.row.items;
+  rises : l.fn.last ≤ l.last;
+  same : SameStreams stream_fd l.fn.last l.fn.row.items l.row.items;
   settled : IsSettled g.L.Log.appended g.L.Log.synced l.ledger;
   steps : List Step;
   none : GivesNone steps;

@@ -4,6 +4,9 @@ use Rattle.std.proofs.lemmas.Result.{on_ok_weaker}
 use Rattle.mi_ledger.specs.Ledger.{hub_of}
 use Rattle.mi_clients.proofs.StepLemmas.{makes_then}
 use Rattle.mi_clients.proofs.ServedLemmas.{serves_joined, stayers_ask}
+use Rattle.mio.specs.Net.{stream_fd}
+use Rattle.mi_clients.proofs.StreamLemmas.{streams_then, streams_stay}
+use Rattle.mi_serving.proofs.TurnLemmas.{up_to_stay}
 use Rattle.mi_serving.proofs.service.take_turn.Goals as goal
 
 pub returns-clause-serves : goal.returns-clause-serves
@@ -15,3 +18,15 @@ returns-clause-serves g c =
       makes_then came.0 served.0 _ (hub_of c.accept_all.new.ledger) _ _ _ _ came.3 served.2,
       stayers_ask came.0 served.0 c.args.row.now.items c.serve_all.new.row.items came.4 served.3,
     )) c.serve_all.ensures.serves
+
+pub returns-clause-known : goal.returns-clause-known
+returns-clause-known g c =
+    on_ok_weaker c.serve_all.result
+    (λ same. up_to_stay stream_fd c.accept_all.new.last c.accept_all.new.row.items c.serve_all.new.row.items c.in_ok-accept_all.ensures.known same)
+    c.serve_all.ensures.same
+
+pub returns-clause-same : goal.returns-clause-same
+returns-clause-same g c =
+    on_ok_weaker c.serve_all.result (λ same. streams_then stream_fd c.args.last.now c.accept_all.new.last c.args.row.now.items c.accept_all.new.row.items
+    c.serve_all.new.row.items c.in_ok-accept_all.ensures.rises c.in_ok-accept_all.ensures.same
+    (streams_stay stream_fd c.accept_all.new.last c.accept_all.new.row.items c.serve_all.new.row.items same)) c.serve_all.ensures.same

@@ -1,0 +1,23 @@
+-- What began was served.
+use Rattle.std.proofs.Common.{◌≡◌, ◌⊎◌, ap, subst, ◌∙◌}
+use Rattle.mi_log.specs.DeviceLog.{device_of}
+use Rattle.mi_ledger.specs.Ledger.{hub_of, log_of}
+use Rattle.mi_serving.specs.declared.failure.Failure.TheVariants.{Poll, Turns}
+use Rattle.mi_serving.specs.Device.{told_of}
+use Rattle.mi_serving.specs.Turns.{ends_serving}
+use Rattle.mi_serving.proofs.program.serve_hub.Goals as goal
+
+pub serve-failure-requires-clause-settled : goal.serve-failure-requires-clause-settled
+serve-failure-requires-clause-settled g c = λ _. c.in_ok-ledger.ensures.settled
+
+pub returns : goal.returns
+returns g c =
+    let told = told_of g.P.File.Device.contents in (
+      hub_of c.in_ok-ledger.ledger,
+      hub_of c.serve-failure.new.ledger,
+      told (device_of (log_of c.in_ok-ledger.ledger)),
+      told (device_of (log_of c.serve-failure.new.ledger)),
+      c.in_ok-ledger.ensures.begins,
+      λ ended. c.serve-failure.ensures.turns (subst (λ f. (f ≡ Turns) ⊎ (f ≡ Poll)) c.log_fault.ensures ended),
+      ap ends_serving c.log_fault.ensures ∙ c.serve-failure.ensures.ends,
+    )

@@ -1,0 +1,18 @@
+-- The exit status of a service: 3 where its schema or its journal is at fault, else 4.
+use Rattle.std.specs.Prelude.{ℕ}
+use Rattle.mi_serving.specs.declared.failure.Failure.{Failure}
+use Rattle.mi_serving.specs.declared.failure.Failure.TheVariants as failure
+
+abbrev pub status_of : Failure → ℕ
+status_of failure.SchemaFile = 3
+status_of (failure.Schema fault) = 3
+status_of failure.JournalFile = 3
+status_of failure.JournalSchema = 3
+status_of (failure.JournalLine line) = 3
+status_of failure.JournalLocked = 3
+status_of failure.Journal = 4
+status_of failure.Output = 4
+status_of failure.Listen = 4
+status_of failure.Poll = 4
+status_of failure.Memory = 4
+status_of failure.Turns = 4

@@ -1,0 +1,112 @@
+//! What the service says on its third stream when it ends, and its exit status. A line that can't be written there is passed over.
+ghost use Rattle.std.specs.Prelude.{◌≡◌};
+ghost use Rattle.mi_program.specs.Status.{status_of_words};
+ghost use Rattle.mi_serving.specs.Status.{status_of};
+
+use crate::failure::{Failure, Fault};
+use crate::words::Options;
+use mi_program::WordsFault;
+use std::alloc::Global;
+use std::io::Write;
+use std::{fmt, io};
+
+/// What a failure is about: a file, or a port of 127.0.0.1.
+#[derive(Clone, Copy, Drop)]
+enum Place<'a> {
+    File(&'a str),
+    Port(u16),
+}
+
+impl<'a> fmt::Display for Place<'a> {
+    fn fmt<W: fmt::Write>(&self, f: &mut fmt::Formatter<W>) -> fmt::Result {
+        match self {
+            Place::File(path) => f.write_str(path),
+            Place::Port(port) => write!(f, "127.0.0.1:{port}"),
+        }
+    }
+}
+
+/// What a failure is about, where the words name it.
+fn place_of<'a>(failure: &Failure, options: &'a Options) -> Option<Place<'a>> {
+    match failure {
+        Failure::SchemaFile | Failure::Schema(_) => {
+            let path = options.schema.as_deref()?;
+            Some(Place::File(path))
+        }
+        Failure::JournalFile
+        | Failure::JournalSchema
+        | Failure::JournalLine(_)
+        | Failure::JournalLocked
+        | Failure::Journal => {
+            let journal = options.journal.as_ref()?;
+            Some(Place::File(journal.file.as_str()))
+        }
+        Failure::Listen => Some(Place::Port(options.port)),
+        Failure::Output | Failure::Poll | Failure::Memory | Failure::Turns => None,
+    }
+}
+
+/// Writes what the system said: its words, and its number in brackets where it has one. Without memory for them nothing is written.
+fn write_error<E: Write>(alloc: Global, errors: &mut E, error: &io::Error) -> io::Result<()> {
+    let Ok(text) = error.to_string(alloc) else {
+        return Ok(());
+    };
+    match (error.raw_os_error(), text.as_str().split_once('(')) {
+        (Some(code), Some((words, _))) => write!(errors, ": {words}({code})"),
+        _ => write!(errors, ": {text}"),
+    }
+}
+
+/// Writes the line of a fault: its word, what it is about, and what the system said.
+fn write_line<E: Write>(
+    alloc: Global,
+    fault: &Fault,
+    options: &Options,
+    errors: &mut E,
+) -> io::Result<()> {
+    let failure = &fault.failure;
+    write!(errors, "{failure}")?;
+    if let Some(place) = place_of(failure, options) {
+        write!(errors, ": {place}")?;
+    }
+    if let Some(error) = &fault.error {
+        write_error(alloc, errors, error)?;
+    }
+    writeln!(errors, "")
+}
+
+/// Reports why the service ends, and answers the status.
+pub(crate) fn conclude<E: Write>(
+    alloc: Global,
+    fault: &Fault,
+    options: &Options,
+    errors: &mut E,
+) -> u8
+    ensures { result ≡ status_of fault.now.failure }
+{
+    let _ = write_line(alloc, fault, options, errors);
+    fault.failure.status()
+}
+
+/// Reports words that give no options, and answers the status.
+pub(crate) fn refuse<E: Write>(fault: &WordsFault, errors: &mut E) -> u8
+    ensures { result ≡ status_of_words fault.now }
+{
+    match fault {
+        WordsFault::Parse(error) => {
+            let _ = write!(errors, "{error}");
+            2
+        }
+        WordsFault::Rules => {
+            let _ = writeln!(
+                errors,
+                "usage: --listen is needed; --sync goes with --journal and is always, turn or never"
+            );
+            2
+        }
+        WordsFault::Memory => {
+            let _ = writeln!(errors, "{}", Failure::Memory);
+            Failure::Memory.status()
+        }
+    }
+}
