@@ -31,7 +31,7 @@ def project() -> Dict[str, Any]:
 def sources() -> List[str]:
     """The files of the packages, from the folder of pyproject.toml."""
     found = [(package, it) for package in PACKAGES for it in sorted(os.listdir(f"{HERE}/{package}"))]
-    return [f"{package}/{it}" for package, it in found if it.endswith(".py") or it == "py.typed"]
+    return [f"{package}/{it}" for package, it in found if it.endswith((".py", ".html")) or it == "py.typed"]
 
 
 def content(name: str) -> bytes:

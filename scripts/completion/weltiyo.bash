@@ -17,7 +17,8 @@ _weltiyo_options() {
         top) echo "$all --pid --every --count" ;;
         metrics) echo "$all --pid --every --count --file" ;;
         plot) echo "$all --table --column --points --bins --svg --load" ;;
-        '') echo "$all --run --tables --times --version prompt dump load export import top metrics plot" ;;
+        web) echo "$all --port --write" ;;
+        '') echo "$all --run --tables --times --version prompt dump load export import top metrics plot web" ;;
         *) echo "$all --run --tables --times" ;;
     esac
 }

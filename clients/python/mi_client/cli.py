@@ -16,6 +16,7 @@ TOOLS = {
     "top": ("top", "main", "shows a running server: rows, memory, bytes a second, sessions and who holds them"),
     "metrics": ("top", "main_metrics", "the same once, as text that Prometheus reads"),
     "plot": ("plot", "main", "draws how an index is distributed, or a column along a ranked index"),
+    "web": ("web", "main", "shows the tables of a running server in a browser"),
 }
 """Each tool with its module, the function that takes the words behind its name, and a line on it."""
 

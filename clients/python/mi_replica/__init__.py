@@ -3,7 +3,7 @@
     python3 -m mi_replica --etcd http://127.0.0.1:2379 --name LEDGER --program mi_service --listen 8001
     python3 -m mi_replica --etcd http://127.0.0.1:2379 --name LEDGER --status
 
-It needs Python 3.9 and nothing else; docs/REPLICATION.md says what replies mean.
+It needs Python 3.9 and nothing else; docs/OPERATING.md says what replies mean.
 """
 from mi_replica.log import Log
 from mi_replica.member import Member, Settings

@@ -15,6 +15,7 @@ import venv
 import kit
 
 import mi_client
+from mi_client import web_http
 
 PACKAGES = ["mi_client", "mi_replica"]
 MODULES = sorted(it for package in PACKAGES for it in glob.glob(f"{kit.CLIENT}/{package}/*.py"))
@@ -34,7 +35,7 @@ class Pip(unittest.TestCase):
         for it in INSTALLED:
             os.makedirs(f"{folder}/share", exist_ok=True)
             shutil.copy(f"{kit.CLIENT}/{it}", f"{folder}/share/")
-        for it in [*MODULES, *(f"{kit.CLIENT}/{package}/py.typed" for package in PACKAGES)]:
+        for it in [*MODULES, web_http.PAGE, *(f"{kit.CLIENT}/{package}/py.typed" for package in PACKAGES)]:
             os.makedirs(f"{folder}/share/{os.path.basename(os.path.dirname(it))}", exist_ok=True)
             shutil.copy(it, f"{folder}/share/{os.path.basename(os.path.dirname(it))}/")
         schema = f"{kit.TOP}/examples/shop.toml"
@@ -49,6 +50,8 @@ class Pip(unittest.TestCase):
                 self.assertIn("--etcd URL,..", self.run_in(folder, "weltiyo-replica", "--help"))
                 code = "import mi_client, os; print(os.path.exists(os.path.dirname(mi_client.__file__) + '/py.typed'), mi_client.__version__)"
                 self.assertEqual(self.run_in(folder, "python", "-c", code), f"True {mi_client.__version__}\n")
+                code = "from mi_client import web_http; print(open(web_http.PAGE).read().startswith('<!DOCTYPE html>'))"
+                self.assertEqual(self.run_in(folder, "python", "-c", code), "True\n")
         self.pip(folder, "uninstall", "--yes", "weltiyo")
         self.assertFalse(os.path.exists(f"{folder}/venv/bin/weltiyo"))
         self.assertEqual([it for it in sorted(os.listdir(kit.CLIENT)) if it not in before and it != "__pycache__"], [])

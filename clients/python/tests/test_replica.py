@@ -1,5 +1,5 @@
 """Members of a ledger without etcd: which lines are a journal's, cutting bytes into lines, and what a leader lets out when.
-With etcd `scripts/replica_test.py` tests them."""
+With etcd `scripts/stress replicas` tests them."""
 import asyncio
 import socket
 import subprocess
