@@ -19,42 +19,44 @@ SHARE = $(ROOT)/share/weltiyo
 
 comma := ,
 
-.PHONY: help try run build service lib test edits check-docs bench fuzz faults sanitize soak crash rates replica-tests install dist clean
+.PHONY: help tour try run build service lib test edits check-docs bench fuzz faults sanitize soak crash rates replica-tests window-tests install dist clean
 
 help:
-	@echo 'make try         compiles without proving (about a minute the first time) and serves, at a terminal by a prompt'
-	@echo 'make run         proves, builds and serves; a program that is up to date starts at once, without `rt`'
-	@echo '                 (ARGS="--schema FILE" and the like are the options of the program for both)'
-	@echo 'make build       the same, without serving'
-	@echo 'make service     proves, builds and serves `mi_service`: connections without end, and a journal that keeps what was acknowledged'
-	@echo '                 (ARGS="--listen 8000 --journal FILE"; docs/SERVICE.md)'
-	@echo 'make lib         proves and builds the library for programs that keep their tables in their own process, into out/library'
-	@echo '                 (docs/EMBEDDING.md; needs a C compiler); one that is up to date is left as it is'
-	@echo 'make test        the gate: the proofs, the must-fail edits, the tests, the program by two compilers'
-	@echo 'make edits       all wrong bodies that must be refused, those that the gate leaves out too (ARGS=NAME takes those of a crate)'
-	@echo 'make check-docs  runs what README, guide and examples print, and the tests of the Python client and of the scripts'
-	@echo 'make fuzz        random lines to the program and to a reference in Python: SEED=$(SEED) LINES=$(LINES), of which DAMAGED=$(DAMAGED) are damaged'
-	@echo 'make faults      each request for memory refused in turn on worked rows and in blocks that need none, and a server under a hard'
-	@echo '                 limit of memory (needs a C compiler; ARGS=--short is the part that .ci/run runs, ARGS="--row WORDS" another)'
-	@echo 'make sanitize    the tests of the pool of nodes under AddressSanitizer, without proofs, and with each of their requests for memory refused'
-	@echo '                 in turn (needs a C compiler; ARGS=--short leaves out the test of a hundred chunks: two minutes)'
-	@echo 'make soak        CLIENTS=$(CLIENTS) loopback clients of 10,000 lines each, all replies compared; clients that read slowly, break off or'
-	@echo '                 never read; and for SECONDS=$(SECONDS) clients whose sums are watched (ARGS="--part lines --lines 1000" takes a part)'
-	@echo 'make crash       the service killed under load, on a disk that forgets what was not synced, with torn and damaged journals and full disks;'
-	@echo '                 then all its places taken by 10,000 clients that come and go (needs crates/mi_service/out/mi_service or MI_SERVICE=FILE;'
-	@echo '                 ARGS=--short is the part that make check-docs runs)'
-	@echo 'make replica-tests  three members of a ledger over three of etcd on this machine: FAILURES=$(FAILURES) failures, and a check that no'
-	@echo '                 acknowledged line is lost or doubled (needs etcd; PROGRAM=FILE takes another program; docs/REPLICATION.md)'
-	@echo 'make rates       lines a second of the service beside the program over standard input, and how long the replay of a journal takes'
-	@echo 'make bench       the program against a Boost.MultiIndex container, SQLite and Redis, into docs/bench (see bench/README.md);'
-	@echo '                 ROWS=1000,10000 are other sizes; QUICK=1 is small, and shows only that all answer alike'
-	@echo 'make install     copies the proved program (make build makes it), its prompt and linter, clients, documents, man pages and'
-	@echo '                 completion below PREFIX=$(PREFIX); PROGRAM=FILE takes another program as it is'
-	@echo 'make dist        the same as one archive, out/weltiyo.tar.gz'
-	@echo 'make clean       removes what was built, and the proofs that `rt check` keeps'
+	@echo 'To begin. ARGS="--schema FILE" and the like are the options of the program; `make run` starts one that is up to date without `rt`.'
+	@echo '  make tour            five minutes at a terminal: four orders, a fork that is unwound, places that come back'
+	@echo '  make try             compiles without proofs (a minute the first time) and serves, at a terminal by a prompt'
+	@echo '  make run             proves, builds and serves'
+	@echo '  make build           the same, without serving'
+	@echo '  make service         proves, builds and serves mi_service: ARGS="--listen 8000 --journal FILE" (docs/OPERATING.md)'
+	@echo '  make lib             proves and builds the library into out/library (docs/EMBEDDING.md; needs a C compiler)'
+	@echo
+	@echo 'To check'
+	@echo '  make test            the gate: proofs, must-fail edits, tests, the programs by two compilers'
+	@echo '  make check-docs      runs what documents print, and the tests of the clients and of the scripts'
+	@echo '  make edits           all wrong bodies that must be refused, those that the gate leaves out too (ARGS=NAME: of a crate)'
+	@echo '  make fuzz            random lines, compared with a reference in Python: SEED=$(SEED) LINES=$(LINES) DAMAGED=$(DAMAGED)'
+	@echo '  make faults          each request for memory refused in turn, and a limit of memory (needs a C compiler; ARGS=--short,'
+	@echo '                       ARGS="--row WORDS")'
+	@echo '  make sanitize        the tests of the pool under AddressSanitizer (needs a C compiler; ARGS=--short: two minutes)'
+	@echo
+	@echo 'To strain and measure a built program'
+	@echo '  make soak            CLIENTS=$(CLIENTS) loopback clients, all replies compared; then SECONDS=$(SECONDS) whose sums are watched'
+	@echo '  make crash           the service killed under load, on bad disks, with damaged journals (ARGS=--short)'
+	@echo '  make replica-tests   FAILURES=$(FAILURES) failures of three members over etcd (needs etcd; PROGRAM=FILE)'
+	@echo '  make window-tests    `weltiyo web` in a browser: views, undo, foreign pages, a million rows (needs chromium, chromium-driver)'
+	@echo '  make rates           lines a second of the service beside the program, and the time of a replay'
+	@echo '  make bench           beside a Boost.MultiIndex container, SQLite and Redis, into docs/bench (ROWS=1000,10000; QUICK=1)'
+	@echo
+	@echo 'To install'
+	@echo '  make install         the proved program, its tools, clients and documents below PREFIX=$(PREFIX) (PROGRAM=FILE: another one)'
+	@echo '  make dist            the same as one archive, out/weltiyo.tar.gz'
+	@echo '  make clean           removes what was built, and the proofs that `rt check` keeps'
 
 try:
 	@exec $(PYTHON) scripts/program.py try -- $(ARGS)
+
+tour:
+	@exec $(PYTHON) scripts/tour.py $(if $(PROGRAM),--program '$(PROGRAM)') $(ARGS)
 
 run:
 	@exec $(PYTHON) scripts/program.py run -- $(ARGS)
@@ -79,26 +81,29 @@ check-docs:
 	@$(PYTHON) scripts/check_docs.py
 
 fuzz:
-	@$(PYTHON) scripts/fuzz.py --seed $(SEED) --lines $(LINES) --damaged $(DAMAGED)
+	@$(PYTHON) scripts/stress fuzz --seed $(SEED) --lines $(LINES) --damaged $(DAMAGED)
 
 faults:
-	@$(PYTHON) scripts/faults.py $(ARGS)
+	@$(PYTHON) scripts/stress faults $(ARGS)
 
 sanitize:
-	@$(PYTHON) scripts/sanitize.py $(ARGS)
+	@$(PYTHON) scripts/stress sanitize $(ARGS)
 
 soak:
-	@$(PYTHON) scripts/soak.py --seconds $(SECONDS) --clients $(CLIENTS) --seed $(SEED) $(ARGS)
+	@$(PYTHON) scripts/stress soak --seconds $(SECONDS) --clients $(CLIENTS) --seed $(SEED) $(ARGS)
 
 crash:
-	@$(PYTHON) scripts/crash.py $(ARGS)
-	@$(PYTHON) scripts/crowd.py $(ARGS)
+	@$(PYTHON) scripts/stress crash $(ARGS)
+	@$(PYTHON) scripts/stress crowd $(ARGS)
 
 rates:
-	@$(PYTHON) scripts/rates.py $(ARGS)
+	@$(PYTHON) scripts/stress rates $(ARGS)
 
 replica-tests:
-	@$(PYTHON) scripts/replica_test.py --failures $(FAILURES) --seed $(SEED) $(if $(PROGRAM),--program '$(PROGRAM)') $(ARGS)
+	@$(PYTHON) scripts/stress replicas --failures $(FAILURES) --seed $(SEED) $(if $(PROGRAM),--program '$(PROGRAM)') $(ARGS)
+
+window-tests:
+	@$(PYTHON) scripts/stress window $(ARGS)
 
 bench:
 	@$(if $(QUICK),$(PYTHON) -m unittest discover -s bench/tests)
@@ -107,7 +112,7 @@ bench:
 install:
 	@$(if $(PROGRAM),,$(PYTHON) scripts/program.py proved)
 	@install -d '$(ROOT)/bin' '$(ROOT)/share/man/man1' '$(ROOT)/share/bash-completion/completions' '$(ROOT)/share/zsh/site-functions'
-	@install -d '$(SHARE)/docs/bench' '$(SHARE)/bench' '$(SHARE)/examples' '$(SHARE)/scripts' '$(SHARE)/clients/python/mi_client' '$(SHARE)/clients/node'
+	@install -d '$(SHARE)/docs/bench' '$(SHARE)/docs/pictures' '$(SHARE)/docs/img' '$(SHARE)/bench' '$(SHARE)/examples' '$(SHARE)/scripts' '$(SHARE)/clients/python/mi_client' '$(SHARE)/clients/node'
 	@install -m 755 '$(or $(PROGRAM),crates/mi_server/out/mi_server)' '$(ROOT)/bin/mi_server'
 	@if $(PYTHON) scripts/program.py fresh mi_service; then install -m 755 crates/mi_service/out/mi_service '$(ROOT)/bin/'; \
 		else echo "without mi_service, which isn't there or isn't up to date: \`make service\` makes it"; fi
@@ -119,6 +124,8 @@ install:
 	@install -m 644 $(wildcard *.md) '$(SHARE)/'
 	@install -m 644 docs/*.md '$(SHARE)/docs/'
 	@install -m 644 docs/bench/* '$(SHARE)/docs/bench/'
+	@install -m 644 docs/pictures/*.svg '$(SHARE)/docs/pictures/'
+	@install -m 644 docs/img/* '$(SHARE)/docs/img/'
 	@install -m 644 bench/README.md '$(SHARE)/bench/'
 	@install -m 644 examples/* '$(SHARE)/examples/'
 	@install -m 644 scripts/program.py scripts/schema_lint.py '$(SHARE)/scripts/'

@@ -1,5 +1,5 @@
 // The table `accounts` as a Boost.MultiIndex container with the same six indexes, and a hash of the ids beside them, by which a record
-// is found from its id, as ours has one too.
+// is found from its id, where ours has pages of ids.
 //
 // Equals stand in the order in which they came to their key, and what takes a change back puts them back there. Boost promises
 // neither for an element whose key is changed, so each key has a stamp as its last part.

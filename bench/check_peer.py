@@ -12,7 +12,7 @@ import sys
 import build
 
 sys.path.insert(0, f"{build.TOP}/scripts")
-from fuzz import ACCOUNTS, Lines  # noqa: E402
+from stress.fuzz import ACCOUNTS, Lines  # noqa: E402
 from reference import Reference  # noqa: E402
 
 LINES = 300

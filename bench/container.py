@@ -1,6 +1,6 @@
 #!/usr/bin/env python3
 """What a call of the container costs, in nanoseconds of processor time, and how many bytes a record takes: the container of
-`mi_multi` against a Boost.MultiIndex container with the same six indexes and a hash of the ids, as ours has.
+`mi_multi` against a Boost.MultiIndex container with the same six indexes and a hash of the ids, where ours has pages of them.
 
     container.py [--rows N,N] [--calls N] [--rounds N] [--program FILE]
 

@@ -29,7 +29,8 @@ import tempfile
 
 import library
 import program
-import service
+from stress import service
+from stress import webdriver
 
 TOP = program.TOP
 sys.path.insert(0, f"{TOP}/clients/python")
@@ -332,27 +333,47 @@ class Documents:
     def services(self):
         """The short forms of what tries the service, where it is there, and of what tries members of one ledger, where etcd is."""
         if service.is_there():
-            self.check("scripts/crash.py", self.short, "crash.py")
-            self.check("scripts/crowd.py", self.short, "crowd.py")
+            self.check("scripts/stress crash", self.short, "crash")
+            self.check("scripts/stress crowd", self.short, "crowd")
         else:
-            self.skipped.append("scripts/crash.py and scripts/crowd.py need the service, which `make service` builds")
+            self.skipped.append("scripts/stress crash and crowd need the service, which `make service` builds")
         if shutil.which("etcd"):
-            self.check("scripts/replica_test.py", self.short, "replica_test.py", "--program", self.path)
+            self.check("scripts/stress replicas", self.short, "replicas", "--program", self.path)
         else:
-            self.skipped.append("scripts/replica_test.py needs etcd, which `apt-get install etcd-server` brings")
+            self.skipped.append("scripts/stress replicas needs etcd, which `apt-get install etcd-server` brings")
+
+    def window(self):
+        """The short form of what tries the window in a browser, where one is there, and the service or what stands in for it."""
+        lacks = webdriver.lacking()
+        if lacks:
+            self.skipped.append(f"scripts/stress window needs {' and '.join(lacks)}, which `apt-get install {' '.join(lacks)}` brings")
+        else:
+            self.check("scripts/stress window", self.short, "window")
 
     def short(self, name, *words):
-        """The short form of a script that has one; the parts that it leaves out are told."""
+        """The short form of a command of `scripts/stress` that has one; the parts that it leaves out are told."""
         env = {**os.environ, "MI_SERVER": self.path}
-        words = [sys.executable, f"{TOP}/scripts/{name}", "--short", *words]
+        words = [sys.executable, f"{TOP}/scripts/stress", name, "--short", *words]
         ran = subprocess.run(words, env=env, stdin=subprocess.DEVNULL, capture_output=True, text=True, timeout=900)
         if ran.returncode:
             raise Differs(ran.stdout + ran.stderr)
-        self.skipped += [f"scripts/{name}, {it}" for it in ran.stdout.splitlines() if "left out" in it]
+        self.skipped += [f"scripts/stress {name}, {it}" for it in ran.stdout.splitlines() if "left out" in it]
 
     def heads(self):
         """Whether each source file and each file of answers opens with what it is."""
         ran = self.run([sys.executable, f"{TOP}/scripts/check_heads.py"])
+        if ran.returncode:
+            raise Differs(ran.stdout + ran.stderr)
+
+    def sentences(self):
+        """Whether the sentences of the documents are short enough."""
+        ran = self.run([sys.executable, f"{TOP}/scripts/check_sentences.py"])
+        if ran.returncode:
+            raise Differs(ran.stdout + ran.stderr)
+
+    def pictures(self):
+        """Whether each picture is what its text gives."""
+        ran = self.run([sys.executable, f"{TOP}/scripts/pictures.py", "--check"])
         if ran.returncode:
             raise Differs(ran.stdout + ran.stderr)
 
@@ -362,8 +383,8 @@ class Documents:
         if ran.returncode:
             raise Differs(ran.stdout + ran.stderr)
 
-    def script(self, name, *words):
-        ran = self.run([sys.executable, f"{TOP}/scripts/{name}", "--program", self.path, *words])
+    def stress(self, name, *words):
+        ran = self.run([sys.executable, f"{TOP}/scripts/stress", name, "--program", self.path, *words])
         if ran.returncode:
             raise Differs(ran.stdout + ran.stderr)
 
@@ -395,10 +416,13 @@ def main():
             checks.node()
             checks.bindings()
             checks.check("scripts/tests", checks.tests, f"{TOP}/scripts/tests")
-            checks.check("scripts/fuzz.py", checks.script, "fuzz.py", "--lines", "600")
-            checks.check("scripts/stall.py", checks.script, "stall.py")
+            checks.check("scripts/stress fuzz", checks.stress, "fuzz", "--lines", "600")
+            checks.check("scripts/stress stall", checks.stress, "stall")
             checks.services()
+            checks.window()
             checks.check("scripts/check_heads.py", checks.heads)
+            checks.check("scripts/check_sentences.py", checks.sentences)
+            checks.check("scripts/pictures.py --check", checks.pictures)
             checks.check("scripts/further_edits.py --check", checks.further_edits)
     for it in checks.skipped:
         print(f"skipped: {it}")

@@ -4,7 +4,7 @@
     embedded.py [--program FILE] [--library FOLDER] [--lines N] [--seed N] [--memory]
 
 Each binding (C with the archive, C++ with the shared object, Rust, Python) answers the lines of the examples and N random ones, as
-`fuzz.py` makes them, over the same schemas; then its own tests run. One whose compiler isn't there is skipped by its name. --memory runs
+`stress/fuzz.py` makes them, over the same schemas; then its own tests run. One whose compiler isn't there is skipped by its name. --memory runs
 the tests in C under AddressSanitizer and valgrind besides, and refuses each request for memory in turn. The library is that of `make lib`;
 where none is built this ends with status 0 and says so. The last line is 'N passed, M failed'."""
 import argparse
@@ -15,7 +15,7 @@ import subprocess
 import sys
 import tempfile
 
-import fuzz
+from stress import fuzz
 import library
 import program
 

@@ -4,7 +4,7 @@
     reached.py [--seed N] [--lines N] [--damaged SHARE]
 
 `reference.py` reads the definitions a second time, a function for each, so a part of it that no line has run is a clause that no random
-line was compared on. It is run on the lines of `examples/` and on those that `fuzz.py` makes of the seed, by one connection and, each
+line was compared on. It is run on the lines of `examples/` and on those that `stress/fuzz.py` makes of the seed, by one connection and, each
 third case, by three that are closed in the end; no program runs. A part is an instruction of Python's, so one side of an `and`, of an
 `or` or of a choice within a line counts too. It prints how many were run, and each line of `reference.py` with a part that wasn't;
 status 1 where there is one."""
@@ -111,7 +111,7 @@ def main():
     asked, case = 0, 0
     with Watch() as watch:
         import reference
-        import fuzz
+        from stress import fuzz
 
         answer_examples(fuzz, reference)
         while asked < options.lines:

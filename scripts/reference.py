@@ -1,5 +1,5 @@
 """The table server read a second time: what it is to answer, written from the definitions in plain lists and whole copies, and
-as slow as that is. It shares no code with the server, and knows nothing of how that is made. `fuzz.py` compares the two.
+as slow as that is. It shares no code with the server, and knows nothing of how that is made. `stress/fuzz.py` compares the two.
 
 A `Reference` has one catalog, any number of connections, and gets bytes: `feed` and `close` answer the bytes that are written."""
 import copy

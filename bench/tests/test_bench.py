@@ -13,7 +13,7 @@ import report  # noqa: E402
 import run  # noqa: E402
 import systems  # noqa: E402
 import workloads  # noqa: E402
-from fuzz import ACCOUNTS  # noqa: E402
+from stress.fuzz import ACCOUNTS  # noqa: E402
 from reference import Reference  # noqa: E402
 
 ROWS = 60

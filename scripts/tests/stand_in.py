@@ -34,7 +34,10 @@ CHANGED = (b'{"id":', b'{"ok":true}', b'{"erased":', b'{"ok":true,"revision":', 
 
 
 def stop(status, why):
-    print(why, file=sys.stderr, flush=True)
+    try:
+        print(why, file=sys.stderr, flush=True)
+    except OSError:
+        pass
     os._exit(status)
 
 
@@ -57,26 +60,25 @@ class Journal:
     """The file: lines are appended, and made to stay."""
 
     def __init__(self, path, reference, wanted, sync):
-        self.sync, self.handle, self.waits = sync, None, False
+        self.path, self.sync, self.handle, self.waits = path, sync, None, False
         if not path:
             return
         try:
             self.handle = os.open(path, os.O_RDWR | os.O_CREAT | os.O_APPEND, 0o600)
             fcntl.flock(self.handle, fcntl.LOCK_EX | fcntl.LOCK_NB)
         except BlockingIOError:
-            stop(3, "journal: locked")
-        except OSError:
-            stop(3, "journal: file")
-        with open(path, "rb") as file:
-            whole = file.read()
+            stop(3, f"journal: locked: {path}")
+        except OSError as error:
+            stop(3, f"journal: file: {path}: {error.strerror} ({error.errno})")
+        whole = os.pread(self.handle, os.fstat(self.handle).st_size, 0)
         end = len(whole) if PLANT == "torn" else whole.rfind(b"\n") + 1
         lines = whole[:end].split(b"\n")[:-1] if PLANT != "torn" else [it for it in whole.split(b"\n") if it]
         if lines and lines[0] != wanted and not (PLANT == "foreign" and lines[0].startswith(b'{"journal"')):
-            stop(3, "journal: schema" if lines[0].startswith(b'{"journal"') else "journal: line 1")
+            stop(3, f"journal: schema: {path}" if lines[0].startswith(b'{"journal"') else f"journal: line 1: {path}")
         for number, text in enumerate(lines[1:], 2):
             reply = reference.answer_ended(1, text)
             if not changed(reply) and PLANT != "torn":
-                stop(3, f"journal: line {number}")
+                stop(3, f"journal: line {number}: {path}")
         os.ftruncate(self.handle, end)
         if not lines:
             self.append(wanted + b"\n")
@@ -90,8 +92,8 @@ class Journal:
         try:
             while text:
                 text = text[os.write(self.handle, text):]
-        except OSError:
-            PLANT == "quiet" or stop(4, "fault: journal")
+        except OSError as error:
+            PLANT == "quiet" or stop(4, f"fault: journal: {self.path}: {error.strerror} ({error.errno})")
 
     def gone(self, reference, connection):
         """A connection has gone away; what it held is undone."""
@@ -106,8 +108,8 @@ class Journal:
             return
         try:
             os.fdatasync(self.handle)
-        except OSError:
-            PLANT == "quiet" or stop(4, "fault: journal")
+        except OSError as error:
+            PLANT == "quiet" or stop(4, f"fault: journal: {self.path}: {error.strerror} ({error.errno})")
         self.waits = False
 
 

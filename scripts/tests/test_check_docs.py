@@ -61,9 +61,10 @@ class Told(unittest.TestCase):
             self.documents.tests(f"{self.folder}/scripts")
 
     def test_parts_that_are_left_out_are_told(self):
-        self.write("parts.py", "print('one: all is well')\nprint('two: left out: it needs more')\n")
-        self.documents.short("parts.py")
-        self.assertEqual(self.documents.skipped, ["scripts/parts.py, two: left out: it needs more"])
+        os.mkdir(f"{self.folder}/scripts/stress")
+        self.write("stress/__main__.py", "print('one: all is well')\nprint('two: left out: it needs more')\n")
+        self.documents.short("parts")
+        self.assertEqual(self.documents.skipped, ["scripts/stress parts, two: left out: it needs more"])
 
     def documented(self, text):
         """How many checks of a document passed and failed."""

@@ -12,10 +12,10 @@ HERE = os.path.dirname(os.path.realpath(__file__))
 TOP = os.path.dirname(os.path.dirname(HERE))
 sys.path.insert(0, f"{TOP}/scripts")
 
-import crash  # noqa: E402
-import crowd  # noqa: E402
-from callers import TABLES  # noqa: E402
-from journal_walk import UNDO, Differs, Said, Walk, fork, mark, marked, state  # noqa: E402
+from stress import crash  # noqa: E402
+from stress import crowd  # noqa: E402
+from stress.callers import TABLES  # noqa: E402
+from stress.journal_walk import UNDO, Differs, Said, Walk, fork, mark, marked, state  # noqa: E402
 
 STAND_IN = f"{HERE}/stand_in.py"
 START = b'{"cmd":"start"}'
@@ -95,6 +95,19 @@ class AWalk(unittest.TestCase):
         self.walk, self.said[1] = Walk(TABLES), Said(1)
         self.said[1].lines, self.said[1].replies = [a, b], [inserted(0)]
         self.walked(a)
+
+    def test_a_last_line_that_ends_among_its_blanks(self):
+        for cut in (1, 7):
+            self.setUp()
+            a, b = self.says(1, (INSERT % 5, inserted(0)), (INSERT % 6, None), left=True)
+            self.walked(a, b[:-cut])
+            self.assertEqual(self.walk.reference.tables[1].rows, {0: [5], 1: [6]})
+        self.setUp()
+        a, b = self.says(1, (INSERT % 5, inserted(0)), (INSERT % 6, None))
+        self.differs("nobody sent", a, b[:-1])
+        self.setUp()
+        a, b = self.says(1, (INSERT % 5, inserted(0)), (INSERT % 6, inserted(1)), left=True)
+        self.differs("nobody sent|lacks it", a, b[:-1])
 
     def test_lines_that_nobody_sent(self):
         a, = self.says(1, (INSERT % 5, inserted(0)))

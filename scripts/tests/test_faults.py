@@ -12,8 +12,8 @@ import unittest
 TOP = os.path.dirname(os.path.dirname(os.path.dirname(os.path.realpath(__file__))))
 sys.path.insert(0, f"{TOP}/scripts")
 
-import fault_blocks  # noqa: E402
-from fault_runs import MEMORY, UNDO, Plan, Ran, Row, compiled_library, insert, judge, line, rows_in  # noqa: E402
+from stress import fault_blocks  # noqa: E402
+from stress.fault_runs import MEMORY, UNDO, Plan, Ran, Row, compiled_library, insert, judge, line, rows_in  # noqa: E402
 from reference import Reference  # noqa: E402
 
 STEPS = [(1, it) for it in (insert("a"), line("start"), insert("b"), UNDO + b"\n", line("size"))]

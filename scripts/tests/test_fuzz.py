@@ -10,13 +10,13 @@ import unittest.mock
 TOP = os.path.dirname(os.path.dirname(os.path.dirname(os.path.realpath(__file__))))
 sys.path.insert(0, f"{TOP}/scripts")
 
-import fuzz  # noqa: E402
+from stress import fuzz  # noqa: E402
 
 # How it ends is what END says.
 PROGRAM = f"""#!{sys.executable}
 import os, socket, sys, time
 sys.path.insert(0, {TOP + "/scripts"!r})
-from fuzz import ACCOUNTS
+from stress.fuzz import ACCOUNTS
 from reference import Reference
 reference, words = Reference([ACCOUNTS]), sys.argv[1:]
 if words:

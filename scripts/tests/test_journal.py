@@ -17,10 +17,10 @@ import unittest.mock
 TOP = os.path.dirname(os.path.dirname(os.path.dirname(os.path.realpath(__file__))))
 sys.path.insert(0, f"{TOP}/scripts")
 
-import fuzz  # noqa: E402
+from stress import fuzz  # noqa: E402
 import journal  # noqa: E402
 import program  # noqa: E402
-import service  # noqa: E402
+from stress import service  # noqa: E402
 from reference import Reference  # noqa: E402
 
 HASH = "a" * 64

@@ -7,7 +7,7 @@ import unittest
 TOP = os.path.dirname(os.path.dirname(os.path.dirname(os.path.realpath(__file__))))
 sys.path.insert(0, f"{TOP}/scripts")
 
-from fuzz import ACCOUNTS  # noqa: E402
+from stress.fuzz import ACCOUNTS  # noqa: E402
 from reference import LAST, Index, Reference, Schema  # noqa: E402
 
 

@@ -10,8 +10,8 @@ import unittest
 TOP = os.path.dirname(os.path.dirname(os.path.dirname(os.path.realpath(__file__))))
 sys.path.insert(0, f"{TOP}/scripts")
 
-from replica_kit import Stuck, until  # noqa: E402
-from replica_load import Differs, Reader, Register, check_readers, first_done, look_for_errors  # noqa: E402
+from stress.replica_kit import Stuck, until  # noqa: E402
+from stress.replica_load import Differs, Reader, Register, check_readers, first_done, look_for_errors  # noqa: E402
 
 
 class Member(threading.Thread):

@@ -13,8 +13,8 @@ import unittest.mock
 HERE = os.path.dirname(os.path.realpath(__file__))
 sys.path.insert(0, f"{os.path.dirname(os.path.dirname(HERE))}/scripts")
 
-import service_faults  # noqa: E402
-from journal_walk import Differs  # noqa: E402
+from stress import service_faults  # noqa: E402
+from stress.journal_walk import Differs  # noqa: E402
 
 STAND_IN = f"{HERE}/stand_in.py"
 

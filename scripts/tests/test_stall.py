@@ -11,7 +11,7 @@ import unittest
 TOP = os.path.dirname(os.path.dirname(os.path.dirname(os.path.realpath(__file__))))
 sys.path.insert(0, f"{TOP}/scripts")
 
-import stall  # noqa: E402
+from stress import stall  # noqa: E402
 
 
 def serve(listener, has_delay):

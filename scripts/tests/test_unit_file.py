@@ -12,7 +12,7 @@ HERE = os.path.dirname(os.path.realpath(__file__))
 TOP = os.path.dirname(os.path.dirname(HERE))
 sys.path.insert(0, f"{TOP}/scripts")
 
-import service  # noqa: E402
+from stress import service  # noqa: E402
 
 UNIT = f"{TOP}/examples/mi_service.service"
 STAND_IN = f"{HERE}/stand_in.py"

@@ -12,7 +12,7 @@ TOP = os.path.dirname(os.path.dirname(os.path.dirname(os.path.realpath(__file__)
 sys.path.insert(0, f"{TOP}/scripts")
 
 import check_heads  # noqa: E402
-import faults  # noqa: E402
+from stress import faults  # noqa: E402
 import further_edits  # noqa: E402
 
 
