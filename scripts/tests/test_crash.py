@@ -171,15 +171,20 @@ class AgainstAStandIn(unittest.TestCase):
             self.assertEqual(status, 0, said)
 
     def is_found(self, plant, script, part, why):
-        more = ("--rounds", "3") if script is crash else ()
-        status, said = self.ran(script, plant, "--part", part, *more)
+        """Some plants show at times only, by how clients come and are killed: so one of five seeds is to find it."""
+        for seed in range(1, 6):
+            more = ("--rounds", "3", "--seed", str(seed)) if script is crash else ()
+            status, said = self.ran(script, plant, "--part", part, *more)
+            if status:
+                break
         self.assertEqual(status, 1, (plant, said))
         self.assertRegex(said, why, plant)
 
     def test_faults_are_found(self):
         self.is_found("held", crash, "rounds", 'sessions are held in the journal|wanted .*"busy"|fits nowhere')
         self.is_found("torn", crash, "torn", "cut at byte")
-        self.is_found("added", crash, "rounds", "nobody sent")
+        # (such a line can be taken for one that was cut short: then another line has no place)
+        self.is_found("added", crash, "rounds", "nobody sent|fits nowhere|wanted .*, got ")
         self.is_found("quiet", crash, "full", "it listens, and its journal has room for 20 bytes")
         self.is_found("beyond", crowd, "place", "connection 65 is served")
         self.is_found("crossed", crash, "rounds", r"lines and got \d+ replies|wanted .*, got |fits nowhere")
@@ -188,7 +193,7 @@ class AgainstAStandIn(unittest.TestCase):
     def test_a_disk_that_forgets(self):
         self.assertEqual(self.ran(crash, "", "--part", "power", "--rounds", "2")[0], 0)
         for plant in ("unsynced", "early"):
-            self.is_found(plant, crash, "power", "the journal lacks it")
+            self.is_found(plant, crash, "power", "the journal lacks it|fits nowhere|wanted .*, got ")
 
 
 if __name__ == "__main__":
