@@ -152,6 +152,105 @@ inline weltiyo_value laid(const Value &value, std::string &texts) {
     return {WELTIYO_TEXT, 0, at, value.text().size()};
 }
 
+// The sessions that are open in a database, the oldest first: of each the guard whose it is, by a number, or one of those below. Nothing that it is
+// told takes memory, but for `make_room`.
+class Sessions {
+public:
+    // Whose a session is that was pushed, and one that a line began.
+    static constexpr std::uint64_t nobody = UINT64_MAX, a_line = 0;
+
+    // Room for one more.
+    void make_room() {
+        if (owners_.size() == owners_.capacity())
+            owners_.reserve(2 * owners_.size() + 8);
+    }
+
+    // A connection has begun one, which is of this revision.
+    void begun(std::uint64_t connection, std::uint64_t revision, std::uint64_t owner = a_line) {
+        owners_.push_back(owner);
+        newest_ = revision;
+        holder_ = connection;
+        held_++;
+    }
+
+    // The newest one was undone or squashed, and this is the revision by now.
+    void ended(std::uint64_t revision) noexcept {
+        if (!owners_.empty())
+            owners_.pop_back();
+        newest_ = revision;
+        held_ -= held_ > 0;
+    }
+
+    void all_ended() noexcept {
+        owners_.clear();
+        held_ = 0;
+    }
+
+    // So many of the oldest ones have ended.
+    void committed(std::uint64_t count) noexcept {
+        owners_.erase(owners_.begin(), owners_.begin() + static_cast<std::ptrdiff_t>(std::min<std::uint64_t>(count, owners_.size())));
+        held_ = std::min(held_, owners_.size());
+    }
+
+    // So many of the newest ones were let go of, which are all that were held.
+    void pushed(std::uint64_t count) noexcept {
+        std::fill_n(owners_.rbegin(), std::min<std::uint64_t>(count, owners_.size()), nobody);
+        held_ -= static_cast<std::size_t>(std::min<std::uint64_t>(count, held_));
+    }
+
+    // A connection has gone away, and what it held was undone.
+    void released(std::uint64_t connection) noexcept {
+        while (held_ > 0 && connection == holder_)
+            ended(newest_ - 1);
+    }
+
+    void disown(std::uint64_t owner) noexcept { std::replace(owners_.begin(), owners_.end(), owner, nobody); }
+
+    // How many of the newest ones are to be ended so that a guard's is, since those that began in it go with it. 0 where its own has ended, or where
+    // one that is nobody's stands above.
+    std::size_t down_to(std::uint64_t owner) const noexcept {
+        const auto found = std::find_if(owners_.rbegin(), owners_.rend(), [&](std::uint64_t it) { return it == owner || it == nobody; });
+        return found == owners_.rend() || *found != owner ? 0 : static_cast<std::size_t>(found - owners_.rbegin()) + 1;
+    }
+
+    // What the reply to a line says of sessions: those of the session steps begin as these, and no others do.
+    void heard(std::uint64_t connection, std::string_view reply) {
+        if (const auto revision = behind(reply, "{\"ok\":true,\"revision\":"))
+            owners_.empty() || *revision > newest_ ? begun(connection, *revision) : ended(*revision);
+        else if (const auto count = behind(reply, "{\"committed\":"))
+            committed(*count);
+        else if (behind(reply, "{\"ok\":true,\"undone\":"))
+            all_ended();
+        else if (const auto count = behind(reply, "{\"ok\":true,\"pushed\":"))
+            pushed(*count);
+    }
+
+private:
+    // The number that stands behind a front, where the reply has it.
+    static std::optional<std::uint64_t> behind(std::string_view reply, std::string_view front) noexcept {
+        if (reply.substr(0, front.size()) != front)
+            return {};
+        return std::strtoull(reply.data() + front.size(), nullptr, 10); // (a brace stands behind it)
+    }
+
+    std::vector<std::uint64_t> owners_;
+    // The revision while one is open; the connection that holds the newest ones, and how many.
+    std::uint64_t newest_ = 0, holder_ = 0;
+    std::size_t held_ = 0;
+};
+
+// A handle that is open as long as a database or a session has it.
+struct Opened {
+    explicit Opened(weltiyo_db *given) noexcept : handle(given) {}
+    ~Opened() { weltiyo_close(handle); }
+    Opened(const Opened &) = delete;
+    Opened &operator=(const Opened &) = delete;
+
+    weltiyo_db *const handle;
+    Sessions sessions;
+    std::uint64_t last_guard = Sessions::a_line;
+};
+
 } // namespace detail
 
 // The values of a key, or the first of them: `{"ann"}`, `{true, 50}`. It takes no memory beside that of long texts.
@@ -352,7 +451,12 @@ public:
             throw std::bad_alloc();
         if (status != WELTIYO_OK)
             throw SchemaFault(status);
-        handle_.reset(handle, weltiyo_close);
+        try {
+            opened_ = std::make_shared<detail::Opened>(handle);
+        } catch (...) {
+            weltiyo_close(handle);
+            throw;
+        }
     }
 
     // Opens the tables of a schema's file. Throws also std::runtime_error where it can't be read.
@@ -371,7 +475,7 @@ public:
 
     // The two are exchanged: what was assigned to is closed where the other ends.
     Database &operator=(Database &&other) noexcept {
-        std::swap(handle_, other.handle_);
+        std::swap(opened_, other.opened_);
         std::swap(columns_, other.columns_);
         return *this;
     }
@@ -380,10 +484,12 @@ public:
     std::string answer(std::string_view line, std::uint64_t connection = own) {
         std::string reply(usual, '\0');
         const char *text = line.empty() ? "" : line.data();
+        opened_->sessions.make_room();
         const std::size_t length = weltiyo_ask(handle(), connection, text, line.size(), reply.data(), reply.size());
         reply.resize(length);
         if (length > usual)
             weltiyo_reply(handle(), usual, reply.data() + usual, length - usual);
+        opened_->sessions.heard(connection, reply);
         return reply;
     }
 
@@ -514,28 +620,39 @@ public:
     [[nodiscard]] Session start_undo_session();
 
     // Takes back all that was done since the newest session was started, and ends it. It takes no memory. Throws Refused.
-    void undo() { well(weltiyo_undo(handle(), own)); }
+    void undo() { opened_->sessions.ended(well(weltiyo_undo(handle(), own))); }
 
     // Ends the newest session, and leaves what was done in it to the one below. Throws Refused.
-    void squash() { well(weltiyo_squash(handle(), own)); }
+    void squash() { opened_->sessions.ended(well(weltiyo_squash(handle(), own))); }
 
     // Ends all sessions up to the one of this revision: what was done in them can't be undone any more. Throws Refused.
-    void commit(std::uint64_t revision) { well(weltiyo_commit(handle(), own, revision)); }
+    void commit(std::uint64_t revision) { opened_->sessions.committed(well(weltiyo_commit(handle(), own, revision))); }
 
     // Undoes every open session, and answers how many. Throws Refused.
-    std::uint64_t undo_all() { return well(weltiyo_undo_all(handle(), own)); }
+    std::uint64_t undo_all() {
+        const std::uint64_t count = well(weltiyo_undo_all(handle(), own));
+        opened_->sessions.all_ended();
+        return count;
+    }
 
-    // Lets go of the sessions that are held, which stay open, and answers how many. Throws Refused.
-    std::uint64_t push() { return well(weltiyo_push(handle(), own)); }
+    // Lets go of the sessions that are held, which stay open, those of blocks too, and answers how many. Throws Refused.
+    std::uint64_t push() {
+        const std::uint64_t count = well(weltiyo_push(handle(), own));
+        opened_->sessions.pushed(count);
+        return count;
+    }
 
     // The number of the newest session. Throws Refused.
     std::uint64_t revision() { return number_in(ask(R"({"cmd":"revision"})"), "\"revision\":"); }
 
     // A connection goes away: the sessions that it holds are undone. It takes no memory.
-    void release(std::uint64_t connection) noexcept { weltiyo_release(handle(), connection); }
+    void release(std::uint64_t connection) noexcept {
+        weltiyo_release(handle(), connection);
+        opened_->sessions.released(connection);
+    }
 
-    // The handle, for the calls of weltiyo.h.
-    weltiyo_db *handle() noexcept { return handle_.get(); }
+    // The handle, for the calls of weltiyo.h. Its session steps aren't made while a `Session` lives, which doesn't see them.
+    weltiyo_db *handle() noexcept { return opened_ == nullptr ? nullptr : opened_->handle; }
 
     // The connection that is asked as where none is named.
     static constexpr std::uint64_t own = 1;
@@ -632,44 +749,68 @@ private:
         return std::strtoull(reply.c_str() + reply.find(name) + name.size(), nullptr, 10);
     }
 
-    std::shared_ptr<weltiyo_db> handle_; // (a session has it too)
+    std::shared_ptr<detail::Opened> opened_; // (a session has it too)
     std::array<std::uint32_t, 16> columns_{}; // (a catalog has at most 16 tables)
 };
 
-// A session of a block, of the connection `Database::own`. Sessions end in the order opposite to that in which they began. Their database may be
-// moved meanwhile, and isn't closed before they have ended. It ends the newest session, as chainbase's does: so what it began isn't to be ended
-// by a line, or by a call of the database.
+// A session of a block, of the connection `Database::own`. Its database may be moved meanwhile, and isn't closed before it has ended. It ends its own
+// session, with those that were begun in it and are open still, and no other. Where a line or a call of the database has ended or pushed its own,
+// it does nothing. Where one that was begun in it was pushed, its own stays open as if it had been pushed too.
 class Session {
 public:
-    explicit Session(Database &db) : handle_(db.handle_) { Database::well(weltiyo_start(handle_.get(), Database::own)); }
+    explicit Session(Database &db) : opened_(db.opened_), number_(opened_->last_guard + 1) {
+        opened_->sessions.make_room();
+        opened_->sessions.begun(Database::own, Database::well(weltiyo_start(opened_->handle, Database::own)), number_);
+        opened_->last_guard = number_;
+    }
 
     Session(Session &&other) noexcept = default;
 
     Session &operator=(Session &&) = delete;
 
     ~Session() {
-        if (handle_ != nullptr)
-            weltiyo_undo(handle_.get(), Database::own);
+        if (opened_ != nullptr)
+            step(*opened_, weltiyo_undo);
     }
 
     // A session is squashed, undone or pushed once: a further call does nothing, nor does one of a session that was moved from.
 
-    // What was done is left to the session below, or stays where there is none. Throws Refused.
+    // What was done is left to the session below, or stays where there is none. Throws Refused, with the word `session` where it ends none.
     void squash() { end(weltiyo_squash); }
 
-    // All of it is undone now. Throws Refused.
+    // All of it is undone now. Throws Refused, with the word `session` where it ends none.
     void undo() { end(weltiyo_undo); }
 
     // The session stays open behind the block; the database's undo, squash and commit end it.
-    void push() noexcept { handle_.reset(); }
-
-private:
-    void end(weltiyo_told (*step)(weltiyo_db *, std::uint64_t)) {
-        if (const auto handle = std::move(handle_))
-            Database::well(step(handle.get(), Database::own));
+    void push() noexcept {
+        if (opened_ != nullptr)
+            opened_->sessions.disown(number_);
+        opened_.reset();
     }
 
-    std::shared_ptr<weltiyo_db> handle_; // (which its `Database` takes along where it is moved)
+private:
+    using Step = weltiyo_told(weltiyo_db *, std::uint64_t);
+
+    void end(Step *call) {
+        if (const auto opened = std::move(opened_))
+            Database::well(step(*opened, call));
+    }
+
+    // Ends its own session, and ahead of it those that were begun in it. Neither undo nor squash takes memory.
+    weltiyo_told step(detail::Opened &opened, Step *call) const noexcept {
+        weltiyo_told told = {WELTIYO_REFUSED_SESSION, 0, 0};
+        for (std::size_t count = opened.sessions.down_to(number_); count > 0; count--) {
+            told = call(opened.handle, Database::own);
+            if (told.status != 0)
+                break;
+            opened.sessions.ended(told.number);
+        }
+        opened.sessions.disown(number_);
+        return told;
+    }
+
+    std::shared_ptr<detail::Opened> opened_; // (which its `Database` takes along where it is moved)
+    std::uint64_t number_;
 };
 
 inline Session Database::start_undo_session() { return Session(*this); }

@@ -90,6 +90,28 @@ inline void ended_before() {
     other.undo();
 }
 
+// A session of a block ends its own alone: not the pushed one below where its own has ended, and not the pushed one above.
+inline void only_its_own() {
+    Database db("", 1);
+    db.start_undo_session().push();
+    add(db, "kept");
+    void (*const steps[])(Database &) = {
+        [](Database &it) { it.undo(); },
+        [](Database &it) { it.squash(); },
+        [](Database &it) { it.ask(R"({"cmd":"undo"})"); },
+    };
+    for (const auto step : steps) {
+        auto session = db.start_undo_session();
+        step(db);
+    }
+    EXPECT(db.revision() == 1 && db.size(0) == 1);
+    {
+        auto session = db.start_undo_session();
+        db.start_undo_session().push();
+    }
+    EXPECT(db.revision() == 3 && db.undo_all() == 3);
+}
+
 inline std::string listed(Database &db, Page &page) {
     std::string owners;
     db.list(page, 0, line);
@@ -166,6 +188,7 @@ inline void all() {
     exchanged_in_a_session();
     in_a_vector_that_grows();
     ended_before();
+    only_its_own();
     moved_pages();
     largest_pages();
     refusals();

@@ -1,4 +1,5 @@
 // Sessions of blocks, what is thrown, and who frees what. It prints `ok`, or the line of what differs.
+#include <optional>
 #include <string>
 #include <utility>
 
@@ -71,6 +72,122 @@ static void pushed() {
     moved.push();
     db.release(Database::own);
     EXPECT(size(db) == R"({"ok":true,"size":1})");
+}
+
+static std::uint64_t depth(Database &db) {
+    const std::string reply = db.ask(R"({"cmd":"revision"})");
+    return std::stoull(reply.substr(reply.find(':') + 1));
+}
+
+// What ends or pushes the session of a block beside its guard. `left` are those that are open then.
+struct Beside {
+    void (*done)(Database &);
+    std::uint64_t left;
+};
+
+static const Beside beside[] = {
+    {[](Database &db) { db.undo(); }, 1},
+    {[](Database &db) { db.squash(); }, 1},
+    {[](Database &db) { db.commit(db.revision()); }, 0},
+    {[](Database &db) { db.undo_all(); }, 0},
+    {[](Database &db) { db.push(); }, 2},
+    {[](Database &db) { db.release(Database::own); }, 0},
+    {[](Database &db) { db.ask(R"({"cmd":"undo"})"); }, 1},
+    {[](Database &db) { db.ask(R"({"cmd":"squash"})"); }, 1},
+    {[](Database &db) { db.ask(R"({"cmd":"commit","revision":9})"); }, 0},
+    {[](Database &db) { db.ask(R"({"cmd":"undo_all"})"); }, 0},
+    {[](Database &db) { db.ask(R"({"cmd":"push"})"); }, 2},
+    // (another session takes the number of its own)
+    {[](Database &db) { db.undo(), db.start_undo_session().push(); }, 2},
+    {[](Database &db) { db.ask(R"({"cmd":"undo"})"), db.ask(R"({"cmd":"start"})"); }, 2},
+    {[](Database &db) { db.push(), db.ask(R"({"cmd":"start"})", 7), db.ask(R"({"cmd":"push"})", 7); }, 3},
+    {[](Database &db) { db.undo_all(), db.ask(R"({"cmd":"start"})", 7); }, 1},
+};
+
+// A guard never ends a session that isn't its own: not the pushed one below, once its own has ended.
+static void ended_beside() {
+    for (const Beside &it : beside) {
+        Database db("", 7);
+        db.start_undo_session().push();
+        {
+            auto session = db.start_undo_session();
+            it.done(db);
+            EXPECT(depth(db) == it.left);
+        }
+        EXPECT(depth(db) == it.left);
+    }
+}
+
+// Nor the pushed one above: its own stays open below that.
+static void pushed_within() {
+    void (*const pushes[])(Database &) = {
+        [](Database &db) { db.start_undo_session().push(); },
+        [](Database &db) { db.ask(R"({"cmd":"start"})"), db.push(); },
+        [](Database &db) { db.push(), db.ask(R"({"cmd":"start"})", 7), db.ask(R"({"cmd":"push"})", 7); },
+    };
+    for (const auto push : pushes) {
+        Database db("", 8);
+        {
+            auto session = db.start_undo_session();
+            db.ask(insert("ann"));
+            push(db);
+            db.ask(insert("bob"));
+        }
+        EXPECT(depth(db) == 2 && db.size(0) == 2);
+        auto late = db.start_undo_session();
+        push(db);
+        EXPECT(refused([&] { late.squash(); }) == "session");
+        EXPECT(depth(db) == 4);
+    }
+}
+
+// What was begun within the block and is open still ends with it: by a line, or by a guard that outlives it.
+static void begun_within() {
+    Database db("", 9);
+    db.ask(insert("ann"));
+    {
+        auto session = db.start_undo_session();
+        db.ask(R"({"cmd":"start"})");
+        db.ask(insert("bob"));
+    }
+    EXPECT(depth(db) == 0 && db.size(0) == 1);
+    {
+        std::optional<Session> outer(db.start_undo_session());
+        auto inner = db.start_undo_session();
+        Session moved = std::move(inner);
+        db.ask(insert("bob"));
+        outer.reset();
+        EXPECT(depth(db) == 0 && db.size(0) == 1);
+        db.start_undo_session().push();
+        EXPECT(refused([&] { moved.squash(); }) == "session");
+    }
+    EXPECT(depth(db) == 1);
+    auto outer = db.start_undo_session();
+    auto inner = db.start_undo_session();
+    db.ask(insert("bob"));
+    outer.squash();
+    EXPECT(depth(db) == 1 && db.size(0) == 2);
+}
+
+// Nested guards undo each its own, wherever they were moved to.
+static void nested() {
+    Database db("", 10);
+    auto outer = db.start_undo_session();
+    db.ask(insert("ann"));
+    {
+        auto middle = db.start_undo_session();
+        db.ask(insert("bob"));
+        Session moved = std::move(middle);
+        {
+            auto inner = db.start_undo_session();
+            db.ask(insert("cid"));
+            db.squash(); // (beside its guard)
+        }
+        EXPECT(depth(db) == 2 && db.size(0) == 3);
+    }
+    EXPECT(depth(db) == 1 && db.size(0) == 1);
+    outer.undo();
+    EXPECT(depth(db) == 0 && db.size(0) == 0);
 }
 
 // A session that was ended, pushed or moved from does nothing more.
@@ -260,6 +377,10 @@ static void pages_of_texts() {
 int main() {
     blocks();
     pushed();
+    ended_beside();
+    pushed_within();
+    begun_within();
+    nested();
     disarmed([](Session &it) { it.squash(); });
     disarmed([](Session &it) { it.undo(); });
     disarmed([](Session &it) { it.push(); });

@@ -26,9 +26,12 @@
 //! thread that opened it, so it is neither `Send` nor `Sync`.
 mod page;
 mod raw;
+mod sessions;
 
 pub use page::{Page, Row, Rows};
 
+use sessions::Sessions;
+use std::cell::RefCell;
 use std::collections::hash_map::RandomState;
 use std::error;
 use std::fmt;
@@ -233,29 +236,44 @@ fn if_there(call: impl FnOnce(&mut [raw::Cell], &mut [u8]) -> raw::Told) -> Resu
     Ok(Some((number_of(told)?, row)))
 }
 
+/// A step that ends the newest session.
+type Step = unsafe extern "C" fn(*mut raw::Handle, u64) -> raw::Told;
+
 /// A handle that is open until it is dropped.
 #[derive(Debug)]
-struct Opened(NonNull<raw::Handle>);
+struct Opened {
+    handle: NonNull<raw::Handle>,
+    sessions: RefCell<Sessions>,
+}
 
 impl Opened {
     fn as_ptr(&self) -> *mut raw::Handle {
-        self.0.as_ptr()
+        self.handle.as_ptr()
     }
 
-    fn undo(&self) -> Result<(), Error> {
+    /// Undoes or squashes the newest session.
+    fn end_newest(&self, step: Step) -> Result<(), Error> {
         // SAFETY: the handle was opened on this thread, which it can't leave, and isn't closed; no other call is under way.
-        number_of(unsafe { raw::weltiyo_undo(self.as_ptr(), OWN) }).map(drop)
+        let revision = number_of(unsafe { step(self.as_ptr(), OWN) })?;
+        self.sessions.borrow_mut().ended(revision);
+        Ok(())
     }
 
-    fn squash(&self) -> Result<(), Error> {
-        // SAFETY: as in `undo`.
-        number_of(unsafe { raw::weltiyo_squash(self.as_ptr(), OWN) }).map(drop)
+    /// Undoes or squashes the session of a guard, and ahead of it those that were begun in it.
+    fn end(&self, guard: u64, step: Step) -> Result<(), Error> {
+        let count = self.sessions.borrow().down_to(guard);
+        let mut ended = if count == 0 { Err(Error::Refused(format!("{REFUSAL}session\",\"ok\":false}}"))) } else { Ok(()) };
+        for _ in 0..count {
+            ended = ended.and_then(|()| self.end_newest(step));
+        }
+        self.sessions.borrow_mut().disown(guard);
+        ended
     }
 }
 
 impl Drop for Opened {
     fn drop(&mut self) {
-        // SAFETY: as in `undo`; nothing uses the handle behind this.
+        // SAFETY: as in `end_newest`; nothing uses the handle behind this.
         unsafe { raw::weltiyo_close(self.as_ptr()) }
     }
 }
@@ -287,7 +305,8 @@ impl Database {
         let status = unsafe { raw::weltiyo_open(schema.as_ptr(), schema.len(), secret, &mut handle) };
         match NonNull::new(handle) {
             Some(handle) if status == 0 => {
-                Ok(Database { handle: Rc::new(Opened(handle)), columns: [0; 16], on_its_thread: PhantomData })
+                let opened = Opened { handle, sessions: RefCell::default() };
+                Ok(Database { handle: Rc::new(opened), columns: [0; 16], on_its_thread: PhantomData })
             }
             _ => Err(Error::Schema(word_of(status))),
         }
@@ -307,7 +326,9 @@ impl Database {
             // SAFETY: as above.
             unsafe { raw::weltiyo_reply(self.handle.as_ptr(), USUAL, rest.as_mut_ptr(), rest.len()) };
         }
-        String::from_utf8(reply).expect("a reply is text")
+        let reply = String::from_utf8(reply).expect("a reply is text");
+        self.handle.sessions.borrow_mut().heard(connection, &reply);
+        reply
     }
 
     /// The reply to a line that is accepted.
@@ -529,79 +550,91 @@ impl Database {
 
     /// Undoes the newest session. It takes no memory.
     pub fn undo(&mut self) -> Result<(), Error> {
-        self.handle.undo()
+        self.handle.end_newest(raw::weltiyo_undo)
     }
 
     /// Joins the newest session into the one below.
     pub fn squash(&mut self) -> Result<(), Error> {
-        self.handle.squash()
+        self.handle.end_newest(raw::weltiyo_squash)
     }
 
     /// Ends the sessions up to the one of this revision, and answers how many: what was done in them can't be undone any more.
     pub fn commit(&mut self, revision: u64) -> Result<u64, Error> {
         // SAFETY: as in `answer`.
-        number_of(unsafe { raw::weltiyo_commit(self.handle.as_ptr(), OWN, revision) })
+        let count = number_of(unsafe { raw::weltiyo_commit(self.handle.as_ptr(), OWN, revision) })?;
+        self.handle.sessions.borrow_mut().committed(count);
+        Ok(count)
     }
 
     /// Undoes every open session, and answers how many. It takes no memory.
     pub fn undo_all(&mut self) -> Result<u64, Error> {
         // SAFETY: as in `answer`.
-        number_of(unsafe { raw::weltiyo_undo_all(self.handle.as_ptr(), OWN) })
+        let count = number_of(unsafe { raw::weltiyo_undo_all(self.handle.as_ptr(), OWN) })?;
+        self.handle.sessions.borrow_mut().all_ended();
+        Ok(count)
     }
 
-    /// Lets go of the sessions that are held, which stay open, and answers how many.
+    /// Lets go of the sessions that are held, which stay open, those of blocks too, and answers how many.
     pub fn push(&mut self) -> Result<u64, Error> {
         // SAFETY: as in `answer`.
-        number_of(unsafe { raw::weltiyo_push(self.handle.as_ptr(), OWN) })
+        let count = number_of(unsafe { raw::weltiyo_push(self.handle.as_ptr(), OWN) })?;
+        self.handle.sessions.borrow_mut().pushed(count);
+        Ok(count)
     }
 
     /// A session for a block: it is undone where it is dropped, unless it was squashed or pushed before.
     pub fn session(&mut self) -> Result<Session<'_>, Error> {
         // SAFETY: as in `answer`.
-        number_of(unsafe { raw::weltiyo_start(self.handle.as_ptr(), OWN) })?;
-        Ok(Session { began_in: Rc::clone(&self.handle), db: self, is_over: false })
+        let revision = number_of(unsafe { raw::weltiyo_start(self.handle.as_ptr(), OWN) })?;
+        let guard = self.handle.sessions.borrow_mut().begun_by_guard(OWN, revision);
+        Ok(Session { began_in: Rc::clone(&self.handle), db: self, guard, is_over: false })
     }
 
     /// A connection goes away: the sessions that it holds are undone. It takes no memory.
     pub fn release(&mut self, connection: u64) {
         // SAFETY: as in `answer`.
         unsafe { raw::weltiyo_release(self.handle.as_ptr(), connection) }
+        self.handle.sessions.borrow_mut().released(connection);
     }
 }
 
 /// A session of a block. What is asked of it is asked of its database, so sessions within it end before it does. Where another database is put
-/// in the place of its own meanwhile, as by `mem::swap`, that one is asked; what ends is the session that was begun.
+/// in the place of its own meanwhile, as by `mem::swap`, that one is asked; what ends is the session that was begun, with those that were begun in
+/// it and are open still, and no other. Where a line or a call of the database has ended or pushed its own, it does nothing. Where one that was
+/// begun in it was pushed, its own stays open as if it had been pushed too.
 #[derive(Debug)]
 pub struct Session<'a> {
     db: &'a mut Database,
     began_in: Rc<Opened>,
+    guard: u64,
     is_over: bool,
 }
 
 impl Session<'_> {
-    /// What was done is left to the session below, or stays where there is none.
+    /// What was done is left to the session below, or stays where there is none. Refused with the word `session` where it ends none.
     pub fn squash(mut self) -> Result<(), Error> {
         self.is_over = true;
-        self.began_in.squash()
+        self.began_in.end(self.guard, raw::weltiyo_squash)
     }
 
-    /// All of it is undone now.
+    /// All of it is undone now. Refused with the word `session` where it ends none.
     pub fn undo(mut self) -> Result<(), Error> {
         self.is_over = true;
-        self.began_in.undo()
+        self.began_in.end(self.guard, raw::weltiyo_undo)
     }
 
     /// The session stays open behind the block; an undo, a squash or a commit of the database ends it.
     pub fn push(mut self) {
         self.is_over = true;
+        self.began_in.sessions.borrow_mut().disown(self.guard);
     }
 }
 
 impl Drop for Session<'_> {
     fn drop(&mut self) {
         if !self.is_over {
-            // (it takes no memory, so it isn't refused; where a line of the caller's has ended the session, the one below is undone, if one is open)
-            let _ = self.began_in.undo();
+            // (it takes no memory, so it is refused where it ends none alone)
+            let _ = self.began_in.end(self.guard, raw::weltiyo_undo);
         }
     }
 }

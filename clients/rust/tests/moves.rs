@@ -61,6 +61,42 @@ fn put_away_in_a_session() -> Result<(), Error> {
     Ok(())
 }
 
+/// A session of a block ends its own alone: not the pushed one below where its own has ended, and not the pushed one above.
+#[test]
+fn only_its_own() -> Result<(), Error> {
+    let mut db = opened();
+    db.session()?.push();
+    db.insert(0, &row("kept"))?;
+    let steps: [fn(&mut Database) -> Result<(), Error>; 3] =
+        [Database::undo, Database::squash, |db| db.ask(r#"{"cmd":"undo"}"#).map(drop)];
+    for step in steps {
+        let mut session = db.session()?;
+        step(&mut session)?;
+        drop(session);
+        let mut session = db.session()?;
+        step(&mut session)?;
+        assert_eq!(session.squash().unwrap_err().word(), "session");
+    }
+    let mut session = db.session()?;
+    session.session()?.push();
+    drop(session);
+    assert_eq!((db.size(0)?, db.undo_all()?), (1, 3));
+    Ok(())
+}
+
+/// What was begun in a block and is open still ends with it: by a line, or by a session that is never dropped.
+#[test]
+fn begun_within() -> Result<(), Error> {
+    let mut db = opened();
+    let mut session = db.session()?;
+    session.ask(r#"{"cmd":"start"}"#)?;
+    mem::forget(session.session()?);
+    session.insert(0, &row("ann"))?;
+    drop(session);
+    assert_eq!((db.size(0)?, db.undo_all()?), (0, 0));
+    Ok(())
+}
+
 #[test]
 fn largest_pages() -> Result<(), Error> {
     let (mut db, mut page) = (opened(), Page::new(usize::MAX));

@@ -40,6 +40,33 @@ fn sessions_nest() -> Result<(), Error> {
     Ok(())
 }
 
+/// What ends or pushes the session of a block beside its guard, which then does nothing.
+#[test]
+fn ended_beside_its_guard() -> Result<(), Error> {
+    let line = |text: &'static str| move |db: &mut Database| db.ask(text).map(drop);
+    let steps: [(&dyn Fn(&mut Database) -> Result<(), Error>, u64); 9] = [
+        (&|db| db.commit(9).map(drop), 0),
+        (&|db| db.undo_all().map(drop), 0),
+        (&|db| db.push().map(drop), 2),
+        (&|db| Ok(db.release(OWN)), 1),
+        (&line(r#"{"cmd":"squash"}"#), 1),
+        (&line(r#"{"cmd":"commit","revision":9}"#), 0),
+        (&line(r#"{"cmd":"undo_all"}"#), 0),
+        (&line(r#"{"cmd":"push"}"#), 2),
+        (&|db| db.undo().and_then(|()| Ok(db.session()?.push())), 2),
+    ];
+    for (n, (step, left)) in steps.iter().enumerate() {
+        let mut db = Database::open("")?;
+        db.session()?.push();
+        db.push()?;
+        let mut session = db.session()?;
+        step(&mut session)?;
+        drop(session);
+        assert_eq!(db.undo_all()?, *left, "step {n}");
+    }
+    Ok(())
+}
+
 #[test]
 fn a_pushed_session_is_held_until_its_connection_goes() -> Result<(), Error> {
     let mut db = Database::open("")?;
