@@ -11,6 +11,9 @@
 //     }
 //     const auto id = db.insert(0, {"bob", 7, true});     // the same commands with values in place of a line
 //     db.add(0, id, 1, -2);
+//     weltiyo::RowBuffer bob;                             // (which takes row after row, and no memory for each)
+//     db.get(bob, 0, id);
+//     std::cout << bob.text(0) << ' ' << bob.number(1) << '\n';
 //     weltiyo::Page page(10);
 //     db.range(page, 0, 2, weltiyo::Lower::from({5}));    // (index 0 is the one of ids, and index 2 `by_balance`)
 //     for (const auto row : page)
@@ -348,6 +351,35 @@ private:
     const char *texts_;
 };
 
+// Room for a row that is copied. It is filled by `Database::get`, `find` and `nth`, again and again: it keeps its memory, so this is the fastest way
+// to read rows one by one. What it lends stays until it is filled again.
+class RowBuffer {
+public:
+    std::uint64_t id() const noexcept { return id_; }
+
+    // How many columns it has: none before it was filled, and where a call was refused.
+    std::size_t size() const noexcept { return count_; }
+    bool empty() const noexcept { return count_ == 0; }
+
+    // The row, and what a `RowView` has: the value of a column, and a copy.
+    RowView view() const noexcept { return {id_, values_.data(), count_, texts_.data()}; }
+    std::int64_t number(std::size_t column) const { return view().number(column); }
+    bool flag(std::size_t column) const { return view().flag(column); }
+    std::string_view text(std::size_t column) const { return view().text(column); }
+    Row row() const { return view().row(); }
+
+private:
+    friend class Database;
+
+    // (room to begin with)
+    static constexpr std::size_t usual_texts = 1024;
+
+    std::uint64_t id_ = 0;
+    std::size_t count_ = 0;
+    std::array<weltiyo_value, WELTIYO_ROW_VALUES> values_{};
+    std::vector<char> texts_;
+};
+
 // The first rows of a range or a list, copied. It is filled by `Database::range` and `Database::list`, again and again: it keeps its memory, and
 // takes more only for a page that is larger than those before.
 class Page {
@@ -557,25 +589,27 @@ public:
     // The row of an id.
     Row get(std::size_t table, std::uint64_t id) {
         Row row;
-        well(copied(row, [&](weltiyo_value *values, char *texts) {
-            return weltiyo_get(handle(), table, id, values, WELTIYO_ROW_VALUES, texts, WELTIYO_ROW_TEXTS);
-        }));
+        well(copied(row, table, Get{handle(), table, id}));
         return row;
     }
 
+    // The same, into a buffer.
+    void get(RowBuffer &row, std::size_t table, std::uint64_t id) { well(buffered(row, table, Get{handle(), table, id})); }
+
     // The first row of a key, or in an ordered or ranked index of the first values of one, if there is one.
-    std::optional<Found> find(std::size_t table, std::size_t index, const Key &key) {
-        return if_there([&](weltiyo_value *values, char *texts) {
-            return weltiyo_find(handle(), table, index, key.values_.data(), key.count_, key.texts_.data(), key.texts_.size(), values,
-                                WELTIYO_ROW_VALUES, texts, WELTIYO_ROW_TEXTS);
-        });
+    std::optional<Found> find(std::size_t table, std::size_t index, const Key &key) { return if_there(table, Find{handle(), table, index, key}); }
+
+    // The same, into a buffer: whether there is one.
+    bool find(RowBuffer &row, std::size_t table, std::size_t index, const Key &key) {
+        return is_there(buffered(row, table, Find{handle(), table, index, key}));
     }
 
     // The row of a ranked index before which `n` others stand, if there is one.
-    std::optional<Found> nth(std::size_t table, std::size_t index, std::uint64_t n) {
-        return if_there([&](weltiyo_value *values, char *texts) {
-            return weltiyo_nth(handle(), table, index, n, values, WELTIYO_ROW_VALUES, texts, WELTIYO_ROW_TEXTS);
-        });
+    std::optional<Found> nth(std::size_t table, std::size_t index, std::uint64_t n) { return if_there(table, Nth{handle(), table, index, n}); }
+
+    // The same, into a buffer: whether there is one.
+    bool nth(RowBuffer &row, std::size_t table, std::size_t index, std::uint64_t n) {
+        return is_there(buffered(row, table, Nth{handle(), table, index, n}));
     }
 
     // How many rows have a key, or in an ordered or ranked index the first values of one.
@@ -680,29 +714,75 @@ private:
         std::string texts;
     };
 
+    // The calls that copy a row, which are given room for it.
+    struct Get {
+        weltiyo_db *handle;
+        std::size_t table;
+        std::uint64_t id;
+
+        weltiyo_told operator()(weltiyo_value *values, char *texts, std::size_t room) const {
+            return weltiyo_get(handle, table, id, values, WELTIYO_ROW_VALUES, texts, room);
+        }
+    };
+
+    struct Find {
+        weltiyo_db *handle;
+        std::size_t table, index;
+        const Key &key;
+
+        weltiyo_told operator()(weltiyo_value *values, char *texts, std::size_t room) const {
+            return weltiyo_find(handle, table, index, key.values_.data(), key.count_, key.texts_.data(), key.texts_.size(), values,
+                                WELTIYO_ROW_VALUES, texts, room);
+        }
+    };
+
+    struct Nth {
+        weltiyo_db *handle;
+        std::size_t table, index;
+        std::uint64_t n;
+
+        weltiyo_told operator()(weltiyo_value *values, char *texts, std::size_t room) const {
+            return weltiyo_nth(handle, table, index, n, values, WELTIYO_ROW_VALUES, texts, room);
+        }
+    };
+
     // What a call tells that copies a row, and the row where there is one.
-    template <class Call> static weltiyo_told copied(Row &row, Call call) {
-        weltiyo_value values[WELTIYO_ROW_VALUES] = {};
+    template <class Call> weltiyo_told copied(Row &row, std::size_t table, Call call) {
+        weltiyo_value values[WELTIYO_ROW_VALUES];
         char texts[WELTIYO_ROW_TEXTS];
-        // (what isn't written stays of a kind that there isn't)
-        for (weltiyo_value &it : values)
-            it.kind = WELTIYO_TRUE + 1;
-        const weltiyo_told told = call(values, texts);
-        std::size_t count = 0;
-        while (count < WELTIYO_ROW_VALUES && values[count].kind <= WELTIYO_TRUE)
-            count++;
+        const weltiyo_told told = call(values, texts, sizeof texts);
         if (told.status == 0)
-            row = RowView(told.number, values, count, texts).row();
+            row = RowView(told.number, values, column_count(table, told.number), texts).row();
         return told;
     }
 
+    // The same into a buffer, by a call that is made again where it wants more room.
+    template <class Call> weltiyo_told buffered(RowBuffer &row, std::size_t table, Call call) {
+        if (row.texts_.empty())
+            row.texts_.resize(RowBuffer::usual_texts);
+        row.count_ = 0;
+        weltiyo_told told = call(row.values_.data(), row.texts_.data(), row.texts_.size());
+        if (told.status == WELTIYO_NO_ROOM) {
+            row.texts_.resize(WELTIYO_ROW_TEXTS);
+            told = call(row.values_.data(), row.texts_.data(), row.texts_.size());
+        }
+        if (told.status == 0) {
+            row.id_ = told.number;
+            row.count_ = column_count(table, told.number);
+        }
+        return told;
+    }
+
+    // Whether a call has found a row. Throws Refused.
+    static bool is_there(weltiyo_told told) { return told.status != WELTIYO_REFUSED_ID && (well(told), true); }
+
     // The row that a call copies, and its id, or none where there is no such row.
-    template <class Call> static std::optional<Found> if_there(Call call) {
+    template <class Call> std::optional<Found> if_there(std::size_t table, Call call) {
         Found found;
-        const weltiyo_told told = copied(found.row, call);
-        if (told.status == WELTIYO_REFUSED_ID)
+        const weltiyo_told told = copied(found.row, table, call);
+        if (!is_there(told))
             return {};
-        found.id = well(told);
+        found.id = told.number;
         return found;
     }
 

@@ -13,6 +13,7 @@ using weltiyo::Page;
 using weltiyo::Place;
 using weltiyo::Refused;
 using weltiyo::Row;
+using weltiyo::RowBuffer;
 using weltiyo::Session;
 using weltiyo::Upper;
 
@@ -323,6 +324,47 @@ static void look_ups() {
     EXPECT(!db.nth(0, by_balance, 3));
 }
 
+// One buffer takes row after row, of every length, and lends them.
+static void buffered() {
+    auto db = filled();
+    RowBuffer row;
+    EXPECT(row.empty() && row.view().size() == 0);
+    db.get(row, 0, 1);
+    EXPECT(row.id() == 1 && row.size() == 3 && row.text(0) == "bob" && row.number(1) == 7 && row.flag(2));
+    EXPECT(db.find(row, 0, by_owner, {"ann"}) && row.id() == 0 && (row.row() == Row{"ann", 50, false}) && row.view().text(0) == "ann");
+    EXPECT(!db.find(row, 0, by_owner, {"an"}) && row.empty());
+    EXPECT(db.nth(row, 0, by_balance, 1) && row.text(0) == "eve, whose name is long");
+    EXPECT(!db.nth(row, 0, by_balance, 3) && row.empty());
+    EXPECT(refused([&] { db.get(row, 0, 9); }) == "id" && row.empty());
+    EXPECT(refused([&] { db.get(row, 1, 0); }) == "table");
+    EXPECT(refused([&] { db.find(row, 0, line, {1}); }) == "kind");
+    EXPECT(refused([&] { db.nth(row, 0, by_owner, 0); }) == "kind");
+    db.get(row, 0, 1);
+    const RowBuffer copy = row;
+    RowBuffer other = std::move(row);
+    EXPECT(copy.text(0) == "bob" && other.text(0) == "bob");
+    db.get(row, 0, 0);
+    EXPECT(row.text(0) == "ann" && copy.text(0) == "bob" && other.text(0) == "bob");
+}
+
+// A row whose texts want all the room that any row does, behind one that wants little.
+static void buffered_texts() {
+    std::string columns, separator;
+    for (int n = 0; n < 16; n++, separator = ", ")
+        columns += separator + "{ name = \"c" + std::to_string(n) + "\", type = \"text\" }";
+    Database db("table = \"t\"\ncolumn = [" + columns + "]\n");
+    Row wide;
+    for (int n = 0; n < 16; n++)
+        wide.emplace_back(std::string(1024, static_cast<char>('a' + n)));
+    db.insert(0, Row(16, ""));
+    db.insert(0, wide);
+    RowBuffer row;
+    db.get(row, 0, 0);
+    EXPECT(row.row() == Row(16, ""));
+    db.get(row, 0, 1);
+    EXPECT(row.row() == wide && db.get(0, 1) == wide && db.nth(0, by_id, 1)->row == wide);
+}
+
 static void pages() {
     auto db = filled();
     Page page(2);
@@ -388,6 +430,8 @@ int main() {
     values();
     changes();
     look_ups();
+    buffered();
+    buffered_texts();
     pages();
     pages_of_texts();
     opening();
