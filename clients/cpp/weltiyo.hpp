@@ -56,9 +56,9 @@ private:
     std::uint32_t status_;
 };
 
-// A command that was refused. `reply` is the whole reply to a line, `word` the reason in it. Of a call with values `reply` has the word alone:
-// where a unique index refuses, `told` has what a line's reply says besides, the index (by its number), the record that has the key, and whether
-// the one that was to be modified is lost.
+// A command that was refused. `what` is the reply, `word` the reason in it. Of a call with values the reply is the line's, with the index by its
+// number: {"error":"unique","id":0,"index":1,"ok":false}. Where one column of what was given is at fault, it is named besides, by its number:
+// {"error":"row","column":1,"ok":false}.
 class Refused : public std::runtime_error {
 public:
     // (what is no refusal has no word)
@@ -67,12 +67,15 @@ public:
             word_ = reply.substr(front().size(), reply.find('"', front().size()) - front().size());
     }
 
-    explicit Refused(weltiyo_told told)
-        : std::runtime_error(std::string(front()) + weltiyo_refusal_word(told.status) + "\",\"ok\":false}"),
-          word_(weltiyo_refusal_word(told.status)), told_(told) {}
+    // `is_modify` where the reply tells whether the record is lost.
+    explicit Refused(weltiyo_told told, std::optional<std::size_t> column = {}, bool is_modify = false)
+        : std::runtime_error(said(told, column, is_modify)), word_(weltiyo_refusal_word(told.status)), told_(told), column_(column) {}
 
     // What a call with values told; its status is 0 of a line.
     weltiyo_told told() const noexcept { return told_; }
+
+    // The number of the column that is at fault: with `row` one whose value doesn't fit or is missing, with `range` one whose sum leaves 64 bits.
+    std::optional<std::size_t> column() const noexcept { return column_; }
 
     std::string_view reply() const noexcept { return what(); }
 
@@ -85,8 +88,23 @@ private:
     // (a refusal begins so, and no other reply does)
     static constexpr std::string_view front() noexcept { return "{\"error\":\""; }
 
+    static std::string said(weltiyo_told told, std::optional<std::size_t> column, bool is_modify) {
+        std::string reply(front());
+        reply.append(weltiyo_refusal_word(told.status)).append("\",");
+        if (column)
+            reply += "\"column\":" + std::to_string(*column) + ',';
+        const bool is_lost = told.status == WELTIYO_REFUSED_LOST;
+        if (is_lost || told.status == WELTIYO_REFUSED_UNIQUE) {
+            reply += "\"id\":" + std::to_string(told.number) + ",\"index\":" + std::to_string(told.index) + ',';
+            if (is_modify)
+                reply.append("\"lost\":").append(is_lost ? "true," : "false,");
+        }
+        return reply + "\"ok\":false}";
+    }
+
     std::string word_;
     weltiyo_told told_{};
+    std::optional<std::size_t> column_;
 };
 
 // A value of a row: a whole number, a text, true or false.
@@ -539,25 +557,30 @@ public:
     // Adds a row, and answers its id.
     std::uint64_t insert(std::size_t table, const Row &row, std::uint64_t connection = own) {
         const Laid laid(row);
-        return well(weltiyo_insert(handle(), connection, table, laid.values.data(), row.size(), laid.texts.data(), laid.texts.size()));
+        return fitting(weltiyo_insert(handle(), connection, table, laid.values.data(), row.size(), laid.texts.data(), laid.texts.size()), table, laid,
+                       connection);
     }
 
     // The same, at a place of a sequenced index.
     std::uint64_t insert(std::size_t table, const Row &row, Place place, std::uint64_t connection = own) {
         const Laid laid(row);
-        return well(weltiyo_insert_before(
-            handle(), connection, table, laid.values.data(), row.size(), laid.texts.data(), laid.texts.size(), place.index, place.before));
+        return fitting(weltiyo_insert_before(handle(), connection, table, laid.values.data(), row.size(), laid.texts.data(), laid.texts.size(),
+                                             place.index, place.before),
+                       table, laid, connection);
     }
 
     // Sets another row for an id.
     void replace(std::size_t table, std::uint64_t id, const Row &row, std::uint64_t connection = own) {
         const Laid laid(row);
-        well(weltiyo_replace(handle(), connection, table, id, laid.values.data(), row.size(), laid.texts.data(), laid.texts.size()));
+        fitting(weltiyo_replace(handle(), connection, table, id, laid.values.data(), row.size(), laid.texts.data(), laid.texts.size()), table, laid,
+                connection);
     }
 
     // Adds a number to a column. Where a unique index refuses the result, nothing changes.
     void add(std::size_t table, std::uint64_t id, std::size_t column, std::int64_t number, std::uint64_t connection = own) {
-        well(weltiyo_modify_add(handle(), connection, table, id, column, number, 1));
+        const weltiyo_told told = weltiyo_modify_add(handle(), connection, table, id, column, number, 1);
+        if (told.status != 0)
+            throw Refused(told, is_of_column(told) ? std::optional(column) : std::nullopt, true);
     }
 
     // Makes edits, each of a column of its own. Where a unique index refuses the result, nothing changes; without `rollback` the row is erased then.
@@ -567,7 +590,12 @@ public:
         made.reserve(edits.size() + 1); // (no pointer is null)
         for (const Edit &it : edits)
             made.push_back({it.kind, it.column, detail::laid(it.value, texts)});
-        well(weltiyo_modify(handle(), connection, table, id, made.data(), edits.size(), texts.data(), texts.size(), rollback));
+        const weltiyo_told told = weltiyo_modify(handle(), connection, table, id, made.data(), edits.size(), texts.data(), texts.size(), rollback);
+        if (told.status == 0)
+            return;
+        if (told.status == WELTIYO_REFUSED_RANGE)
+            throw Refused(told, overflown(table, id, edits), true);
+        throw Refused(told, told.status == WELTIYO_REFUSED_ROW ? misfit(table, made, texts, connection) : std::nullopt, true);
     }
 
     // Erases a row.
@@ -713,6 +741,44 @@ private:
         std::vector<weltiyo_value> values;
         std::string texts;
     };
+
+    // What a call told that was given a row. Throws Refused.
+    std::uint64_t fitting(weltiyo_told told, std::size_t table, const Laid &laid, std::uint64_t connection) {
+        if (told.status != WELTIYO_REFUSED_ROW)
+            return well(told);
+        std::vector<weltiyo_edit> puts;
+        for (const weltiyo_value &it : laid.values)
+            puts.push_back({WELTIYO_PUT, puts.size(), it});
+        throw Refused(told, misfit(table, puts, laid.texts, connection).value_or(puts.size())); // (where each fits, the next one is missing)
+    }
+
+    // Whether a column that is added to is at fault.
+    static bool is_of_column(weltiyo_told told) noexcept { return told.status == WELTIYO_REFUSED_ROW || told.status == WELTIYO_REFUSED_RANGE; }
+
+    // The column of the first edit that doesn't fit, or has the column of another. Each is tried alone on a record that can't be there, so nothing
+    // changes, and only what doesn't fit is refused by `row`.
+    std::optional<std::size_t> misfit(std::size_t table, const std::vector<weltiyo_edit> &edits, const std::string &texts, std::uint64_t connection) {
+        for (auto it = edits.begin(); it != edits.end(); ++it) {
+            const auto told = weltiyo_modify(handle(), connection, table, UINT64_MAX, &*it, 1, texts.data(), texts.size(), 1);
+            const bool is_second = std::any_of(edits.begin(), it, [&](const weltiyo_edit &other) { return other.column == it->column; });
+            if (told.status == WELTIYO_REFUSED_ROW || is_second)
+                return it->column;
+        }
+        return {};
+    }
+
+    // The column of the first sum that leaves 64 bits.
+    std::optional<std::size_t> overflown(std::size_t table, std::uint64_t id, const std::vector<Edit> &edits) {
+        const Row row = get(table, id);
+        for (const Edit &it : edits) {
+            if (it.kind != WELTIYO_ADD)
+                continue;
+            const std::int64_t had = row[it.column].number(), more = it.value.number();
+            if (more > 0 ? had > INT64_MAX - more : had < INT64_MIN - more)
+                return it.column;
+        }
+        return {};
+    }
 
     // The calls that copy a row, which are given room for it.
     struct Get {

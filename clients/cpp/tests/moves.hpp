@@ -178,7 +178,13 @@ inline void refusals() {
         add(db, "ann");
         EXPECT(false);
     } catch (const Refused &it) {
-        EXPECT(it.reply() == R"({"error":"unique","ok":false})" && it.told().index == 1 && it.told().number == 0);
+        EXPECT(it.reply() == R"({"error":"unique","id":0,"index":1,"ok":false})" && it.told().index == 1 && it.told().number == 0);
+    }
+    try {
+        db.insert(0, {"bob", true, true});
+        EXPECT(false);
+    } catch (const Refused &it) {
+        EXPECT(it.reply() == R"({"error":"row","column":1,"ok":false})" && it.column() == 1u);
     }
     EXPECT(Refused("busy").word().empty() && Refused(R"({"error":"busy")").word() == "busy");
 }

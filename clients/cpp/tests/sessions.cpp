@@ -305,6 +305,50 @@ static void changes() {
     EXPECT(refused([&] { db.size(1); }) == "table");
 }
 
+// What a refusal says; or none where nothing is refused.
+template <class Call> static std::string said(Call call) {
+    try {
+        call();
+    } catch (const Refused &it) {
+        return it.what();
+    }
+    return "";
+}
+
+static std::string of_column(const std::string &word, std::size_t column) {
+    return "{\"error\":\"" + word + "\",\"column\":" + std::to_string(column) + ",\"ok\":false}";
+}
+
+// A refusal names the index and the record as a line's reply does, and the column that is at fault.
+static void told_in_words() {
+    auto db = filled();
+    EXPECT(said([&] { db.insert(0, {"ann", 1, true}); }) == R"({"error":"unique","id":0,"index":1,"ok":false})");
+    EXPECT(said([&] { db.replace(0, 1, {"ann", 1, true}); }) == R"({"error":"unique","id":0,"index":1,"ok":false})");
+    EXPECT(said([&] { db.modify(0, 1, {Edit::put(0, "ann")}); }) == R"({"error":"unique","id":0,"index":1,"lost":false,"ok":false})");
+    EXPECT(said([&] { db.modify(0, 2, {Edit::put(0, "ann")}, false); }) == R"({"error":"unique","id":0,"index":1,"lost":true,"ok":false})");
+    EXPECT(said([&] { db.insert(0, {"bob", true, true}); }) == of_column("row", 1));
+    EXPECT(said([&] { db.insert(0, {std::string(1025, 'x'), 1, true}); }) == of_column("row", 0));
+    EXPECT(said([&] { db.insert(0, {"bob", 1}); }) == of_column("row", 2));
+    EXPECT(said([&] { db.insert(0, {}); }) == of_column("row", 0));
+    EXPECT(said([&] { db.insert(0, {"bob", 1, true, 4}); }) == of_column("row", 3));
+    EXPECT(said([&] { db.insert(0, {"bob", 1, 0}, Place{line, 1}); }) == of_column("row", 2));
+    EXPECT(said([&] { db.replace(0, 1, {"bob", "x", 0}); }) == of_column("row", 1));
+    EXPECT(said([&] { db.add(0, 1, 2, 5); }) == of_column("row", 2));
+    EXPECT(said([&] { db.add(0, 1, 1, INT64_MAX); }) == of_column("range", 1));
+    EXPECT(said([&] { db.modify(0, 1, {Edit::put(1, 5), Edit::put(2, 5)}); }) == of_column("row", 2));
+    EXPECT(said([&] { db.modify(0, 1, {Edit::add(1, 5), Edit::add(0, 5)}); }) == of_column("row", 0));
+    EXPECT(said([&] { db.modify(0, 1, {Edit::put(2, true), Edit::put(0, "x"), Edit::put(2, false)}); }) == of_column("row", 2));
+    EXPECT(said([&] { db.modify(0, 1, {Edit::put(0, "x"), Edit::add(1, INT64_MAX)}); }) == of_column("range", 1));
+    EXPECT(said([&] { db.modify(0, 9, {Edit::put(0, "x")}); }) == R"({"error":"id","ok":false})");
+    EXPECT((db.get(0, 1) == Row{"bob", 7, true}) && db.size(0) == 2);
+    try {
+        db.insert(0, {"bob", true, true}, 1);
+        EXPECT(false);
+    } catch (const Refused &it) {
+        EXPECT(it.column() == 1u && it.word() == "row" && it.told().status == WELTIYO_REFUSED_ROW && Refused::is_one(it.reply()));
+    }
+}
+
 static void look_ups() {
     auto db = filled();
     const auto bob = db.find(0, by_class, {true});
@@ -429,6 +473,7 @@ int main() {
     disarmed([](Session &it) { Session moved(std::move(it)); });
     values();
     changes();
+    told_in_words();
     look_ups();
     buffered();
     buffered_texts();

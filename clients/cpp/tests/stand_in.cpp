@@ -184,6 +184,21 @@ weltiyo_told weltiyo_insert(weltiyo_db *handle, uint64_t connection, size_t, con
     return told(handle->next++);
 }
 
+// (of a record that isn't there alone)
+weltiyo_told weltiyo_modify(weltiyo_db *handle, uint64_t connection, size_t, uint64_t, const weltiyo_edit *edits, size_t count, const void *texts,
+                            size_t, uint32_t) {
+    OPEN(handle);
+    NOT_NULL(edits);
+    NOT_NULL(texts);
+    if (is_kept_out(handle, connection))
+        return refused(WELTIYO_REFUSED_BUSY);
+    const uint32_t least[] = {WELTIYO_TEXT, WELTIYO_INT, WELTIYO_FALSE}, most[] = {WELTIYO_TEXT, WELTIYO_INT, WELTIYO_TRUE};
+    for (size_t n = 0; n < count; n++)
+        if (edits[n].column > 2 || edits[n].value.kind < least[edits[n].column] || edits[n].value.kind > most[edits[n].column])
+            return refused(WELTIYO_REFUSED_ROW);
+    return refused(WELTIYO_REFUSED_ID);
+}
+
 weltiyo_told weltiyo_size(weltiyo_db *handle, size_t) {
     OPEN(handle);
     return told(handle->table.size());
