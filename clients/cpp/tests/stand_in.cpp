@@ -218,6 +218,19 @@ weltiyo_told weltiyo_get(weltiyo_db *handle, size_t, uint64_t id, weltiyo_value 
     return told(id);
 }
 
+// (by the text)
+weltiyo_told weltiyo_find(weltiyo_db *handle, size_t table, size_t, const weltiyo_value *key, size_t, const void *key_texts, size_t,
+                          weltiyo_value *row, size_t count, void *texts, size_t room) {
+    OPEN(handle);
+    NOT_NULL(key);
+    NOT_NULL(key_texts);
+    const std::string text(weltiyo_text(key_texts, key), key->length);
+    for (const auto &it : handle->table)
+        if (it.second.text == text)
+            return weltiyo_get(handle, table, it.first, row, count, texts, room);
+    return refused(WELTIYO_REFUSED_ID);
+}
+
 weltiyo_told weltiyo_list(weltiyo_db *handle, size_t, size_t, uint32_t, uint64_t, uint64_t *ids, size_t most, weltiyo_value *rows, size_t values,
                           void *texts, size_t room) {
     OPEN(handle);

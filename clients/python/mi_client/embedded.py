@@ -15,11 +15,13 @@ import os
 import secrets
 import threading
 import warnings
-from typing import Any, Deque, Iterator, List, Optional, Set, Union
+from typing import Any, Callable, Deque, Dict, Iterator, List, Optional, Set, Tuple, Union
 
-from mi_client.calls import LONGEST_LINE
+from mi_client import calls, embedded_values
+from mi_client.calls import LONGEST_LINE, Key, Request, Row
 from mi_client.channel import Channel
 from mi_client.database import Database, schema_of
+from mi_client.embedded_values import ABSENT, Values
 from mi_client.errors import Ended
 from mi_client.schema import Schema
 
@@ -42,19 +44,20 @@ LONGEST_SCHEMA = 65_536
 def library(path: Optional[Path] = None) -> Any:
     """The library's calls: of this file, else of the one that WELTIYO_LIBRARY names, else of what the system's loader finds.
     Raises OSError where there is none."""
-    calls = ctypes.CDLL(os.fspath(path or os.environ.get("WELTIYO_LIBRARY") or "libweltiyo.so.0"))
+    found = ctypes.CDLL(os.fspath(path or os.environ.get("WELTIYO_LIBRARY") or "libweltiyo.so.0"))
     handle, number, text, size = ctypes.c_void_p, ctypes.c_uint64, ctypes.c_char_p, ctypes.c_size_t
-    calls.weltiyo_open.argtypes = (text, size, number, ctypes.POINTER(handle))
-    calls.weltiyo_open.restype = ctypes.c_uint32
-    calls.weltiyo_ask.argtypes = (handle, number, text, size, handle, size)
-    calls.weltiyo_ask.restype = size
-    calls.weltiyo_reply.argtypes = (handle, size, handle, size)
-    calls.weltiyo_reply.restype = size
-    calls.weltiyo_release.argtypes = (handle, number)
-    calls.weltiyo_release.restype = None
-    calls.weltiyo_close.argtypes = (handle,)
-    calls.weltiyo_close.restype = None
-    return calls
+    found.weltiyo_open.argtypes = (text, size, number, ctypes.POINTER(handle))
+    found.weltiyo_open.restype = ctypes.c_uint32
+    found.weltiyo_ask.argtypes = (handle, number, text, size, handle, size)
+    found.weltiyo_ask.restype = size
+    found.weltiyo_reply.argtypes = (handle, size, handle, size)
+    found.weltiyo_reply.restype = size
+    found.weltiyo_release.argtypes = (handle, number)
+    found.weltiyo_release.restype = None
+    found.weltiyo_close.argtypes = (handle,)
+    found.weltiyo_close.restype = None
+    embedded_values.prepare(found)
+    return found
 
 
 class Embedded(Database):
@@ -66,6 +69,7 @@ class Embedded(Database):
         super().__init__(lines, [lines], None, schema)
         self._lines = lines
         self._lock = lines.home  # type: ignore[assignment]
+        self._values = Values(schema, lines.number) if schema and lines.number else None
 
     @classmethod
     def open(cls, schema: Optional[Path] = None, library_file: Optional[Path] = None) -> Embedded:
@@ -92,6 +96,58 @@ class Embedded(Database):
                 raise Ended(self._closed_for)
             return type(self)(_Lines(self._lines.engine), self.schema)
 
+    # Calls with values: each answers what its line does
+
+    def get(self, id: int, table: Optional[str] = None) -> Row:
+        found = self._by_values(Values.get, id, table)
+        if type(found) is dict:
+            return found
+        return self._absent(calls.get(id, table)) if found else super().get(id, table)
+
+    def find(self, index: str, key: Key, table: Optional[str] = None) -> Row:
+        values = key
+        if type(key) is not list and type(key) is not tuple:
+            members = calls.find(index, key, table).members
+            values = self._dialect.key(members, members["key"])
+        found = self._by_values(Values.find, index, values, table) if type(values) is list or type(values) is tuple else None
+        if type(found) is dict:
+            return found
+        return self._absent(calls.find(index, key, table)) if found else super().find(index, key, table)
+
+    def insert(self, row: Row, table: Optional[str] = None, before: Optional[Tuple[str, int]] = None) -> int:
+        id = self._by_values(Values.insert, row, table) if before is None else None
+        return super().insert(row, table, before) if id is None else id
+
+    def modify(
+        self, id: int, set: Optional[Row] = None, add: Optional[Dict[str, int]] = None, rollback: bool = True, table: Optional[str] = None
+    ) -> None:
+        # (where it isn't put back a refusal changes something, and a line is asked alone)
+        if rollback is not True or not self._by_values(Values.modify, id, set, add, table):
+            super().modify(id, set, add, rollback, table)
+
+    def _absent(self, request: Request[Row]) -> Row:
+        """Raises what the line of this look-up does where there is no such record."""
+        self._dialect.line(request)  # (which puts the values of its key in order)
+        raise self._dialect.refusal(request.members, {"error": "id", "ok": False})
+
+    def _by_values(self, call: Callable[..., Any], *given: Any) -> Any:
+        """What a call with values answers, or None where a line is to be asked: nothing has changed then."""
+        engine, values = self._lines.engine, self._values
+        if values is None or self._ahead or engine.is_busy or not engine.home.thread.is_home:
+            return None
+        engine.is_busy = True
+        try:
+            # (where a signal handler has closed the connection by now a line says so; one that does so behind this is settled at the end)
+            answer = None if self._closed_for or engine._gone else call(values, engine._calls, engine._handle, *given)
+        except BaseException:
+            self._lines.is_busy = False
+            self.close()
+            raise
+        engine.is_busy = False
+        if engine._gone:
+            engine.settle()
+        return answer
+
     def pass_turn(self) -> None:
         """Nothing waits for a turn here."""
         with self._lock:
@@ -100,12 +156,21 @@ class Embedded(Database):
                 pass
 
 
+class _OfThread(threading.local):
+    """What is known of the thread that asks for it: whether it is the one that opened a handle, surely. (A thread that C made may be it all the
+    same.)"""
+
+    is_home = False
+
+
 class _OneThread:
     """In the place of a lock: a handle stays on its thread, so others are turned away."""
 
-    __slots__ = ("_thread", "_number")
+    __slots__ = ("_thread", "_number", "thread")
 
     def __init__(self) -> None:
+        self.thread = _OfThread()
+        self.thread.is_home = True
         # (not Python's number of it, which another one gets once it has ended; and the system's besides, since threads that C made are one
         # object to Python where they have the same number of it)
         self._thread, self._number = threading.current_thread(), threading.get_native_id()
@@ -206,7 +271,7 @@ class _Lines(Channel):
 
     def __init__(self, engine: _Engine) -> None:
         self.engine, self.home = engine, engine.home
-        self._number: Optional[int] = engine.attach()
+        self.number: Optional[int] = engine.attach()
         self._come: Deque[bytes] = collections.deque()
 
     @property
@@ -251,19 +316,19 @@ class _Lines(Channel):
             line = line[:-1]
         if not line:
             return None
-        number = self._number
+        number = self.number
         if number is None:
             raise Ended(CLOSED)
         return self.engine.ask(number, line)
 
     def close(self) -> None:
-        number, self._number = self._number, None
+        number, self.number = self.number, None
         if number is not None:
             self.engine.detach(number)
 
     def __del__(self) -> None:
-        if self._number is not None:
-            self.engine.forget(self._number)
+        if self.number is not None:
+            self.engine.forget(self.number)
 
 
 def _text_of(schema: Optional[Path]) -> bytes:

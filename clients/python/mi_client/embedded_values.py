@@ -1,0 +1,232 @@
+"""The library's calls with values in place of a line, for the commands that are asked most: what a caller gave is laid out in buffers that are made
+once, by the schema. What a call can't take, or refuses, is left to a line, which refuses it in its own words."""
+from __future__ import annotations
+
+import ctypes
+import operator
+import struct
+from typing import Any, Callable, Dict, List, Optional, Sequence, Tuple, Union
+
+from mi_client.calls import Row
+from mi_client.schema import Schema, Table
+
+TEXT, FALSE, TRUE = 1, 2, 3
+"""What a value is; a whole number is 0."""
+
+PUT, ADD = 0, 1
+"""What an edit does with its value."""
+
+ROW_VALUES, ROW_TEXTS = 16, 16 * 1024
+"""Room that any row fits."""
+
+VALUE_SIZE, EDIT_SIZE, MOST_EDITS = 32, 48, 32
+
+ABSENT = 10
+"""The status of a refusal: there is no such record."""
+
+LONGEST_TEXTS = 8192
+"""Texts of more bytes are left to a line, which may be too long a line once they are written as JSON."""
+
+MOST = 2**63 - 1
+
+UNFIT = (ValueError, LookupError, TypeError, struct.error)
+"""What laying out raises where a line is to be asked: a column or an index isn't there, a value is of another type, a number is beyond 64 bits, or a
+text is none of UTF-8."""
+
+TYPES = {"int": int, "text": str, "flag": bool}
+"""A call takes values of just these types; a line writes those made from them in ways of its own."""
+
+LAID = {"int": "8xq16x", "text": "I12xQQ", "flag": "I28x"}
+READ = {"int": "8xq16x", "text": "16xQQ", "flag": "I28x"}
+"""What differs from value to value, as it is written and as it is read."""
+
+EDIT = "I4xQ"
+"""What stands ahead of the value in an edit: what is done with it, and the column."""
+
+
+class Told(ctypes.Structure):
+    """What a call tells."""
+
+    _fields_ = [("status", ctypes.c_uint32), ("index", ctypes.c_uint32), ("number", ctypes.c_uint64)]
+
+
+def prepare(library: Any) -> None:
+    """Says what the calls give. What they take is handed over as C has it, which costs half of what a conversion of each number does."""
+    library.weltiyo_get.restype = library.weltiyo_modify.restype = ctypes.c_uint32  # (the status, which is told first)
+    library.weltiyo_find.restype = library.weltiyo_insert.restype = Told
+
+
+class Layout:
+    """How values of these types lie side by side, behind a head of an edit where there is one."""
+
+    def __init__(self, types: Sequence[str], head: str = "") -> None:
+        self.types = [TYPES[it] for it in types]
+        self.count = ctypes.c_size_t(len(types))
+        self._pack = struct.Struct("=" + head + "".join(LAID[it] for it in types)).pack_into
+
+    def lay(self, values: Sequence[Any], to: Any) -> bytes:
+        """Writes values to a buffer, and answers their texts, one behind another. Raises one of UNFIT."""
+        if list(map(type, values)) != self.types:
+            raise ValueError
+        fields: List[int] = []
+        texts = b""
+        for value in values:
+            if value is True:
+                fields.append(TRUE)
+            elif value is False:
+                fields.append(FALSE)
+            elif type(value) is int:
+                fields.append(value)
+            else:
+                text = value.encode()
+                fields += (TEXT, len(texts), len(text))
+                texts += text
+        if len(texts) > LONGEST_TEXTS:
+            raise ValueError
+        self._pack(to, 0, *fields)
+        return texts
+
+    def lay_one(self, value: Any, to: Any, at: int, begin: int, *head: int) -> bytes:
+        """The same of a value alone at a place of the buffer, behind its head; its text will begin there."""
+        wanted = self.types[0]
+        if type(value) is not wanted:
+            raise ValueError
+        if wanted is int:
+            self._pack(to, at, *head, value)
+        elif wanted is bool:
+            self._pack(to, at, *head, TRUE if value else FALSE)
+        else:
+            text: bytes = value.encode()
+            self._pack(to, at, *head, TEXT, begin, len(text))
+            return text
+        return b""
+
+
+class Rows:
+    """How the rows of a table lie, and its keys."""
+
+    def __init__(self, number: int, table: Table) -> None:
+        self.number = ctypes.c_size_t(number)
+        self.names = [it.name for it in table.columns]
+        self.pick: Callable[[Row], Sequence[Any]] = operator.itemgetter(*self.names) if len(self.names) > 1 else self._only
+        self.layout = Layout([it.type for it in table.columns])
+        self.columns = {it.name: (n, Layout([it.type], EDIT)) for n, it in enumerate(table.columns)}
+        self.keys: Dict[Tuple[str, int], Tuple[ctypes.c_size_t, Layout]] = {}
+        for n, index in enumerate(table.indexes):
+            types = [table.type_of(it) for it in index.columns]
+            for count in range(1, len(types) + 1):
+                self.keys[index.name, count] = ctypes.c_size_t(n), Layout(types[:count])
+        self._unpack = struct.Struct("=" + "".join(READ[it.type] for it in table.columns)).unpack_from
+        self._made = self._maker(table)
+
+    def _only(self, row: Row) -> Sequence[Any]:
+        """The values of a row of one column."""
+        return [row[it] for it in self.names]
+
+    @staticmethod
+    def _maker(table: Table) -> Callable[[Sequence[int], bytearray, int], Row]:
+        """What makes a row of what was unpacked, its texts and its id, with the columns in the order that replies have. It is one expression over the
+        columns, since loops over them take twice as long."""
+        members, place = {"id": "id"}, 0
+        for it in table.columns:
+            read = {"int": "v[{0}]", "text": "t[v[{0}]:v[{0}] + v[{1}]].decode()", "flag": f"v[{{0}}] == {TRUE}"}[it.type]
+            members[it.name] = read.format(place, place + 1)
+            place += 2 if it.type == "text" else 1
+        written = ", ".join(f"{name!r}: {members[name]}" for name in sorted(members))
+        made: Callable[[Sequence[int], bytearray, int], Row] = eval(f"lambda v, t, id: {{{written}}}")
+        return made
+
+    def read(self, id: int, values: Any, texts: bytearray) -> Row:
+        """A row out of the buffers."""
+        return self._made(self._unpack(values), texts, id)
+
+
+class Values:
+    """The calls of a connection, which have the library and the handle as first arguments: each answers None where a line is to be asked. One is made
+    at a time, since all share their buffers."""
+
+    def __init__(self, schema: Schema, connection: int) -> None:
+        self._rows: Dict[Optional[str], Rows] = {it.name: Rows(n, it) for n, it in enumerate(schema.tables) if it.column("id") is None}
+        if schema.tables[0].name in self._rows:
+            self._rows[None] = self._rows[schema.tables[0].name]
+        self._connection, self._id, self._length = ctypes.c_uint64(connection), ctypes.c_uint64(), ctypes.c_size_t()
+        self._given = ctypes.create_string_buffer(max(VALUE_SIZE * ROW_VALUES, EDIT_SIZE * MOST_EDITS))
+        self._values = ctypes.create_string_buffer(VALUE_SIZE * ROW_VALUES)
+        self._texts = bytearray(ROW_TEXTS)
+        self._room = (
+            self._values, ctypes.c_size_t(ROW_VALUES), (ctypes.c_char * ROW_TEXTS).from_buffer(self._texts), ctypes.c_size_t(ROW_TEXTS),
+        )
+        self._count, self._rollback = ctypes.c_size_t(), ctypes.c_uint32(1)
+
+    def get(self, library: Any, handle: Any, id: int, table: Optional[str]) -> Union[Row, int, None]:
+        """A row, or ABSENT."""
+        rows = self._rows.get(table)
+        if rows is None or type(id) is not int or not 0 <= id <= MOST:
+            return None
+        self._id.value = id
+        status: int = library.weltiyo_get(handle, rows.number, self._id, *self._room)
+        if status:
+            return ABSENT if status == ABSENT else None
+        return rows.read(id, self._values, self._texts)
+
+    def find(self, library: Any, handle: Any, index: str, key: Sequence[Any], table: Optional[str]) -> Union[Row, int, None]:
+        """The first row of a key, or ABSENT."""
+        rows = self._rows.get(table)
+        if rows is None:
+            return None
+        try:
+            count = len(key)
+            number, layout = rows.keys[index, count]
+            texts = layout.lay_one(key[0], self._given, 0, 0) if count == 1 else layout.lay(key, self._given)
+        except UNFIT:
+            return None
+        self._length.value = len(texts)
+        told = library.weltiyo_find(handle, rows.number, number, self._given, layout.count, texts, self._length, *self._room)
+        status: int = told.status
+        if status:
+            return ABSENT if status == ABSENT else None
+        return rows.read(told.number, self._values, self._texts)
+
+    def insert(self, library: Any, handle: Any, row: Row, table: Optional[str]) -> Optional[int]:
+        """The id of a new row."""
+        rows = self._rows.get(table)
+        if rows is None or type(row) is not dict or len(row) != len(rows.names):
+            return None
+        try:
+            texts = rows.layout.lay(rows.pick(row), self._given)
+        except UNFIT:
+            return None
+        self._length.value = len(texts)
+        told = library.weltiyo_insert(handle, self._connection, rows.number, self._given, rows.layout.count, texts, self._length)
+        return None if told.status else told.number
+
+    def modify(self, library: Any, handle: Any, id: int, put: Optional[Row], added: Optional[Row], table: Optional[str]) -> Optional[bool]:
+        """True where a row was modified, and put back where a unique index refuses it."""
+        rows = self._rows.get(table)
+        if rows is None or type(id) is not int or not 0 <= id <= MOST:
+            return None
+        try:
+            count, texts = self._edits(rows, put, added)
+        except UNFIT:
+            return None
+        self._id.value, self._count.value, self._length.value = id, count, len(texts)
+        status = library.weltiyo_modify(
+            handle, self._connection, rows.number, self._id, self._given, self._count, texts, self._length, self._rollback
+        )
+        return None if status else True
+
+    def _edits(self, rows: Rows, put: Optional[Row], added: Optional[Row]) -> Tuple[int, bytes]:
+        """Lays edits out: how many they are, one at least, and their texts. Raises one of UNFIT."""
+        count, texts = 0, b""
+        for kind, given in ((PUT, put), (ADD, added)):
+            if given is None:
+                continue
+            if type(given) is not dict:
+                raise ValueError
+            for name, value in given.items():
+                column, layout = rows.columns[name]
+                texts += layout.lay_one(value, self._given, EDIT_SIZE * count, len(texts), kind, column)
+                count += 1
+        if not count or len(texts) > LONGEST_TEXTS:
+            raise ValueError
+        return count, texts
