@@ -109,7 +109,7 @@ class Embedded(Database):
         if type(key) is not list and type(key) is not tuple:
             members = calls.find(index, key, table).members
             values = self._dialect.key(members, members["key"])
-        found = self._by_values(Values.find, index, values, table) if type(values) is list or type(values) is tuple else None
+        found = self._by_values(Values.find, index, values, table) if isinstance(values, (list, tuple)) else None
         if type(found) is dict:
             return found
         return self._absent(calls.find(index, key, table)) if found else super().find(index, key, table)
@@ -139,9 +139,8 @@ class Embedded(Database):
         try:
             # (where a signal handler has closed the connection by now a line says so; one that does so behind this is settled at the end)
             answer = None if self._closed_for or engine._gone else call(values, engine._calls, engine._handle, *given)
-        except BaseException:
-            self._lines.is_busy = False
-            self.close()
+        except BaseException as error:
+            self._unbroken.__exit__(type(error), error, error.__traceback__)
             raise
         engine.is_busy = False
         if engine._gone:

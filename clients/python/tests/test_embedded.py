@@ -131,6 +131,23 @@ class Several(unittest.TestCase):
             self.assertEqual(said, ["the connection is in the middle of a call"] * 2)
             self.assertEqual((db.revision().depth, other.size()), (0, 0))
 
+    def test_a_block_ends_its_own_session_alone(self):
+        """Not the one below where its own has ended, nor one that was pushed above it."""
+        for step in ("undo", "squash", "push"):
+            with Embedded.open() as db:
+                db.begin()
+                db.push()
+                with db.session():
+                    getattr(db, step)()
+                    left = db.revision().depth
+                self.assertEqual(db.revision().depth, left)
+                with self.assertRaises(ZeroDivisionError), db.session():
+                    db.begin()
+                    db.push()
+                    db.insert(ANN)
+                    raise ZeroDivisionError
+                self.assertEqual((db.revision().depth, db.size()), (left + 2, 1))
+
     def test_databases_know_nothing_of_each_other(self):
         with Embedded.open() as one, Embedded.open(f"{kit.TOP}/examples/shop.toml") as two:
             one.insert(ANN)

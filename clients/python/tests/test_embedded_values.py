@@ -1,7 +1,6 @@
 """The calls with values of a database in the process answer what their lines do: random calls are made on two databases, on one of them by lines
 alone, and each must answer or raise the same."""
 import json
-import os
 import random
 import unittest
 
@@ -96,7 +95,8 @@ class Calls:
         return self.of(*range(14), *([-1, 2**63 - 1, 2**63, 2**64, True, None, "0", 1.0, Whole(1)] if self.random.random() < 0.2 else []))
 
     KEYS = {
-        "id": ["id"], "by_name": ["name"], "by_all": ["on", "a", "zeta"], "by_n": ["n"], "by_on": ["on", "n"], "line": [], "by_only": ["only"], "none": [],
+        "id": ["id"], "by_name": ["name"], "by_all": ["on", "a", "zeta"], "by_n": ["n"], "by_on": ["on", "n"], "line": [], "by_only": ["only"],
+        "none": [],
     }
 
     def find(self, table):
@@ -132,8 +132,8 @@ class Calls:
                 named["rollback"] = self.of(False, None, True)
             return name, (self.id(),), named
         return self.of(
-            ("erase", (self.random.randrange(12),), {}), ("begin", (), {}), ("undo", (), {}), ("squash", (), {}), ("size", (), {}), ("revision", (), {}),
-            ("list", ("line",), {"table": "main"}),
+            ("erase", (self.random.randrange(12),), {}), ("list", ("line",), {"table": "main"}),
+            *((it, (), {}) for it in ("begin", "undo", "squash", "size", "revision")),
         )
 
 
@@ -160,13 +160,14 @@ class SameAsLines(unittest.TestCase):
                 name, words, named = calls.next()
                 came, wanted = values.made(name, words, named), lines.made(name, words, named)
                 self.assertEqual(came, wanted, f"seed {seed}, call {number}: {name}{words} {named}")
-                self.assertEqual(written(came), written(wanted), f"seed {seed}, call {number}: {name}{words} {named}")
+                self.assertEqual(repr(came), repr(wanted), f"seed {seed}, call {number}: {name}{words} {named}")
                 seen.add((name, came[0], came[1]["error"] if came[0] == "refused" else ""))
-            self.assertEqual(values.made("list", ("line", None, 1000), {"table": "main"}), lines.made("list", ("line", None, 1000), {"table": "main"}))
+            self.assertEqual(*(it.made("list", ("line", None, 1000), {"table": "main"}) for it in (values, lines)))
         wanted = {
             ("insert", "answer", ""), ("get", "answer", ""), ("find", "answer", ""), ("modify", "answer", ""), ("insert", "raised", ""),
             *(("insert", "refused", it) for it in ("row", "unique", "full", "table", "json")), ("get", "refused", "id"), ("get", "refused", "form"),
-            *(("find", "refused", it) for it in ("id", "key", "kind", "index")), *(("modify", "refused", it) for it in ("id", "row", "unique", "range")),
+            *(("find", "refused", it) for it in ("id", "key", "kind", "index")),
+            *(("modify", "refused", it) for it in ("id", "row", "unique", "range")),
         }
         self.assertEqual(wanted - seen, set())
 
@@ -223,11 +224,6 @@ class SameAsLines(unittest.TestCase):
             self.assertEqual(values.made(name, words, {})[1:], (Ended, "the connection is closed"))
 
 
-def written(made):
-    """What an answer is, with its types and the order of its members."""
-    return repr(made)
-
-
 class kept_from_lines:
     """A block in which the lines that a database asks are kept."""
 
@@ -260,7 +256,7 @@ class InTheMiddleOfACall(unittest.TestCase):
             self.assertEqual(str(error), "the connection is closed")
         if middle.is_over():
             db.close()
-        self.assertFalse(db.is_open() or engine.is_busy)
+        self.assertTrue(db._closed_for and not engine.is_busy)
         self.assertEqual(len(watched.closed), 1)
         return middle.is_over()
 
@@ -307,7 +303,7 @@ class InTheMiddleOfACall(unittest.TestCase):
         engine, calls = db._lines.engine, db._lines.engine._calls
         engine._calls = Broken()
         self.assertRaises(KeyboardInterrupt, db.get, 0)
-        self.assertFalse(db.is_open() or engine.is_busy)
+        self.assertTrue(db._closed_for and not engine.is_busy)
 
 
 if __name__ == "__main__":
