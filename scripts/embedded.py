@@ -169,8 +169,8 @@ class Bindings:
 
     def python(self, cases):
         self.answers("clients/python", [sys.executable, f"{CLIENTS}/python/tests/answers.py"], cases)
-        words = [sys.executable, "-m", "unittest", "test_embedded"]
-        self.check("clients/python/tests/test_embedded.py", self.run, words, f"{CLIENTS}/python/tests")
+        words = [sys.executable, "-m", "unittest", "test_embedded", "test_embedded_values"]
+        self.check("clients/python/tests/test_embedded.py and test_embedded_values.py", self.run, words, f"{CLIENTS}/python/tests")
 
     # Memory
 

@@ -20,7 +20,7 @@ from typing import Any, Callable, Deque, Dict, Iterator, List, Optional, Set, Tu
 from mi_client import calls, embedded_values
 from mi_client.calls import LONGEST_LINE, Key, Request, Row
 from mi_client.channel import Channel
-from mi_client.database import Database, schema_of
+from mi_client.database import Database
 from mi_client.embedded_values import ABSENT, Values
 from mi_client.errors import Ended
 from mi_client.schema import Schema
@@ -75,8 +75,9 @@ class Embedded(Database):
     def open(cls, schema: Optional[Path] = None, library_file: Optional[Path] = None) -> Embedded:
         """Opens the tables of a schema's file, or the built-in table. Raises OSError where the library isn't there, Ended with the word
         that the program says of such a schema, and MemoryError."""
-        engine = _Engine(library(library_file), _text_of(schema))
-        return cls(_Lines(engine), schema_of(schema))
+        text = _text_of(schema)
+        engine = _Engine(library(library_file), text)
+        return cls(_Lines(engine), Schema.built_in() if schema is None else _schema_in(text))
 
     @classmethod
     def start(cls, *_: Any, **__: Any) -> Database:
@@ -99,7 +100,7 @@ class Embedded(Database):
     # Calls with values: each answers what its line does
 
     def get(self, id: int, table: Optional[str] = None) -> Row:
-        found = self._by_values(Values.get, id, table)
+        found = self._by_values(Values.get, table, id)
         if type(found) is dict:
             return found
         return self._absent(calls.get(id, table)) if found else super().get(id, table)
@@ -109,20 +110,20 @@ class Embedded(Database):
         if type(key) is not list and type(key) is not tuple:
             members = calls.find(index, key, table).members
             values = self._dialect.key(members, members["key"])
-        found = self._by_values(Values.find, index, values, table) if isinstance(values, (list, tuple)) else None
+        found = self._by_values(Values.find, table, index, values) if isinstance(values, (list, tuple)) else None
         if type(found) is dict:
             return found
         return self._absent(calls.find(index, key, table)) if found else super().find(index, key, table)
 
     def insert(self, row: Row, table: Optional[str] = None, before: Optional[Tuple[str, int]] = None) -> int:
-        id = self._by_values(Values.insert, row, table) if before is None else None
+        id = self._by_values(Values.insert, table, row) if before is None else None
         return super().insert(row, table, before) if id is None else id
 
     def modify(
         self, id: int, set: Optional[Row] = None, add: Optional[Dict[str, int]] = None, rollback: bool = True, table: Optional[str] = None
     ) -> None:
         # (where it isn't put back a refusal changes something, and a line is asked alone)
-        if rollback is not True or not self._by_values(Values.modify, id, set, add, table):
+        if rollback is not True or not self._by_values(Values.modify, table, id, set, add):
             super().modify(id, set, add, rollback, table)
 
     def _absent(self, request: Request[Row]) -> Row:
@@ -130,15 +131,16 @@ class Embedded(Database):
         self._dialect.line(request)  # (which puts the values of its key in order)
         raise self._dialect.refusal(request.members, {"error": "id", "ok": False})
 
-    def _by_values(self, call: Callable[..., Any], *given: Any) -> Any:
+    def _by_values(self, call: Callable[..., Any], table: Optional[str], *given: Any) -> Any:
         """What a call with values answers, or None where a line is to be asked: nothing has changed then."""
         engine, values = self._lines.engine, self._values
-        if values is None or self._ahead or engine.is_busy or not engine.home.thread.is_home:
+        rows = values.rows(table) if values else None
+        if values is None or rows is None or self._ahead or engine.is_busy or not engine.home.thread.is_home:
             return None
         engine.is_busy = True
         try:
             # (where a signal handler has closed the connection by now a line says so; one that does so behind this is settled at the end)
-            answer = None if self._closed_for or engine._gone else call(values, engine._calls, engine._handle, *given)
+            answer = None if self._closed_for or engine._gone else call(values, engine._calls, engine._handle, rows, *given)
         except BaseException as error:
             self._unbroken.__exit__(type(error), error, error.__traceback__)
             raise
@@ -340,3 +342,12 @@ def _text_of(schema: Optional[Path]) -> bytes:
             return file.read(LONGEST_SCHEMA + 1) or b"\n"
     except OSError as error:
         raise Ended("schema: file") from error
+
+
+def _schema_in(text: bytes) -> Optional[Schema]:
+    """The tables of a text that the library takes; None where the client can't read it."""
+    try:
+        return Schema.of_text(text.decode())
+    except ValueError as error:
+        warnings.warn(f"the library takes this schema, and the client can't read it: {error}", stacklevel=3)
+        return None

@@ -142,13 +142,12 @@ class Rows:
 
 
 class Values:
-    """The calls of a connection, which have the library and the handle as first arguments: each answers None where a line is to be asked. One is made
-    at a time, since all share their buffers."""
+    """The calls of a connection, whose first arguments are the library, the handle and how the rows of the table lie: each answers None where a line is
+    to be asked. One is made at a time, since all share their buffers."""
 
     def __init__(self, schema: Schema, connection: int) -> None:
-        self._rows: Dict[Optional[str], Rows] = {it.name: Rows(n, it) for n, it in enumerate(schema.tables) if it.column("id") is None}
-        if schema.tables[0].name in self._rows:
-            self._rows[None] = self._rows[schema.tables[0].name]
+        self._rows: Dict[Optional[str], Rows] = {it.name: Rows(n, it) for n, it in enumerate(schema.tables)}
+        self._rows[None] = self._rows[schema.tables[0].name]
         self._connection, self._id, self._length = ctypes.c_uint64(connection), ctypes.c_uint64(), ctypes.c_size_t()
         self._given = ctypes.create_string_buffer(max(VALUE_SIZE * ROW_VALUES, EDIT_SIZE * MOST_EDITS))
         self._values = ctypes.create_string_buffer(VALUE_SIZE * ROW_VALUES)
@@ -158,10 +157,13 @@ class Values:
         )
         self._count, self._rollback = ctypes.c_size_t(), ctypes.c_uint32(1)
 
-    def get(self, library: Any, handle: Any, id: int, table: Optional[str]) -> Union[Row, int, None]:
+    def rows(self, table: Optional[str]) -> Optional[Rows]:
+        """How the rows of a table lie; none where it isn't there."""
+        return self._rows.get(table) if table is None or type(table) is str else None
+
+    def get(self, library: Any, handle: Any, rows: Rows, id: int) -> Union[Row, int, None]:
         """A row, or ABSENT."""
-        rows = self._rows.get(table)
-        if rows is None or type(id) is not int or not 0 <= id <= MOST:
+        if type(id) is not int or not 0 <= id <= MOST:
             return None
         self._id.value = id
         status: int = library.weltiyo_get(handle, rows.number, self._id, *self._room)
@@ -169,11 +171,8 @@ class Values:
             return ABSENT if status == ABSENT else None
         return rows.read(id, self._values, self._texts)
 
-    def find(self, library: Any, handle: Any, index: str, key: Sequence[Any], table: Optional[str]) -> Union[Row, int, None]:
+    def find(self, library: Any, handle: Any, rows: Rows, index: str, key: Sequence[Any]) -> Union[Row, int, None]:
         """The first row of a key, or ABSENT."""
-        rows = self._rows.get(table)
-        if rows is None:
-            return None
         try:
             count = len(key)
             number, layout = rows.keys[index, count]
@@ -187,10 +186,9 @@ class Values:
             return ABSENT if status == ABSENT else None
         return rows.read(told.number, self._values, self._texts)
 
-    def insert(self, library: Any, handle: Any, row: Row, table: Optional[str]) -> Optional[int]:
+    def insert(self, library: Any, handle: Any, rows: Rows, row: Row) -> Optional[int]:
         """The id of a new row."""
-        rows = self._rows.get(table)
-        if rows is None or type(row) is not dict or len(row) != len(rows.names):
+        if type(row) is not dict or len(row) != len(rows.names):
             return None
         try:
             texts = rows.layout.lay(rows.pick(row), self._given)
@@ -200,10 +198,9 @@ class Values:
         told = library.weltiyo_insert(handle, self._connection, rows.number, self._given, rows.layout.count, texts, self._length)
         return None if told.status else told.number
 
-    def modify(self, library: Any, handle: Any, id: int, put: Optional[Row], added: Optional[Row], table: Optional[str]) -> Optional[bool]:
-        """True where a row was modified, and put back where a unique index refuses it."""
-        rows = self._rows.get(table)
-        if rows is None or type(id) is not int or not 0 <= id <= MOST:
+    def modify(self, library: Any, handle: Any, rows: Rows, id: int, put: Optional[Row], added: Optional[Row]) -> Optional[bool]:
+        """True where a row was modified. Where a unique index would refuse it, nothing has changed."""
+        if type(id) is not int or not 0 <= id <= MOST:
             return None
         try:
             count, texts = self._edits(rows, put, added)

@@ -1,7 +1,9 @@
 """The calls with values of a database in the process answer what their lines do: random calls are made on two databases, on one of them by lines
 alone, and each must answer or raise the same."""
 import json
+import os
 import random
+import threading
 import unittest
 
 import kit
@@ -78,7 +80,7 @@ class Calls:
         return self.of(*TEXTS[:9], str(self.random.randrange(30)), *(TEXTS[9:] if self.random.random() < 0.2 else []))
 
     def table(self):
-        return self.of(None, None, "main", "one", *(["other", 3] if self.random.random() < 0.2 else []))
+        return self.of(None, None, "main", "one", *(["other", 3, [], {}] if self.random.random() < 0.2 else []))
 
     COLUMNS = {"main": {"zeta": "text", "a": "int", "on": "flag", "name": "text", "n": "int"}, "one": {"only": "text"}}
 
@@ -127,7 +129,7 @@ class Calls:
             for member in self.of(["set"], ["add"], ["set", "add"], []):
                 row = self.row(table)
                 some = {it: row[it] for it in row if self.random.random() < 0.4} if isinstance(row, dict) else row
-                named[member] = some if member == "set" or not isinstance(some, dict) else {it: self.of(some[it], 1, -1) for it in some}
+                named[member] = some if member == "set" or not isinstance(some, dict) else {it: self.of(some[it], 1, -1, *INTS[5:7]) for it in some}
             if self.random.random() < 0.1:
                 named["rollback"] = self.of(False, None, True)
             return name, (self.id(),), named
@@ -165,6 +167,7 @@ class SameAsLines(unittest.TestCase):
             self.assertEqual(*(it.made("list", ("line", None, 1000), {"table": "main"}) for it in (values, lines)))
         wanted = {
             ("insert", "answer", ""), ("get", "answer", ""), ("find", "answer", ""), ("modify", "answer", ""), ("insert", "raised", ""),
+            ("insert", "refused", "form"),
             *(("insert", "refused", it) for it in ("row", "unique", "full", "table", "json")), ("get", "refused", "id"), ("get", "refused", "form"),
             *(("find", "refused", it) for it in ("id", "key", "kind", "index")),
             *(("modify", "refused", it) for it in ("id", "row", "unique", "range")),
@@ -210,6 +213,21 @@ class SameAsLines(unittest.TestCase):
             self.assertEqual(caught.exception.word, "busy")
             values.db.insert({"only": "x"}, table="one")
             self.assertEqual(other.get(0, table="one")["only"], "x")
+
+    def test_a_schema_that_can_be_read_once(self):
+        """The columns are those of the text that the library was given."""
+        path = f"{kit.folder(self)}/schema.toml"
+        os.mkfifo(path)
+
+        def write():
+            with open(path, "w", encoding="utf-8") as file:
+                file.write(SCHEMA)
+
+        writer = threading.Thread(target=write)
+        writer.start()
+        with Embedded.open(path) as db, kept_from_lines(db) as asked:
+            writer.join()
+            self.assertEqual((db.insert({"only": "x"}, table="one"), db.get(0, "one"), asked), (0, {"id": 0, "only": "x"}, []))
 
     def test_without_a_schema(self):
         with Embedded.open() as db:
