@@ -142,8 +142,8 @@ class Rows:
 
 
 class Values:
-    """The calls of a connection, whose first arguments are the library, the handle and how the rows of the table lie: each answers None where a line is
-    to be asked. One is made at a time, since all share their buffers."""
+    """The calls of a connection, whose first arguments are the library, the handle and how the rows of the table lie: each answers None where a
+    line is to be asked. One is made at a time, since all share their buffers."""
 
     def __init__(self, schema: Schema, connection: int) -> None:
         self._rows: Dict[Optional[str], Rows] = {it.name: Rows(n, it) for n, it in enumerate(schema.tables)}
