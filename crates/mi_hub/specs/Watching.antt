@@ -7,6 +7,10 @@ use Rattle.mi_hub.specs.declared.watched.Watched.{Watched}
 abbrev pub watched : {T : Type 0} → Watched T → T
 watched w = w.inner
 
+-- the same of another reader or writer
+abbrev pub with_watched : {T : Type 0} → T → Watched T → Watched T
+with_watched inner w = record w { inner = inner }
+
 -- whether it has failed
 abbrev pub has_failed : {T : Type 0} → Watched T → Bool
 has_failed w = w.failed

@@ -1,5 +1,6 @@
 //! A reader or writer that remembers whether it has failed, and isn't used again once it has.
 ghost use Rattle.std.specs.Prelude.{◌≡◌, ◌<◌, ◌||◌, ◌&&◌, nat_lt, is_ok, not, false, true, length, IfOk, OnOk, OnErr, IsErr};
+ghost use Rattle.std.specs.Borrow.{Lends, sem};
 ghost use Rattle.std.specs.Io.{ReadsAtMost, WritesAtMost};
 ghost use Rattle.std.specs.Io.KnownBytes.{ReadConsumes, WriteAppends, Keeps};
 
@@ -16,7 +17,8 @@ pub struct Watched<T> {
 }
 
 impl<T> Watched<T> {
-    ghost use Rattle.mi_hub.specs.Watching.{watched, has_failed, is_flushed};
+    ghost use Rattle.mi_hub.specs.Watching.{watched, has_failed, is_flushed, with_watched};
+    ghost use Rattle.mi_hub.specs.contracts.watched.Watched.{the_row};
 
     /// A reader or a writer that hasn't failed, with nothing that waits for a flush.
     pub fn new(inner: T) -> Watched<T>
@@ -36,6 +38,14 @@ impl<T> Watched<T> {
         ensures { result.now ≡ watched self.now }
     {
         &self.inner
+    }
+
+    /// The reader or the writer itself, for what is neither read, written nor flushed. What is remembered of it stays.
+    pub fn inner_mut(&mut self) -> &mut T
+        ensures value { result.now ≡ watched self.old }
+        ensures* writes_back { sem 𝓛 (Lends (the_row T.row) T.row self.entry result (λ inner. with_watched inner self.old)) }
+    {
+        &mut self.inner
     }
 
     /// Whether a read or a flush has answered an error, or a write of one or more bytes an error or 0.

@@ -11,8 +11,9 @@ use Rattle.mi_model.specs.Database.{Database}
 use Rattle.mi_program.specs.Serving.{ServesInput}
 use Rattle.mi_program.specs.Words.{program_options, keeps_rules, AreValues}
 use Rattle.mi_program.specs.Ending.{Confirms, Serves, ServesTables, UsesCatalog}
-use Rattle.mi_program.specs.Ending.{IsTold, IsCalled, Performs, PerformsBuffered, Ends, EndsBuffered, ending_of}
+use Rattle.mi_program.specs.Ending.{IsTold, IsCalled, PerformsBuffered, Ends, ending_of}
 use Rattle.mi_program.specs.declared.words.Options.{Options}
+use Rattle.mi_program.specs.declared.buffered.Buffered.{Buffered}
 use Rattle.mi_program.specs.declared.failure.Failure.{Failure}
 
 -- one part of a line behind another
@@ -53,14 +54,8 @@ called_by words options read = record { known = read.0; rules = read.1; values =
 module _ {F I O S : Type 0} (file : F → Option (List ℕ)) (remaining : I → Option (List ℕ)) (contents : O → Option (List ℕ))
     (given taken : S → Option (List ℕ)) (words : List (List ℕ)) (options : Options) (called : IsCalled words options) where
   -- the ending of words that give options
-  pub performed_ends : (old_reader new_reader : Watched I) (old_writer new_writer : Watched O) (answer : Result ⊤ Failure)
-      → Performs file remaining contents given taken old_reader new_reader old_writer new_writer options answer
-      → Ends file remaining contents given taken words old_reader new_reader old_writer new_writer (ending_of answer)
-  performed_ends old_reader new_reader old_writer new_writer (Ok tt) p = (options, called, p)
-  performed_ends old_reader new_reader old_writer new_writer (Err failure) p = (options, called, p)
-
-  pub buffered_ends : (input : I) (output : O) (answer : Result ⊤ Failure)
-      → PerformsBuffered file remaining contents given taken input output options answer
-      → EndsBuffered file remaining contents given taken words input output (ending_of answer)
-  buffered_ends input output (Ok tt) p = (options, called, p)
-  buffered_ends input output (Err failure) p = (options, called, p)
+  pub performed_ends : (old_input new_input : Watched I) (old_output new_output : Watched (Buffered O)) (answer : Result ⊤ Failure)
+      → PerformsBuffered file remaining contents given taken old_input new_input old_output new_output options answer
+      → Ends file remaining contents given taken words old_input new_input old_output new_output (ending_of answer)
+  performed_ends old_input new_input old_output new_output (Ok tt) p = (options, called, p)
+  performed_ends old_input new_input old_output new_output (Err failure) p = (options, called, p)

@@ -1,11 +1,11 @@
 -- What the program has done when it ends, by how it ends; and what it says of that on the third stream.
-use Rattle.std.specs.Prelude.{◌≡◌, ◌⊎◌, ⊤, ℕ, List, [], codes, Bool, true, false, Option, Some, None, is_some, IfSome, Result, Ok, Err}
+use Rattle.std.specs.Prelude.{◌≡◌, ◌⊎◌, ⊤, ℕ, List, codes, Bool, true, false, Option, Some, None, is_some, IfSome, Result, Ok, Err}
 use Rattle.clap.specs.Faults.{fault_of}
 use Rattle.clap.specs.Words.{matches_of}
 use Rattle.mi_catalog.specs.Shape.{CatalogShape}
 use Rattle.mi_model.specs.Database.{Database}
 use Rattle.mi_database.specs.LinkedData.{LinkedData, meaning, opened_linked}
-use Rattle.mi_hub.specs.Watching.{watched, has_failed, Writes}
+use Rattle.mi_hub.specs.Watching.{watched, has_failed, is_flushed, Writes}
 use Rattle.mi_hub.specs.declared.watched.Watched.{Watched}
 use Rattle.mi_program.specs.Words.{program_options, keeps_rules, AreValues, IsRefusal}
 use Rattle.mi_program.specs.Source.{IsCatalog}
@@ -44,9 +44,9 @@ IsReported contents old new done = new ≡ old
 IsReported contents old new (refused fault) = IfSome (words_line fault) (IsTold contents old new)
 IsReported contents old new (failed failure) = IsTold contents old new (failure_line failure)
 
--- The line `ok` was written, or a write or the flush failed.
+-- The line `ok` was written and flushed, or a write or the flush failed.
 abbrev pub Confirms : {W : Type 0} → (W → Option (List ℕ)) → Watched W → Watched W → Result ⊤ Failure → Type 0
-Confirms contents old new (Ok all) = Writes contents old new (codes "ok\n")
+Confirms contents old new (Ok all) = Writes contents old new (codes "ok\n") × (is_flushed new ≡ true)
 Confirms contents old new (Err failure) = (failure ≡ Write) × (has_failed new ≡ true)
 
 module _ {I O S : Type 0} (remaining : I → Option (List ℕ)) (contents : O → Option (List ℕ)) (given taken : S → Option (List ℕ)) where
@@ -87,29 +87,25 @@ pub record IsCalled (words : List (List ℕ)) (options : Options) : Type 0 where
 abbrev pub AreRefused : List (List ℕ) → WordsFault → Type 0
 AreRefused words fault = IsRefusal (fault_of program_options words) (matches_of program_options words) fault
 
+-- Room is taken for what waits in a buffer, or memory for it is wanting; the stream behind it and what waits are the same, and nothing is written.
+pub record TakesRoom {S : Type 0} (old new : Watched (Buffered S)) : Type 0 where
+  pub stream : stream_of (watched new) ≡ stream_of (watched old)
+  pub waits : waiting (watched new) ≡ waiting (watched old)
+  pub failed : has_failed new ≡ has_failed old
+  pub flushed : is_flushed new ≡ is_flushed old
+
 module _ {F I O S : Type 0} (file : F → Option (List ℕ)) (remaining : I → Option (List ℕ)) (contents : O → Option (List ℕ))
     (given taken : S → Option (List ℕ)) where
+  -- Room is taken for a buffered output, and then what the options say is done; or memory for the room is wanting.
+  abbrev pub PerformsBuffered : Watched I → Watched I → Watched (Buffered O) → Watched (Buffered O) → Options → Result ⊤ Failure → Type 0
+  PerformsBuffered old_input new_input old_output new_output options answer = (ready : Watched (Buffered O)) × TakesRoom old_output ready
+      × (Performs file remaining (contents_of contents) given taken old_input new_input ready new_output options answer
+      ⊎ ((answer ≡ Err Memory) × IsUntouched old_input new_input ready new_output))
+
   -- What is done by an ending, over an input and an output as they were and are left: what the words say, or nothing where they say none.
-  abbrev pub Ends : List (List ℕ) → Watched I → Watched I → Watched O → Watched O → Ending → Type 0
-  Ends words old_reader new_reader old_writer new_writer (refused fault) = AreRefused words fault × IsUntouched old_reader new_reader old_writer new_writer
-  Ends words old_reader new_reader old_writer new_writer done =
-      (options : Options) × IsCalled words options
-      × Performs file remaining contents given taken old_reader new_reader old_writer new_writer options (Ok tt)
-  Ends words old_reader new_reader old_writer new_writer (failed failure) =
-      (options : Options) × IsCalled words options
-      × Performs file remaining contents given taken old_reader new_reader old_writer new_writer options (Err failure)
-
-  -- Options are performed over this input and this output through a buffer, in which nothing waits at first; or memory for that is wanting. That
-  -- is what was done to them, and not that nothing else was: nobody has them any more.
-  abbrev pub PerformsBuffered : I → O → Options → Result ⊤ Failure → Type 0
-  PerformsBuffered input output options answer =
-      ((old_reader : Watched I) × (new_reader : Watched I) × (old_writer : Watched (Buffered O)) × (new_writer : Watched (Buffered O))
-      × (watched old_reader ≡ input) × (stream_of (watched old_writer) ≡ output) × (waiting (watched old_writer) ≡ [])
-      × Performs file remaining (contents_of contents) given taken old_reader new_reader old_writer new_writer options answer)
-      ⊎ (answer ≡ Err Memory)
-
-  -- The same as `Ends`, through the buffer. Where the words are refused it says nothing of the input and the output.
-  abbrev pub EndsBuffered : List (List ℕ) → I → O → Ending → Type 0
-  EndsBuffered words input output (refused fault) = AreRefused words fault
-  EndsBuffered words input output done = (options : Options) × IsCalled words options × PerformsBuffered input output options (Ok tt)
-  EndsBuffered words input output (failed failure) = (options : Options) × IsCalled words options × PerformsBuffered input output options (Err failure)
+  abbrev pub Ends : List (List ℕ) → Watched I → Watched I → Watched (Buffered O) → Watched (Buffered O) → Ending → Type 0
+  Ends words old_input new_input old_output new_output (refused fault) = AreRefused words fault × IsUntouched old_input new_input old_output new_output
+  Ends words old_input new_input old_output new_output done =
+      (options : Options) × IsCalled words options × PerformsBuffered old_input new_input old_output new_output options (Ok tt)
+  Ends words old_input new_input old_output new_output (failed failure) =
+      (options : Options) × IsCalled words options × PerformsBuffered old_input new_input old_output new_output options (Err failure)

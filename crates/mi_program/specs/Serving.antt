@@ -5,7 +5,7 @@ use Rattle.mi_value.specs.declared.limits.TheConstants.{MAX_READS, PIECE}
 use Rattle.mi_model.specs.Database.{Database}
 use Rattle.mi_hub.specs.Run.{HubState, with_connection, piece, close, cut, AllDone, DoneToFault}
 use Rattle.mi_hub.specs.ConnectionTurn.{ConnectionTurn}
-use Rattle.mi_hub.specs.Watching.{watched, has_failed, Reads, Writes}
+use Rattle.mi_hub.specs.Watching.{watched, has_failed, is_flushed, Reads, Writes}
 use Rattle.mi_hub.specs.declared.watched.Watched.{Watched}
 use Rattle.mi_hub.specs.declared.fault.ServeFault.{ServeFault}
 use Rattle.mi_hub.specs.declared.fault.ServeFault.TheVariants as serving
@@ -39,15 +39,15 @@ IsServing (Err Turns) = Unit {0}
 abbrev pub IsUntouched : {R W : Type 0} → Watched R → Watched R → Watched W → Watched W → Type 0
 IsUntouched old_reader new_reader old_writer new_writer = (new_reader ≡ old_reader) × (new_writer ≡ old_writer)
 
--- An input is served over a database as the bytes of connection 1. Done: all of it is read and answered, and it is closed. A read failed, or
--- too many were made: what was read is answered, and it is cut. A write or a flush failed: at the last piece, or at the close. Memory was
--- wanting for the connection: nothing is read.
+-- An input is served over a database as the bytes of connection 1. Done: all of it is read and answered, and it is closed; the replies are
+-- flushed. A read failed, or too many were made: what was read is answered, and it is cut. A write or a flush failed: at the last piece, or at
+-- the close. Memory was wanting for the connection: nothing is read.
 abbrev pub ServesInput : {R W : Type 0} → (R → Option (List ℕ)) → (W → Option (List ℕ)) → Database → Watched R → Watched R → Watched W → Watched W
     → Result ⊤ Failure → Type 0
 ServesInput remaining contents database old_reader new_reader old_writer new_writer (Ok done) =
     (bytes : List ℕ) × (out : List ℕ) × (new : HubState)
     × Reads remaining old_reader new_reader bytes × IsAtEnd (remaining (watched new_reader))
-    × Writes contents old_writer new_writer out
+    × Writes contents old_writer new_writer out × (is_flushed new_writer ≡ true)
     × AllDone (come database) (piece 1 bytes ∷ close 1 ∷ []) out new
 ServesInput remaining contents database old_reader new_reader old_writer new_writer (Err Read) =
     (bytes : List ℕ) × (out : List ℕ) × (new : HubState)

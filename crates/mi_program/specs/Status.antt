@@ -65,6 +65,10 @@ failure_line failure = failure_kind failure ++ (failure_word failure ++ codes "\
 abbrev pub usage_line : List ℕ
 usage_line = codes "usage: --listen and --clients go together; --check stands alone\n"
 
+-- the line of arguments of which one isn't UTF-8
+abbrev pub arguments_line : List ℕ
+arguments_line = codes "error: an argument isn't UTF-8\n"
+
 -- the line of words that give no options, but where it is the parser's own text
 abbrev pub words_line : WordsFault → Option (List ℕ)
 words_line (words.Parse e) = None

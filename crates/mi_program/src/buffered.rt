@@ -1,6 +1,6 @@
 //! A stream whose writes are gathered and go out together: where it is flushed, or where its buffer has no room for the next.
 //! It doesn't look at the bytes.
-ghost use Rattle.std.specs.Prelude.{◌≡◌, [], IfOk, OnOk, ◌+◌, ◌≤◌, length, vec_len, vec_capacity};
+ghost use Rattle.std.specs.Prelude.{◌≡◌, [], OnOk, ◌+◌, ◌≤◌, length, vec_len, vec_capacity};
 ghost use Rattle.std.specs.Io.{WritesAtMost};
 ghost use Rattle.std.specs.Io.KnownBytes.{Appends, WriteAppends, Keeps};
 
@@ -11,7 +11,7 @@ use std::io::{Error, ErrorKind, Read, Write};
 /// Bytes that are gathered before they go out; more than the replies to most pieces take.
 const ROOM: usize = 8192;
 
-/// A stream and the bytes that were written to it and haven't gone out yet, from `sent` on. It takes its room at the start.
+/// A stream and the bytes that were written to it and haven't gone out yet, from `sent` on. Without room none wait.
 #[derive(Drop)]
 pub struct Buffered<S> {
     inner: S,
@@ -23,18 +23,25 @@ pub struct Buffered<S> {
 impl<S> Buffered<S> {
     ghost use Rattle.mi_program.specs.Buffer.{stream_of, waiting};
 
-    /// Nothing is gathered yet.
-    pub fn new(alloc: Global, inner: S) -> Result<Buffered<S>, AllocError>
-    where
-        S: Drop,
-        ensures inner { IfOk result (λ b. stream_of b ≡ inner) }
-        ensures none { IfOk result (λ b. waiting b ≡ []) }
+    /// Nothing is gathered yet, and no room is taken for it.
+    pub fn new(alloc: Global, inner: S) -> Buffered<S>
+        ensures inner { stream_of result ≡ inner }
+        ensures none { waiting result ≡ [] }
     {
-        Ok(Buffered {
+        Buffered {
             inner,
-            gathered: Vec::with_capacity(alloc, ROOM)?,
+            gathered: Vec::new(alloc),
             sent: 0,
-        })
+        }
+    }
+
+    /// Takes the room for what will wait, where it isn't there. What waits stays, whatever the result.
+    pub fn make_room(&mut self) -> Result<(), AllocError>
+        ensures inner { stream_of self.new ≡ stream_of self.old }
+        ensures waiting { waiting self.new ≡ waiting self.old }
+        ensures room { OnOk result (ROOM ≤ vec_capacity self.new.gathered) }
+    {
+        self.gathered.reserve(ROOM)
     }
 
     /// The stream itself.

@@ -15,7 +15,7 @@ mod words;
 pub use buffered::Buffered;
 pub use failure::Failure;
 pub use listener::serve_listener;
-pub use program::{run, run_over};
+pub use program::run;
 pub use report::refuse_arguments;
 pub use secret::drawn;
 pub use source::whole_text;

@@ -46,9 +46,10 @@ where
         return Err(ServeFault::Accept);
     };
     let _ = stream.set_nodelay(true);
-    let Ok(stream) = Buffered::new(alloc, stream) else {
+    let mut stream = Buffered::new(alloc, stream);
+    if stream.make_room().is_err() {
         return Err(ServeFault::Memory);
-    };
+    }
     if hub.attach(conn).is_err() {
         return Err(ServeFault::Memory);
     }

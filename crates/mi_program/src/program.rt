@@ -3,11 +3,9 @@ ghost use Rattle.std.specs.Prelude.{◌≡◌, ◌≤◌, [], ◌∷◌, map, Ok
 ghost use Rattle.std.specs.Net.Addr.{ipv4_octets};
 ghost use Rattle.mi_value.specs.declared.limits.TheConstants.{MAX_CONNECTIONS};
 ghost use Rattle.mi_database.specs.LinkedData.{opened_linked};
-ghost use Rattle.mi_hub.specs.Watching.{watched};
-ghost use Rattle.mi_hub.specs.declared.watched.Watched.{Watched};
 ghost use Rattle.mi_program.specs.Serving.{served_answer, ServesClients};
 ghost use Rattle.mi_program.specs.Ending.{Ending, ending_status, IsReported, Confirms, Serves, ServesTables, UsesCatalog};
-ghost use Rattle.mi_program.specs.Ending.{Performs, PerformsBuffered, Ends, EndsBuffered};
+ghost use Rattle.mi_program.specs.Ending.{Performs, TakesRoom, PerformsBuffered, Ends};
 
 use crate::buffered::Buffered;
 use crate::failure::Failure;
@@ -22,6 +20,7 @@ use mi_hub::{Hub, IoErrors, ServeFault, Watched};
 use mi_multi::MultiIndex;
 use mi_schema::Catalog;
 use mi_sessions::Sessions;
+use std::alloc::AllocError;
 use std::convert::AsStr;
 use std::io;
 use std::io::{Read, Write};
@@ -169,24 +168,32 @@ fn perform<R: Files + Net + AllocGlobal + RandomSource, I: Read, O: Write>(
     }
 }
 
-/// Does what the options say over these streams, the output buffered.
-fn perform_buffered<R: Files + Net + AllocGlobal + RandomSource, I: Read + Drop, O: Write + Drop>(
-    rt: &R,
-    options: &Options,
-    input: I,
-    output: O,
-) -> Result<(), Failure>
-    requires { IfSome options.now.listen (λ l. (1 ≤ l.1) × (l.1 ≤ MAX_CONNECTIONS)) }
-    ensures { PerformsBuffered R.File.remaining I.remaining O.contents R.Stream.remaining R.Stream.contents input output options.now result }
+/// Takes the room of a buffered output, which changes nothing else.
+fn make_room<O: Write>(output: &mut Watched<Buffered<O>>) -> Result<(), AllocError>
+    ensures { TakesRoom output.old output.new }
 {
-    let Ok(output) = Buffered::new(rt.alloc(), output) else {
-        return Err(Failure::Memory);
-    };
-    let (mut reader, mut writer) = (Watched::new(input), Watched::new(output));
-    perform(rt, options, &mut reader, &mut writer)
+    output.inner_mut().make_room()
 }
 
-/// Does what the program does with these words, the first of which is its name, and answers its exit status:
+/// Does what the options say, the output buffered.
+fn perform_buffered<R: Files + Net + AllocGlobal + RandomSource, I: Read, O: Write>(
+    rt: &R,
+    options: &Options,
+    input: &mut Watched<I>,
+    output: &mut Watched<Buffered<O>>,
+) -> Result<(), Failure>
+    requires { IfSome options.now.listen (λ l. (1 ≤ l.1) × (l.1 ≤ MAX_CONNECTIONS)) }
+    ensures { PerformsBuffered R.File.remaining I.remaining O.contents R.Stream.remaining R.Stream.contents
+        input.old input.new output.old output.new options.now result }
+{
+    match make_room(output) {
+        Ok(()) => perform(rt, options, input, output),
+        Err(_) => Err(Failure::Memory),
+    }
+}
+
+/// Does what the program does with these words, the first of which is its name, and answers its exit status. The words are judged before room
+/// is taken for the output.
 ///
 /// | Status | When | On `errors` |
 /// |---|---|---|
@@ -194,41 +201,20 @@ fn perform_buffered<R: Files + Net + AllocGlobal + RandomSource, I: Read + Drop,
 /// | 2 | the words are refused, or ask for help | the parser's text, or the rule that they break |
 /// | 3 | the schema can't be read or is refused | `schema: ` and a word |
 /// | 4 | a stream failed, memory was refused, or the input didn't end | `fault: ` and a word |
-pub fn run_over<R: Files + Net + AllocGlobal + RandomSource, S: AsStr, I: Read, O: Write, E: Write>(
+pub fn run<R: Files + Net + AllocGlobal + RandomSource, S: AsStr, I: Read, O: Write, E: Write>(
     rt: &R,
     words: &[S],
-    reader: &mut Watched<I>,
-    writer: &mut Watched<O>,
+    input: &mut Watched<I>,
+    output: &mut Watched<Buffered<O>>,
     errors: &mut Watched<E>,
 ) -> u8
     // What is done by the ending that the status and the third stream tell.
     ensures { (ending : Ending) × (result ≡ ending_status ending) × IsReported E.contents errors.old errors.new ending
         × Ends R.File.remaining I.remaining O.contents R.Stream.remaining R.Stream.contents
-        (map S.text words.now) reader.old reader.new writer.old writer.new ending }
+        (map S.text words.now) input.old input.new output.old output.new ending }
 {
     match read_words(rt.alloc(), words) {
-        Ok(options) => conclude(perform(rt, &options, reader, writer), errors),
+        Ok(options) => conclude(perform_buffered(rt, &options, input, output), errors),
         Err(fault) => refuse(&fault, errors),
-    }
-}
-
-/// Does what `run_over` does over these streams, the output buffered. The words are judged before memory is taken for the buffer.
-///
-/// The streams are its own and are let go, so no clause says what they are left with: of that see `run_over`.
-pub fn run<
-    R: Files + Net + AllocGlobal + RandomSource,
-    S: AsStr,
-    I: Read + Drop,
-    O: Write + Drop,
-    E: Write + Drop,
->(rt: &R, words: &[S], input: I, output: O, errors: E) -> u8
-    ensures { (ending : Ending) × (before : Watched E) × (after : Watched E) × (result ≡ ending_status ending)
-        × (watched before ≡ errors) × IsReported E.contents before after ending
-        × EndsBuffered R.File.remaining I.remaining O.contents R.Stream.remaining R.Stream.contents (map S.text words.now) input output ending }
-{
-    let mut errors = Watched::new(errors);
-    match read_words(rt.alloc(), words) {
-        Ok(options) => conclude(perform_buffered(rt, &options, input, output), &mut errors),
-        Err(fault) => refuse(&fault, &mut errors),
     }
 }

@@ -2,7 +2,7 @@
 //! A line that can't be written there is passed over.
 ghost use Rattle.std.specs.Prelude.{◌≡◌, ◌⊎◌, ◌++◌, codes, true, IfSome};
 ghost use Rattle.mi_hub.specs.Watching.{has_failed};
-ghost use Rattle.mi_program.specs.Status.{status_of, status_of_words, failure_line, words_line};
+ghost use Rattle.mi_program.specs.Status.{status_of, status_of_words, failure_line, words_line, arguments_line};
 ghost use Rattle.mi_program.specs.Ending.{IsTold, IsReported, ending_of, ending_status};
 
 use crate::failure::Failure;
@@ -80,14 +80,14 @@ pub(crate) fn conclude<E: Write>(answer: Result<(), Failure>, errors: &mut Watch
 }
 
 /// Reports arguments that could not be had, which aren't UTF-8 or were refused memory, and answers the status.
-pub fn refuse_arguments<E: Write + Drop>(error: &io::Error, errors: E) -> u8
-    ensures { (result ≡ 2) ⊎ (result ≡ 4) }
+pub fn refuse_arguments<E: Write>(error: &io::Error, errors: &mut Watched<E>) -> u8
+    ensures { ((result ≡ 2) × IsTold E.contents errors.old errors.new arguments_line)
+        ⊎ ((result ≡ 4) × IsTold E.contents errors.old errors.new (failure_line Failure.Memory)) }
 {
-    let mut errors = Watched::new(errors);
     match error.kind() {
-        ErrorKind::OutOfMemory => report(Failure::Memory, &mut errors),
+        ErrorKind::OutOfMemory => report(Failure::Memory, errors),
         _other => {
-            send(&mut errors, b"error: an argument isn't UTF-8\n");
+            send(errors, b"error: an argument isn't UTF-8\n");
             USAGE
         }
     }

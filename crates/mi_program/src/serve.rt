@@ -3,7 +3,7 @@ ghost use Rattle.std.specs.Prelude.{◌≡◌, ◌⊎◌, ◌≤◌, ℕ, List, 
 ghost use Rattle.std.specs.Io.KnownBytes.{IsAtEnd};
 ghost use Rattle.mi_value.specs.declared.limits.TheConstants.{MAX_READS, PIECE};
 ghost use Rattle.mi_hub.specs.Run.{HubState, piece, close, cut, AllDone, DoneToFault};
-ghost use Rattle.mi_hub.specs.Watching.{watched, has_failed, Reads, Writes};
+ghost use Rattle.mi_hub.specs.Watching.{watched, has_failed, is_flushed, Reads, Writes};
 ghost use Rattle.mi_program.specs.Serving.{come, IsServing};
 
 use crate::failure::Failure;
@@ -26,10 +26,10 @@ pub fn serve<D: Sessions + Drop, R: Read, W: Write>(
     reader: &mut Watched<R>,
     writer: &mut Watched<W>,
 ) -> Result<(), Failure>
-    // All of the input was read; its lines and its last line are answered.
+    // All of the input was read; its lines and its last line are answered, and the replies flushed.
     ensures ok { OnOk result ((bytes : List ℕ) × (out : List ℕ) × (new : HubState)
         × Reads R.remaining reader.old reader.new bytes × IsAtEnd (R.remaining (watched reader.new))
-        × Writes W.contents writer.old writer.new out
+        × Writes W.contents writer.old writer.new out × (is_flushed writer.new ≡ true)
         × AllDone (come (D.state database)) (piece 1 bytes ∷ close 1 ∷ []) out new) }
 
     // Of the bytes that were read all whole lines are answered.

@@ -1,7 +1,8 @@
-//! The program: it hands its arguments and the standard streams to `run` of `mi_program`, and knows nothing else.
+//! The program: it hands its arguments and the standard streams, the output buffered, to `run` of `mi_program`, and knows nothing else.
 #![tactic(auto)]
 
-use mi_program::{refuse_arguments, run};
+use mi_hub::Watched;
+use mi_program::{Buffered, refuse_arguments, run};
 use std::process::ExitCode;
 use std::{env, io};
 
@@ -12,9 +13,18 @@ fn arguments(rt: &HostRuntime) -> io::Result<Vec<String>> {
 }
 
 fn main(rt: HostRuntime) -> ExitCode {
+    let mut input = Watched::new(rt.stdin());
+    let mut output = Watched::new(Buffered::new(rt.alloc(), rt.stdout()));
+    let mut errors = Watched::new(rt.stderr());
     let status = match arguments(&rt) {
-        Ok(words) => run(&rt, words.as_slice(), rt.stdin(), rt.stdout(), rt.stderr()),
-        Err(error) => refuse_arguments(&error, rt.stderr()),
+        Ok(words) => run(
+            &rt,
+            words.as_slice(),
+            &mut input,
+            &mut output,
+            &mut errors,
+        ),
+        Err(error) => refuse_arguments(&error, &mut errors),
     };
     ExitCode::from(status)
 }

@@ -1,6 +1,7 @@
 //! The program: it hands its arguments and the standard streams to `run` of `mi_serving`, and knows nothing else.
 #![tactic(auto)]
 
+use mi_hub::Watched;
 use mi_program::refuse_arguments;
 use mi_serving::run;
 use std::process::ExitCode;
@@ -15,7 +16,7 @@ fn arguments(rt: &HostRuntime) -> io::Result<Vec<String>> {
 fn main(rt: HostRuntime) -> ExitCode {
     let status = match arguments(&rt) {
         Ok(words) => run(&rt, words.as_slice(), rt.stdout(), rt.stderr()),
-        Err(error) => refuse_arguments(&error, rt.stderr()),
+        Err(error) => refuse_arguments(&error, &mut Watched::new(rt.stderr())),
     };
     ExitCode::from(status)
 }

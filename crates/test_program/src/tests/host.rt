@@ -1,7 +1,7 @@
 //! A host whose port is the test's own: the address that is listened on is noted, and clients come by script. Its files, its memory and its
-//! random bytes are those of the host below; how often it is asked for its allocator is counted.
+//! random bytes are those of the host below.
 use super::devices::{Pieces, Sent};
-use mi_program::run;
+use super::serving::ran_over;
 use std::alloc::Allocator;
 use std::cell::Cell;
 use std::fs::{Metadata, OpenOptions};
@@ -116,13 +116,12 @@ impl AsRawFd for Door<'_> {
     }
 }
 
-/// A host with these clients, the address that was listened on, and how often the allocator was asked for.
+/// A host with these clients, and the address that was listened on.
 #[derive(Drop)]
 struct Host<'a, R> {
     below: &'a R,
     visits: &'a [Visit],
     address: Cell<Option<SocketAddr>>,
-    asked: Cell<usize>,
 }
 
 impl<'a, R> Host<'a, R> {
@@ -131,7 +130,6 @@ impl<'a, R> Host<'a, R> {
             below,
             visits,
             address: Cell::new(None),
-            asked: Cell::new(0),
         }
     }
 }
@@ -140,7 +138,6 @@ impl<'a, R: Alloc> Alloc for Host<'a, R> {
     type A = R::A;
 
     fn alloc(&self) -> R::A {
-        self.asked.set(self.asked.get().saturating_add(1));
         self.below.alloc()
     }
 }
@@ -275,8 +272,8 @@ fn ran<R: Files + AllocGlobal + RandomSource>(
         size: 4096,
         sound: false,
     };
-    let (mut output, mut errors) = (Vec::new(below.alloc()), Vec::new(below.alloc()));
-    let status = run(host, words, input, &mut output, &mut errors);
+    let mut output = Vec::new(below.alloc());
+    let (status, errors) = ran_over(host, below.alloc(), words, input, &mut output);
     (status, output, errors)
 }
 
@@ -308,20 +305,6 @@ fn check_run<R: Files + AllocGlobal + RandomSource>(
     assert_eq!(rt; status, row.status);
     assert_eq!(rt; errors.as_slice(), row.errors);
     assert!(rt; output.is_empty());
-}
-
-/// Words that are refused are judged by the first allocator that is asked for: none is asked for behind it, so no buffer is taken.
-fn check_refused<R: Files + AllocGlobal + RandomSource>(rt: &impl Abort, below: &R) {
-    let host = Host::new(below, &[]);
-    let (status, output, errors) = ran(below, &host, &["mi_server", "--what"]);
-    assert_eq!(rt; status, 2);
-    assert_eq!(rt; host.asked.get(), 1);
-    assert!(rt; output.is_empty() && !errors.is_empty());
-}
-
-#[test]
-fn refused_words_take_no_buffer(rt: HostRuntime) {
-    check_refused(&rt, &rt);
 }
 
 #[test]

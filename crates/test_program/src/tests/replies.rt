@@ -147,7 +147,8 @@ fn serve_once<D: Opens, R: Read + Drop, W: Write + Drop>(
     requires { IsSome (rest_at 1 hub.old.attached) }
 {
     let mut reader = Watched::new(input);
-    let output = Buffered::new(alloc, output).expect(rt, "memory is there");
+    let mut output = Buffered::new(alloc, output);
+    output.make_room().expect(rt, "memory is there");
     let mut writer = Watched::new(output);
     let served = serve_stream(hub, 1, &mut reader, &mut writer);
     let refused = writer.write(b"more").is_err();

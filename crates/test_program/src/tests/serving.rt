@@ -6,16 +6,18 @@ ghost use Rattle.mi_value.specs.declared.limits.TheConstants.{MAX_CONNECTIONS};
 
 use mi_container::Container;
 use mi_database::Linked;
-use mi_hub::{Hub, HubFault, IoErrors, ServeFault};
+use mi_hub::{Hub, HubFault, IoErrors, ServeFault, Watched};
 use mi_multi::MultiIndex;
 use mi_plain::Plain;
-use mi_program::{run, serve_listener};
+use mi_program::{Buffered, run, serve_listener};
 use mi_schema::{Catalog, built_in};
 use mi_sessions::Sessions;
 use std::alloc::{AllocError, Global};
 use std::io::{Read, Write};
 use std::net::{OpenListener, OpenStream};
 use std::process::Abort;
+use std::random::RandomSource;
+use std::rt::{Files, Net};
 
 /// A form of the database.
 pub(super) trait Opens: Sessions + Drop {
@@ -96,7 +98,28 @@ pub(super) fn ended<I: Read + Drop, O: Write + Drop>(
     input: I,
     output: O,
 ) -> (u8, Vec<u8>) {
-    let mut errors = Vec::new(rt.alloc());
-    let status = run(rt, words, input, output, &mut errors);
+    ran_over(rt, rt.alloc(), words, input, output)
+}
+
+/// The same at any host.
+pub(super) fn ran_over<
+    R: Files + Net + AllocGlobal + RandomSource,
+    I: Read + Drop,
+    O: Write + Drop,
+>(
+    rt: &R,
+    alloc: Global,
+    words: &[&str],
+    input: I,
+    output: O,
+) -> (u8, Vec<u8>) {
+    let mut errors = Vec::new(alloc);
+    let status = run(
+        rt,
+        words,
+        &mut Watched::new(input),
+        &mut Watched::new(Buffered::new(alloc, output)),
+        &mut Watched::new(&mut errors),
+    );
     (status, errors)
 }

@@ -1,16 +1,9 @@
--- What is done over the buffer is done of the stream behind it, with what waits.
-use Rattle.std.proofs.Common.{ap, ◌∙◌, inl}
-use Rattle.mi_program.specs.Buffer.{stream_of, waiting}
+-- What is done once room is taken, or nothing where memory for it is wanting.
+use Rattle.std.proofs.Common.{inl, inr, refl}
 use Rattle.mi_program.proofs.program.perform_buffered.Goals as goal
 
-pub returns : goal.returns
-returns g c = inl (
-  c.new-reader.result,
-  c.perform.new.reader,
-  c.new-writer.result,
-  c.perform.new.writer,
-  c.new-reader.ensures.inner,
-  ap stream_of c.new-writer.ensures.inner ∙ c.in-Ok.ensures.inner,
-  ap waiting c.new-writer.ensures.inner ∙ c.in-Ok.ensures.none,
-  c.perform.ensures,
-)
+pub returns-in-Ok : goal.returns-in-Ok
+returns-in-Ok g c = (c.make_room.new.output, c.make_room.ensures, inl c.perform.ensures)
+
+pub returns-in-Err : goal.returns-in-Err
+returns-in-Err g c = (c.make_room.new.output, c.make_room.ensures, inr (refl, (refl, refl)))

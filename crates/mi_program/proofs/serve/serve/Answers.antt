@@ -12,7 +12,7 @@ pub returns-in-Ok-serve_stream-clause-ok : goal.returns-in-Ok-serve_stream-claus
 returns-in-Ok-serve_stream-clause-ok g c =
     let p = c.in-Ok-serve_stream.ensures.ok in let new = c.serve_stream.new.hub in
     let come = has_come _ _ _ c.new-hub.ensures c.in-Ok.ensures.ok in
-    (p.0, p.1, new, p.2, p.3, p.4, subst (λ s. AllDone s (piece 1 p.0 ∷ close 1 ∷ []) p.1 new) come p.5)
+    (p.0, p.1, new, p.2, p.3, p.4, c.in-Ok-serve_stream.ensures.flushed, subst (λ s. AllDone s (piece 1 p.0 ∷ close 1 ∷ []) p.1 new) come p.5)
 
 pub returns-clause-read : goal.returns-clause-read
 returns-clause-read g c = λ is.
