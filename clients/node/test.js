@@ -282,6 +282,34 @@ test("what would be sent as something else isn't sent", () =>
     assert.equal(JSON.parse(await db.askLine('{"cmd":"insert","row":{"owner":"x\ud83d\ude00","balance":1,"vip":false}}')).ok, true);
   }));
 
+test("a value alone is the key of one part, and isn't taken apart", () =>
+  withDatabase(async (db) => {
+    await db.insert(account("ann", 5));
+    await db.insert(account("a", 7));
+    const found = [db.find("by_balance", 5), db.find("by_balance", 7n), db.find("by_owner", "ann"), db.find("by_owner", new Set(["a"]).values())];
+    assert.deepEqual((await Promise.all(found)).map((it) => it.id), [0, 1, 0, 1]);
+    assert.deepEqual([await db.count("by_vip", true), await db.lowerRank("by_balance", 6), await db.upperRank("by_balance", 7)], [2, 1, 2]);
+    assert.deepEqual((await db.range("by_balance", { lower: { ge: 6 } })).rows.map((it) => it.id), [1]);
+    const walked = [];
+    for await (const row of db.walkRange("by_balance", "balance", { upper: { le: 7 }, lower: { gt: [4].values() }, page: 1 })) walked.push(row.id);
+    assert.deepEqual(walked, [0, 1]);
+    await assert.rejects(db.eraseKey("by_class", "an"), refused("key"));
+    assert.equal(await db.eraseKey("by_owner", "n"), 0);
+    let lines = 0;
+    db._channel.ask = () => (lines++, Promise.reject(new Error("this is sent")));
+    for (const key of [Buffer.from("ann"), new Uint8Array(3), new Set(["ann"]), { owner: "ann" }, null, undefined]) {
+      await assert.rejects(db.eraseKey("by_owner", key), /^TypeError: a key is a value or an array of values, as "ann" or \["ann", 5\]; .* is neither$/);
+      await assert.rejects(db.range("by_owner", { lower: { ge: key } }), /^TypeError: a key is/);
+    }
+    for (const bound of [[5], 5, "ge", new Map()]) {
+      await assert.rejects(db.range("by_balance", { upper: bound }), /^TypeError: a bound is an object, as { ge: \[10\] } or { le: \[10\] }; .* is none$/);
+      await assert.rejects(db.walkRange("by_balance", ["balance"], { lower: bound }).next(), /^TypeError: a bound is an object/);
+    }
+    assert.equal(lines, 0);
+    delete db._channel.ask;
+    assert.equal(await db.size(), 2);
+  }));
+
 test("walks go on page by page", () =>
   withDatabase(async (db) => {
     for (let n = 0; n < 25; n++) await db.insert(account(`owner ${n}`, n % 12));

@@ -99,6 +99,27 @@ function decode(text) {
   return JSON.parse(exact, (_, it) => (it && typeof it === "object" && typeof it.$int === "string" ? BigInt(it.$int) : it));
 }
 
+/** The values of a key: one that is a value alone is the key of one part. Throws where it is neither a value nor several in an order. */
+function keyOf(key) {
+  if (["string", "number", "bigint", "boolean"].includes(typeof key)) return [key];
+  if (key instanceof Uint8Array || key instanceof Set || typeof key?.[Symbol.iterator] !== "function")
+    throw new TypeError(`a key is a value or an array of values, as "ann" or ["ann", 5]; ${kindOf(key)} is neither`);
+  return [...key];
+}
+
+/** A bound with the values of its key. Throws where it is none. */
+function boundOf(bound) {
+  if (bound === undefined || bound === null) return undefined;
+  if (typeof bound !== "object" || typeof bound[Symbol.iterator] === "function")
+    throw new TypeError(`a bound is an object, as { ge: [10] } or { le: [10] }; ${kindOf(bound)} is none`);
+  return Object.fromEntries(Object.entries(bound).map(([side, key]) => [side, keyOf(key)]));
+}
+
+/** What a value is, in a sentence. */
+function kindOf(value) {
+  return Object(value) === value ? value.constructor?.name || "Object" : String(value);
+}
+
 /** A row as it can be sent: without the member `id`, which every reply has and which is no column. */
 function columnsOf(row) {
   const { id, ...columns } = row;
@@ -380,7 +401,7 @@ class Database {
 
   /** Erases every record with a whole key, and answers how many. */
   async eraseKey(index, key, { table } = {}) {
-    return (await this.ask("erase_key", { index, key, table })).erased;
+    return (await this.ask("erase_key", { index, key: keyOf(key), table })).erased;
   }
 
   /** Moves a record of a sequenced index directly before another, or to the end. */
@@ -482,9 +503,10 @@ class Database {
     return (await this.ask("get", { id, table })).row;
   }
 
-  /** The first record with a key; ordered and ranked indexes take the first values of a key too. */
+  /** The first record with a key, an array of its values, or a value alone, which is the key of one part; ordered and ranked indexes take the
+   * first values of a key too. */
   async find(index, key, { table } = {}) {
-    return (await this.ask("find", { index, key, table })).row;
+    return (await this.ask("find", { index, key: keyOf(key), table })).row;
   }
 
   /** The record with n others before it in a ranked index. */
@@ -494,7 +516,7 @@ class Database {
 
   /** How many records have a key. */
   async count(index, key, { table } = {}) {
-    return (await this.ask("count", { index, key, table })).count;
+    return (await this.ask("count", { index, key: keyOf(key), table })).count;
   }
 
   /** How many records stand before a record in a ranked index. */
@@ -504,12 +526,12 @@ class Database {
 
   /** How many keys of a ranked index are less. */
   async lowerRank(index, key, { table } = {}) {
-    return (await this.ask("lower_rank", { index, key, table })).rank;
+    return (await this.ask("lower_rank", { index, key: keyOf(key), table })).rank;
   }
 
   /** How many keys of a ranked index are not greater. */
   async upperRank(index, key, { table } = {}) {
-    return (await this.ask("upper_rank", { index, key, table })).rank;
+    return (await this.ask("upper_rank", { index, key: keyOf(key), table })).rank;
   }
 
   /** How many records the table has. */
@@ -520,7 +542,8 @@ class Database {
   /** The first rows of a range, `{ rows, more }`, at most `limit` (1 to 1000). `lower` is `{ ge: key }` or `{ gt: key }`, `upper` is
    * `{ le: key }` or `{ lt: key }`, in the order of the index. */
   async range(index, { lower, upper, reverse, limit, table } = {}) {
-    const { rows, more } = await this.ask("range", { index, lower, upper, reverse: reverse || undefined, limit, table });
+    const bounds = { lower: boundOf(lower), upper: boundOf(upper) };
+    const { rows, more } = await this.ask("range", { index, ...bounds, reverse: reverse || undefined, limit, table });
     return { rows, more };
   }
 
@@ -546,9 +569,9 @@ class Database {
    * is passed over). The next page begins at the key of the last row, and the rows of that key which came already are passed over; where a
    * page has no others, it begins behind that key. So a walk ends with `TooManyEqual` where more rows have one key than a page has. */
   async *walkRange(index, columns, { lower, upper, reverse = false, page = MOST_ROWS, table } = {}) {
-    const names = columns.map((it) => it.replace(/^-/, ""));
+    const names = [columns].flat().map((it) => it.replace(/^-/, ""));
     const [side, including, beyond] = reverse ? ["upper", "le", "lt"] : ["lower", "ge", "gt"];
-    const bounds = { lower, upper };
+    const bounds = { lower: boundOf(lower), upper: boundOf(upper) };
     let last = null, given = new Set();
     for (let more = true; more; ) {
       const answer = await this.range(index, { ...bounds, reverse, limit: page, table });

@@ -3,12 +3,13 @@ all have these calls under the same names. Nothing here reads or writes."""
 from __future__ import annotations
 
 import json
-from typing import Any, Callable, Dict, Generic, List, Mapping, NamedTuple, Optional, Sequence, Tuple, TypeVar, Union
+from typing import Any, Callable, Dict, Generic, Iterable, List, Mapping, NamedTuple, Optional, Tuple, TypeVar, Union
 
 T = TypeVar("T")
 Row = Dict[str, Any]
-Key = Union[Sequence[Any], Mapping[str, Any]]
-"""The values of a key in the order of the index's parts; or, where the schema is known, by the names of columns."""
+Key = Union[str, int, Iterable[Any], Mapping[str, Any]]
+"""A value alone, which is the key of one part; the values of a key in the order of the index's parts; or, where the schema is known, by the
+names of columns."""
 Bound = Mapping[str, Key]
 """`{"ge": key}` or `{"gt": key}` below, `{"le": key}` or `{"lt": key}` above."""
 
@@ -79,8 +80,31 @@ def columns_of(row: Row) -> Row:
     return {name: it for name, it in row.items() if name != "id"}
 
 
-def _key(key: Key) -> Key:
-    return key if isinstance(key, Mapping) else list(key)
+class Alone(List[Any]):
+    """The key of one part that was given as a value alone. Over an index of several parts it is refused before it is sent."""
+
+
+Values = Union[List[Any], Mapping[str, Any]]
+
+
+def key_of(key: Key) -> Values:
+    """The values of a key, in order or by columns. Raises TypeError where it is neither a value nor several in an order."""
+    if isinstance(key, (Alone, Mapping)):
+        return key
+    if isinstance(key, (str, int, float)):
+        return Alone([key])
+    if isinstance(key, (bytes, bytearray, memoryview, set, frozenset)) or not isinstance(key, Iterable):
+        raise TypeError(f'a key is a value or a list of values, as "ann" or ["ann", 5]; {type(key).__name__} is neither')
+    return list(key)
+
+
+def bound_of(bound: Optional[Bound]) -> Optional[Mapping[str, Values]]:
+    """A bound with the values of its key. Raises TypeError where it is none."""
+    if bound is None:
+        return None
+    if not isinstance(bound, Mapping):
+        raise TypeError(f'a bound is a mapping, as {{"ge": [10]}} or {{"le": [10]}}; {type(bound).__name__} is none')
+    return {side: key_of(it) for side, it in bound.items()}
 
 
 def ask(cmd: str, **members: Any) -> Request[Dict[str, Any]]:
@@ -116,7 +140,7 @@ def erase(id: int, table: Optional[str] = None) -> Request[None]:
 
 def erase_key(index: str, key: Key, table: Optional[str] = None) -> Request[int]:
     """Erases every record with a whole key, and answers how many."""
-    return Request("erase_key", member("erased"), index=index, key=_key(key), table=table)
+    return Request("erase_key", member("erased"), index=index, key=key_of(key), table=table)
 
 
 def relocate(index: str, id: int, before: Optional[int] = None, table: Optional[str] = None) -> Request[None]:
@@ -178,7 +202,7 @@ def get(id: int, table: Optional[str] = None) -> Request[Row]:
 
 def find(index: str, key: Key, table: Optional[str] = None) -> Request[Row]:
     """The first record with a key; ordered and ranked indexes take the first values of a key too."""
-    return Request("find", _row, index=index, key=_key(key), table=table)
+    return Request("find", _row, index=index, key=key_of(key), table=table)
 
 
 def nth(index: str, n: int, table: Optional[str] = None) -> Request[Row]:
@@ -188,7 +212,7 @@ def nth(index: str, n: int, table: Optional[str] = None) -> Request[Row]:
 
 def count(index: str, key: Key, table: Optional[str] = None) -> Request[int]:
     """How many records have a key."""
-    return Request("count", _count, index=index, key=_key(key), table=table)
+    return Request("count", _count, index=index, key=key_of(key), table=table)
 
 
 def rank(index: str, id: int, table: Optional[str] = None) -> Request[int]:
@@ -198,12 +222,12 @@ def rank(index: str, id: int, table: Optional[str] = None) -> Request[int]:
 
 def lower_rank(index: str, key: Key, table: Optional[str] = None) -> Request[int]:
     """How many keys of a ranked index are less."""
-    return Request("lower_rank", _rank, index=index, key=_key(key), table=table)
+    return Request("lower_rank", _rank, index=index, key=key_of(key), table=table)
 
 
 def upper_rank(index: str, key: Key, table: Optional[str] = None) -> Request[int]:
     """How many keys of a ranked index are not greater."""
-    return Request("upper_rank", _rank, index=index, key=_key(key), table=table)
+    return Request("upper_rank", _rank, index=index, key=key_of(key), table=table)
 
 
 def size(table: Optional[str] = None) -> Request[int]:
@@ -221,7 +245,8 @@ def range(
 ) -> Request[Page]:
     """The first rows of a range, at most `limit` (1 to 1000, 1000 where it is None). `lower` is `{"ge": key}` or
     `{"gt": key}`, `upper` is `{"le": key}` or `{"lt": key}`, in the order of the index."""
-    return Request("range", _page, index=index, lower=lower, upper=upper, reverse=reverse or None, limit=limit, table=table)
+    bounds = {"lower": bound_of(lower), "upper": bound_of(upper)}
+    return Request("range", _page, index=index, **bounds, reverse=reverse or None, limit=limit, table=table)
 
 
 def list_(index: str, after: Optional[int] = None, limit: Optional[int] = None, table: Optional[str] = None) -> Request[Page]:

@@ -8,7 +8,7 @@ import json
 from typing import TYPE_CHECKING, Any, Callable, Dict, Mapping, Optional, TypeVar
 
 from mi_client import explain
-from mi_client.calls import Key, Request
+from mi_client.calls import Alone, Request, Values
 from mi_client.errors import NeedsSchema, Refused
 from mi_client.schema import Schema
 
@@ -32,19 +32,21 @@ class Dialect:
 
     def line(self, request: Request[Any]) -> bytes:
         """The line of a request. Keys that are given by columns become lists in its members. Raises NeedsSchema, ValueError
-        where such a key isn't one of its index, and TypeError where a value is nothing that JSON has."""
+        where such a key, or a value alone, isn't one of its index, and TypeError where a value is nothing that JSON has."""
         members = request.members
         if "key" in members:
             members["key"] = self.key(members, members["key"])
         for side in ("lower", "upper"):
-            if side in members:
+            if isinstance(members.get(side), Mapping):
                 members[side] = {name: self.key(members, it) for name, it in members[side].items()}
         return request.line()
 
-    def key(self, members: Mapping[str, Any], key: Key) -> Any:
-        if not isinstance(key, Mapping):
+    def key(self, members: Mapping[str, Any], key: Values) -> Any:
+        if not isinstance(key, (Alone, Mapping)):
             return key
         if self.schema is None:
+            if isinstance(key, Alone):
+                return key  # (the server knows how many parts the index has)
             raise NeedsSchema("a key is given by columns, and this connection was opened without a schema")
         return self.schema.key(members["index"], key, members.get("table"))
 

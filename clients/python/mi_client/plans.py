@@ -49,9 +49,10 @@ def walk_range(
     page: int,
     table: Optional[str],
 ) -> Plan[None]:
+    columns = [columns] if isinstance(columns, str) else columns
     names = [it.lstrip("-") for it in columns] if columns else known(schema, index, table).columns
     side, including, beyond = ("upper", "le", "lt") if reverse else ("lower", "ge", "gt")
-    bounds: Dict[str, Optional[Bound]] = {"lower": lower, "upper": upper}
+    bounds: Dict[str, Optional[Bound]] = {"lower": calls.bound_of(lower), "upper": calls.bound_of(upper)}
     last: List[Any] = []
     given: Set[int] = set()
     newest = -1
@@ -231,8 +232,11 @@ def known(schema: Optional[Schema], index: str, table: Optional[str]) -> Index:
 
 
 def values(schema: Optional[Schema], index: str, key: Key, table: Optional[str]) -> Sequence[Any]:
-    """The values of a key, by the schema where it is given by columns."""
-    return known(schema, index, table).values(key) if isinstance(key, Mapping) else list(key)
+    """The values of a key, by the schema where it is given by columns. Raises as `Schema.key` and `known` do."""
+    given = calls.key_of(key)
+    if isinstance(given, Mapping):
+        return known(schema, index, table).values(given)
+    return list(schema.key(index, given, table) if schema else given)
 
 
 def _only_ranked(schema: Optional[Schema], table: Optional[str]) -> str:

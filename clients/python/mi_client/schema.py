@@ -7,7 +7,7 @@ from dataclasses import dataclass
 from typing import Any, Dict, List, Mapping, Optional, Sequence, Tuple, Union
 
 from mi_client import toml_places
-from mi_client.calls import Key
+from mi_client.calls import Alone, Values
 
 BUILT_IN = """
 table = "accounts"
@@ -128,13 +128,16 @@ class Schema:
             return self.tables[0]
         return next((it for it in self.tables if it.name == name), None)
 
-    def key(self, index: str, key: Key, table: Optional[str] = None) -> Sequence[Any]:
-        """The values of a key. One that is given by columns is put in order; where index or table isn't there, the server says so."""
-        if not isinstance(key, Mapping):
-            return key
+    def key(self, index: str, key: Values, table: Optional[str] = None) -> Sequence[Any]:
+        """The values of a key. One that is given by columns is put in order; where index or table isn't there, the server says so. Raises
+        ValueError where it isn't one of the index, as a value alone where that has several parts."""
         home = self.table(table)
         found = home.index(index) if home else None
-        return found.values(key) if found else list(key.values())
+        if isinstance(key, Mapping):
+            return found.values(key) if found else list(key.values())
+        if isinstance(key, Alone) and found and len(found.parts) > 1:
+            raise ValueError(f"the key of {index} has the parts {', '.join(found.columns)}, so a value alone is none: give a list of values")
+        return key
 
 
 def _plain(node: Any) -> Any:
