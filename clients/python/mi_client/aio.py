@@ -59,19 +59,28 @@ class AsyncDatabase:
         self._blocks: List[object] = []  # (of the open sessions, the innermost last)
         self._ended = asyncio.Event()  # (a moment, at which those who wait for a block look again)
         self._closed_for = ""
+        self._timeout: Optional[float] = None
+        self._clock: Optional[asyncio.Handle] = None
         self._reading = asyncio.ensure_future(self._read())
 
     @classmethod
     async def connect(
-        cls, port: int, schema: Union[None, str, os.PathLike[str], Schema] = None, wait: float = 0.0, window: int = WINDOW
+        cls,
+        port: int,
+        schema: Union[None, str, os.PathLike[str], Schema] = None,
+        wait: float = 0.0,
+        window: int = WINDOW,
+        timeout: Optional[float] = None,
+        host: str = "127.0.0.1",
     ) -> AsyncDatabase:
         """A connection to a server that listens on this port of 127.0.0.1, or does so within `wait` seconds; else OSError is
-        raised. At most `window` replies are awaited at a time."""
+        raised. At most `window` replies are awaited at a time. A reply that takes longer than `timeout` seconds ends the connection.
+        Another `host` has members of a ledger alone."""
         read, places = Schema.of(schema), Places(window)
         end = time.monotonic() + wait
         while True:
             try:
-                reader, writer = await asyncio.open_connection("127.0.0.1", port)
+                reader, writer = await asyncio.wait_for(asyncio.open_connection(host, port), timeout)
                 if writer.get_extra_info("sockname") == writer.get_extra_info("peername"):
                     writer.transport.abort()  # (where nobody listens the system may have chosen this very port, and joined the two ends)
                     raise ConnectionRefusedError(errno.ECONNREFUSED, os.strerror(errno.ECONNREFUSED))
@@ -80,8 +89,12 @@ class AsyncDatabase:
                 if time.monotonic() >= end:
                     raise
                 await asyncio.sleep(0.02)
+            except asyncio.TimeoutError:  # (which is no OSError ahead of Python 3.11)
+                raise TimeoutError("the server took too long") from None
         writer.get_extra_info("socket").setsockopt(socket.IPPROTO_TCP, socket.TCP_NODELAY, 1)
-        return cls(reader, writer, None, read, places)
+        made = cls(reader, writer, None, read, places)
+        made.answer_within(timeout)
+        return made
 
     @classmethod
     async def start(
@@ -106,6 +119,11 @@ class AsyncDatabase:
     def schema(self) -> Optional[Schema]:
         """The tables, where they are known."""
         return self._dialect.schema
+
+    def answer_within(self, timeout: Optional[float]) -> None:
+        """From here on a reply that takes longer than so many seconds ends the connection; None waits. Nothing is awaited here."""
+        self._timeout = timeout
+        self._begin_time()
 
     async def __aenter__(self) -> AsyncDatabase:
         return self
@@ -170,6 +188,8 @@ class AsyncDatabase:
                     raise Ended(self._closed_for)
                 reply: asyncio.Future[bytes] = asyncio.get_running_loop().create_future()
                 self._awaited.append(reply)
+                if len(self._awaited) == 1:
+                    self._begin_time()
                 self._writer.write(line)
                 try:
                     with contextlib.suppress(ConnectionError):  # (the reader says why)
@@ -216,6 +236,7 @@ class AsyncDatabase:
                 if not reply.done():
                     reply.set_exception(Ended(self._closed_for))
             self._awaited.clear()
+            self._begin_time()
             self._wake()
 
     async def _give_replies(self) -> None:
@@ -230,6 +251,28 @@ class AsyncDatabase:
                 reply = self._awaited.popleft()
                 if not reply.done():
                     reply.set_result(it)
+            if lines:
+                self._begin_time()
+
+    def _begin_time(self) -> None:
+        """The first of the awaited replies has its whole time from here on."""
+        if self._clock:
+            self._clock.cancel()
+            self._clock = None
+        if self._timeout is not None and self._awaited:
+            loop = asyncio.get_running_loop()
+
+            def over() -> None:
+                # (where the loop was kept busy for so long, the reply that has come meanwhile is read ahead of this)
+                self._clock = loop.call_soon(self._took_too_long)
+
+            self._clock = loop.call_later(self._timeout, over)
+
+    def _took_too_long(self) -> None:
+        if self._process:
+            with contextlib.suppress(ProcessLookupError):
+                self._process.kill()  # (one that stands still wouldn't end by itself, and its tables go with the connection)
+        self._break_off("the server took too long")
 
     def _acknowledge(self) -> None:
         """The server's next reply may wait for this, which the system else puts off for 40 ms."""

@@ -7,7 +7,8 @@ import functools
 import os
 import select
 import socket
-from typing import Callable, Deque, List, Optional
+import time
+from typing import Callable, Deque, List, Optional, Tuple
 
 LARGEST_READ = 1 << 16
 IN = select.POLLIN | select.POLLHUP | select.POLLERR | select.POLLNVAL
@@ -35,7 +36,7 @@ class Channel:
 
     @classmethod
     def of_pipes(cls, reading: int, writing: int, timeout: Optional[float] = None) -> Channel:
-        """Over the descriptors of two pipes. A wait that takes longer than `timeout` seconds raises TimeoutError."""
+        """Over the descriptors of two pipes. A reply that takes longer than `timeout` seconds raises TimeoutError."""
         os.set_blocking(writing, False)
         return cls(reading, writing, functools.partial(os.write, writing), timeout)
 
@@ -50,8 +51,8 @@ class Channel:
         return made
 
     def wait_for(self, timeout: Optional[float]) -> None:
-        """A wait that takes longer than so many seconds raises TimeoutError."""
-        self._timeout: Optional[int] = None if timeout is None else max(1, int(timeout * 1000))
+        """A reply that is waited for longer than so many seconds, however it trickles in, raises TimeoutError."""
+        self._timeout = self._left = None if timeout is None else max(0.001, timeout)
 
     def queued(self) -> int:
         """How many bytes are still to be written."""
@@ -71,7 +72,8 @@ class Channel:
         return self._lines.popleft()
 
     def write_all(self, data: bytes) -> None:
-        """Writes bytes that have no reply."""
+        """Writes bytes that have no reply, for which the time is that of a reply."""
+        self._left = self._timeout
         self._out += data
         self._write()
         while self._out:
@@ -94,12 +96,20 @@ class Channel:
             self._read()  # (which waits)
             return
         poller = self._both if self._out else self._in
-        ready = poller.poll(self._timeout if wait else 0)
-        if wait and not ready:
-            raise TimeoutError("the server took too long")
-        for it, events in ready:
+        for it, events in self._waited(poller) if wait else poller.poll(0):
             if it == self._reading and events & IN:
                 self._read()
+
+    def _waited(self, poller: select.poll) -> List[Tuple[int, int]]:
+        """What can be read or written, for which no longer is waited than is left for the reply."""
+        if self._left is None:
+            return poller.poll()
+        began = time.monotonic()
+        ready = poller.poll(1000 * self._left) if self._left > 0 else []
+        self._left -= time.monotonic() - began
+        if not ready:
+            raise TimeoutError("the server took too long")
+        return ready
 
     def _write(self) -> None:
         """A failed write is raised once all that the other side wrote before has been read."""
@@ -119,11 +129,13 @@ class Channel:
         if self._acknowledge:
             self._acknowledge()
         if not self._rest and data.find(b"\n") == len(data) - 1:
+            self._left = self._timeout
             self._lines.append(data[:-1])
             return
         head, newline, tail = data.partition(b"\n")
         self._rest.append(head)
         if newline:
+            self._left = self._timeout
             self._lines.append(b"".join(self._rest))
             *whole, rest = tail.split(b"\n")
             self._lines.extend(whole)
