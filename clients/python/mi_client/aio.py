@@ -171,10 +171,13 @@ class AsyncDatabase:
 
     async def pass_turn(self) -> None:
         """Sends an empty line, which has no reply, so that the other connections of the server can go on."""
-        if self._closed_for:
-            raise Ended(self._closed_for)
-        self._writer.write(b"\n")
-        await self._writer.drain()
+        if not self._closed_for:
+            self._writer.write(b"\n")
+            with contextlib.suppress(OSError):  # (the reader says why)
+                await self._writer.drain()
+                return
+            await asyncio.wait([self._reading])
+        raise Ended(self._closed_for)
 
     async def _exchange(self, line: bytes, block: Optional[object] = None) -> bytes:
         """The reply to a line. Where the line begins or ends a `block`, and the wait for its reply is interrupted, nobody knows
@@ -192,7 +195,7 @@ class AsyncDatabase:
                     self._begin_time()
                 self._writer.write(line)
                 try:
-                    with contextlib.suppress(ConnectionError):  # (the reader says why)
+                    with contextlib.suppress(OSError):  # (the reader says why)
                         await self._writer.drain()
                     return await reply
                 except BaseException:
@@ -226,10 +229,11 @@ class AsyncDatabase:
     async def _read(self) -> None:
         """Gives the replies to those who wait for them, and Ended to those who get none."""
         try:
-            with contextlib.suppress(OSError):
-                await self._give_replies()
+            await self._give_replies()
             why = await self._why()
             self._closed_for = self._closed_for or why
+        except OSError as error:
+            self._break_off(str(error) or "the connection broke off")
         finally:
             self._closed_for = self._closed_for or "the connection is closed"
             for reply in self._awaited:
@@ -248,6 +252,8 @@ class AsyncDatabase:
             self._acknowledge()
             *lines, rest = (rest + data).split(b"\n")
             for it in lines:
+                if not self._awaited:
+                    raise ConnectionError("the server sent a line that nothing asked for")
                 reply = self._awaited.popleft()
                 if not reply.done():
                     reply.set_result(it)

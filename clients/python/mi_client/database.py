@@ -174,15 +174,20 @@ class Database(Walks):
 
     def _settle(self, made: Union[Pipeline, LinesAhead], error: Optional[BaseException]) -> None:
         """At the end of a block all that was sent ahead in it is answered; behind an interruption the connection ends instead."""
-        try:
-            if error is None or (isinstance(error, (Exception, GeneratorExit)) and self.is_open()):
+        if error is None or (isinstance(error, (Exception, GeneratorExit)) and self.is_open()):
+            try:
                 made.flush()
-                return
-        except Exception:
-            raise  # (what breaks off has ended the connection)
-        except BaseException:
-            self.close()
-            raise
+            except Exception:
+                raise  # (what breaks off has ended the connection)
+            except BaseException as interruption:
+                self._break_off(f"calls sent ahead were interrupted by {type(interruption).__name__}")
+                raise
+        else:
+            self._break_off(f"calls sent ahead were interrupted by {type(error).__name__}")
+
+    def _break_off(self, why: str) -> None:
+        """Ends the connection, which says from here on why."""
+        self._closed_for = self._closed_for or f"{why}: the connection is closed"
         self.close()
 
     def _flush(self, but: Any = None) -> None:
@@ -286,7 +291,7 @@ class _Unbroken:
             # (a signal handler may have closed it meanwhile)
             raise Ended(self._db._closed_for or self._db._why(error)) from error
         if error is not None:
-            self._db.close()
+            self._db._break_off(f"a call was interrupted by {type(error).__name__}")
 
 
 def joins_itself(stream: socket.socket) -> bool:

@@ -27,8 +27,8 @@ class Calls:
     _blocks: List[object]
     """Of the open sessions, the innermost last."""
 
-    def close(self) -> None:
-        """Ends the connection."""
+    def _break_off(self, why: str) -> None:
+        """Ends the connection, which says from here on why."""
         raise NotImplementedError
 
     def send(self, request: Request[T]) -> T:
@@ -99,7 +99,7 @@ class Calls:
                 is_settled = True
             finally:
                 if not is_settled:
-                    self.close()
+                    self._break_off("a session was interrupted where it begins or ends")
                 if mine in self._blocks:
                     self._blocks.remove(mine)
 

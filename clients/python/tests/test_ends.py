@@ -2,12 +2,14 @@
 server does. The servers here are threads of the test."""
 import asyncio
 import contextlib
+import errno
 import os
 import signal
 import socket
+import struct
 import threading
 import unittest
-from typing import Any, Callable, List
+from typing import Any, Callable, Iterator, List
 from unittest import mock
 
 import kit
@@ -26,9 +28,10 @@ def listener(test: unittest.TestCase, serve: Serve) -> int:
     it = socket.create_server(("127.0.0.1", 0))
 
     def work() -> None:
-        stream, _ = it.accept()
-        with stream, contextlib.suppress(OSError):
-            serve(stream)
+        with contextlib.suppress(OSError):
+            stream, _ = it.accept()
+            with stream:
+                serve(stream)
 
     thread = threading.Thread(target=work, daemon=True)
     thread.start()
@@ -47,6 +50,115 @@ def trickles(stream: socket.socket) -> None:
         with contextlib.suppress(socket.timeout):
             if not stream.recv(65_536):
                 return
+
+
+def dies(stream: socket.socket) -> None:
+    """The end comes in the middle of a reply."""
+    stream.recv(65_536)
+    stream.send(b'{"ok":true,"si')
+    stream.shutdown(socket.SHUT_WR)
+    while stream.recv(65_536):  # (what isn't read would reset the connection)
+        pass
+
+
+def resets(stream: socket.socket) -> None:
+    stream.recv(65_536)
+    stream.send(b'{"ok":true,"si')
+    stream.setsockopt(socket.SOL_SOCKET, socket.SO_LINGER, struct.pack("ii", 1, 0))
+
+
+def says_more(stream: socket.socket) -> None:
+    """Lines that nothing asked for, until the client has gone."""
+    while True:
+        stream.send(b'{"ok":true,"size":1}\n')
+
+
+ENDS = [(dies, "^the server ended the connection$"), (resets, "Connection reset by peer$|Broken pipe$")]
+
+
+class Reasons(unittest.TestCase):
+    """Whatever ends a connection, its calls raise Ended and say why, also those that come later."""
+
+    def test_a_server_that_ends_in_the_middle_of_a_reply(self) -> None:
+        for serve, why in ENDS:
+            for call in [*CALLS, pass_turns]:
+                with Database.connect(listener(self, serve)) as db:
+                    for _ in range(2):
+                        with self.assertRaisesRegex(Ended, why):
+                            call(db)
+                    self.assertFalse(db.is_open())
+
+    def test_such_a_server_and_tasks(self) -> None:
+        async def main(port: int, call: Callable[[Any], Any], why: str) -> None:
+            async with await AsyncDatabase.connect(port) as db:
+                for _ in range(2):
+                    with self.assertRaisesRegex(Ended, why):
+                        await asyncio.wait_for(call(db), 20)
+
+        for serve, why in ENDS:
+            for call in [*CALLS_OF_TASKS, pass_turns_of_tasks]:
+                asyncio.run(main(listener(self, serve), call, why))
+
+    def test_a_stream_that_fails(self) -> None:
+        """By an error that is no ConnectionError, as where the network is gone."""
+        async def main(port: int, call: Callable[[Any], Any]) -> None:
+            async with await AsyncDatabase.connect(port) as db:
+                db._reader.set_exception(OSError(errno.ENETUNREACH, "no network"))
+                with self.assertRaisesRegex(Ended, "no network"):
+                    await asyncio.wait_for(call(db), 20)
+
+        for call in [*CALLS_OF_TASKS, pass_turns_of_tasks]:
+            asyncio.run(main(listener(self, lambda stream: stream.recv(65_536)), call))
+
+    def test_lines_that_nothing_asked_for(self) -> None:
+        async def main(port: int) -> None:
+            async with await AsyncDatabase.connect(port) as db:
+                with self.assertRaisesRegex(Ended, "^the server sent a line that nothing asked for$"):
+                    while True:
+                        await asyncio.wait_for(db.size(), 20)
+
+        asyncio.run(main(listener(self, says_more)))
+
+    def test_an_interrupted_call(self) -> None:
+        def interrupts(stream: socket.socket) -> None:
+            stream.recv(65_536)
+            signal.pthread_kill(threading.main_thread().ident or 0, signal.SIGUSR1)
+            stream.recv(65_536)
+
+        def interrupt(*_: Any) -> None:
+            raise KeyboardInterrupt
+
+        self.addCleanup(signal.signal, signal.SIGUSR1, signal.signal(signal.SIGUSR1, interrupt))
+        for call in CALLS:
+            with Database.connect(listener(self, interrupts)) as db:
+                with self.assertRaises(KeyboardInterrupt):
+                    call(db)
+                self.ended(db, "^a call was interrupted by KeyboardInterrupt: the connection is closed$")
+
+    def test_an_interrupted_block(self) -> None:
+        def lines() -> Iterator[str]:
+            yield '{"cmd":"size"}'
+            raise KeyboardInterrupt
+
+        db = kit.start(self)
+        with self.assertRaises(KeyboardInterrupt), db.pipeline() as made:
+            made.size()
+            raise KeyboardInterrupt
+        self.ended(db, "^calls sent ahead were interrupted by KeyboardInterrupt: the connection is closed$")
+        db = kit.start(self)
+        with self.assertRaises(KeyboardInterrupt):
+            list(db.ask_lines(lines()))
+        self.ended(db, "^calls sent ahead were interrupted by KeyboardInterrupt: the connection is closed$")
+        db = kit.start(self)
+        with mock.patch.object(db._dialect, "read", side_effect=KeyboardInterrupt), self.assertRaises(KeyboardInterrupt):
+            within(db)
+        self.ended(db, "^a session was interrupted where it begins or ends: the connection is closed$")
+
+    def ended(self, db: Database, why: str) -> None:
+        self.assertFalse(db.is_open())
+        for call in CALLS:
+            with self.assertRaisesRegex(Ended, why):
+                call(db)
 
 
 class Timeouts(unittest.TestCase):
@@ -134,6 +246,19 @@ def ahead(db: Database) -> None:
 def within(db: Database) -> None:
     with db.session():
         db.insert(kit.ANN)
+
+
+def pass_turns(db: Database) -> None:
+    """Empty lines, until one can't be written or what the server said is read."""
+    while True:
+        db.pass_turn()
+        db.size()
+
+
+async def pass_turns_of_tasks(db: AsyncDatabase) -> None:
+    while True:
+        await db.pass_turn()
+        await asyncio.sleep(0)
 
 
 async def within_of_tasks(db: AsyncDatabase) -> None:
