@@ -11,20 +11,20 @@ import errno
 import os
 import socket
 import time
-from typing import TYPE_CHECKING, Any, AsyncIterator, Awaitable, Callable, Deque, Iterable, List, Optional, Sequence, Tuple, TypeVar, Union
+from typing import TYPE_CHECKING, Any, AsyncIterator, Awaitable, Callable, Deque, Iterable, List, Optional, Tuple, TypeVar, Union
 
-from mi_client import calls, plans
-from mi_client.calls import MOST_ROWS, Bound, Key, Request, Row
+from mi_client import calls
+from mi_client.aio_walks import AwaitedWalks
+from mi_client.calls import Request
 from mi_client.database import schema_of
 from mi_client.dialect import Dialect, sent_by
-from mi_client.errors import Ended, Refused
+from mi_client.errors import Ended
+from mi_client.old_forms import Openness
 from mi_client.pipeline import WINDOW
 from mi_client.places import Places
-from mi_client.plans import Batch, Plan, Window
 from mi_client.schema import Schema
 
 T = TypeVar("T")
-R = TypeVar("R")
 
 if TYPE_CHECKING:
     from typing_extensions import Concatenate, ParamSpec
@@ -40,7 +40,7 @@ _within: contextvars.ContextVar[Tuple[object, ...]] = contextvars.ContextVar("wi
 """The blocks of sessions that a task is in, of all connections."""
 
 
-class AsyncDatabase:
+class AsyncDatabase(AwaitedWalks):
     """A connection. Close it, or use it in an `async with`: what it holds is then undone by the server."""
 
     def __init__(
@@ -119,6 +119,16 @@ class AsyncDatabase:
     def schema(self) -> Optional[Schema]:
         """The tables, where they are known."""
         return self._dialect.schema
+
+    @property
+    def process(self) -> Optional[int]:
+        """The number of the server's process, where it is this connection's own."""
+        return self._process.pid if self._process else None
+
+    @property
+    def is_open(self) -> Openness:
+        """Whether commands can be asked: the connection wasn't closed and hasn't broken off, as far as is known."""
+        return Openness(not self._closed_for)
 
     def answer_within(self, timeout: Optional[float]) -> None:
         """From here on a reply that takes longer than so many seconds ends the connection; None waits. Nothing is awaited here."""
@@ -293,7 +303,7 @@ class AsyncDatabase:
         said = (await self._process.stderr.read()).decode(errors="replace").strip()
         return f"the server ended with status {await self._process.wait()}{': ' if said else ''}{said}"
 
-    # Blocks and walks
+    # Blocks
 
     @contextlib.asynccontextmanager
     async def session(self) -> AsyncIterator[int]:
@@ -338,71 +348,6 @@ class AsyncDatabase:
     async def _step(self, block: object, request: Request[T]) -> T:
         """The answer to a request by which a block begins or ends."""
         return self._dialect.read(request, await self._exchange(self._dialect.line(request), block))
-
-    def walk_range(
-        self,
-        index: str,
-        columns: Optional[Sequence[str]] = None,
-        lower: Optional[Bound] = None,
-        upper: Optional[Bound] = None,
-        reverse: bool = False,
-        page: int = MOST_ROWS,
-        table: Optional[str] = None,
-    ) -> AsyncIterator[Row]:
-        """The rows of a range, one page after another, as `Database.walk_range` has them."""
-        return self._rows(plans.walk_range(self.schema, index, columns, lower, upper, reverse, page, table))
-
-    def walk_list(self, index: str, page: int = MOST_ROWS, table: Optional[str] = None) -> AsyncIterator[Row]:
-        """The rows of a sequenced index, one page after another."""
-        return self._rows(plans.walk_list(index, page, table))
-
-    def equal(self, index: str, key: Key, table: Optional[str] = None, page: int = MOST_ROWS) -> AsyncIterator[Row]:
-        """Every record with a key, as `Database.equal` has them."""
-        return self._rows(plans.equal(self.schema, index, key, table, page))
-
-    async def window(self, index: str, place: int, n: int, table: Optional[str] = None) -> Window:
-        """The rows of a ranked index at the places from `place` on, at most n."""
-        return await self._answer(plans.window(index, place, n, table))
-
-    async def around(self, id: int, n: int, index: Optional[str] = None, table: Optional[str] = None) -> Window:
-        """A record, n rows before it and n behind it in a ranked index."""
-        return await self._answer(plans.around(self.schema, id, n, index, table))
-
-    async def count_range(self, index: str, from_key: Key, to_key: Key, table: Optional[str] = None) -> int:
-        """How many records of a ranked index have a key between two, both included, in the order of the index."""
-        return await self._answer(plans.count_range(self.schema, index, from_key, to_key, table))
-
-    async def _asked(self, batch: Batch) -> List[asyncio.Task[Any]]:
-        """The answers to requests that are sent together."""
-        answers = [asyncio.ensure_future(self.send(it)) for it in batch.requests]
-        for it in await asyncio.gather(*answers, return_exceptions=True):
-            if isinstance(it, BaseException) and not isinstance(it, Refused):
-                raise it
-        return answers
-
-    async def _rows(self, plan: Plan[R]) -> AsyncIterator[Row]:
-        answers: Optional[List[asyncio.Task[Any]]] = None
-        while True:
-            try:
-                step = plan.send(answers)
-            except StopIteration:
-                return
-            answers = None
-            if isinstance(step, Batch):
-                answers = await self._asked(step)
-            else:
-                yield step
-
-    async def _answer(self, plan: Plan[R]) -> R:
-        answers: Optional[List[asyncio.Task[Any]]] = None
-        while True:
-            try:
-                step = plan.send(answers)
-            except StopIteration as end:
-                found: R = end.value
-                return found
-            assert isinstance(step, Batch)
-            answers = await self._asked(step)
 
     ask = awaited(calls.ask)
 

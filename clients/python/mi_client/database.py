@@ -17,6 +17,7 @@ from mi_client.calls import Request
 from mi_client.channel import Channel
 from mi_client.dialect import Dialect
 from mi_client.errors import Ended
+from mi_client.old_forms import Openness
 from mi_client.pipeline import WINDOW, LinesAhead, Pipeline
 from mi_client.schema import Schema
 from mi_client.walks import Walks
@@ -108,9 +109,10 @@ class Database(Walks):
         with self._lock:
             self._channel.wait_for(timeout)
 
-    def is_open(self) -> bool:
+    @property
+    def is_open(self) -> Openness:
         """Whether commands can be asked: the connection wasn't closed and hasn't broken off, as far as is known."""
-        return not self._closed_for
+        return Openness(not self._closed_for)
 
     def close(self) -> None:
         """Ends the connection, once no other thread asks on it. The server undoes the sessions that it holds. Closing twice is
@@ -174,7 +176,7 @@ class Database(Walks):
 
     def _settle(self, made: Union[Pipeline, LinesAhead], error: Optional[BaseException]) -> None:
         """At the end of a block all that was sent ahead in it is answered; behind an interruption the connection ends instead."""
-        if error is None or (isinstance(error, (Exception, GeneratorExit)) and self.is_open()):
+        if error is None or (isinstance(error, (Exception, GeneratorExit)) and self.is_open):
             try:
                 made.flush()
             except Exception:

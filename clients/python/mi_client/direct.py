@@ -8,6 +8,7 @@ from mi_client import calls
 from mi_client.calls import Request
 from mi_client.dialect import sent_by
 from mi_client.errors import Ended, Refused
+from mi_client.old_forms import Openness
 
 T = TypeVar("T")
 
@@ -39,7 +40,8 @@ class Calls:
         """A block in which no other thread asks on this connection."""
         raise NotImplementedError
 
-    def is_open(self) -> bool:
+    @property
+    def is_open(self) -> Openness:
         """Whether commands can be asked."""
         raise NotImplementedError
 
@@ -91,7 +93,7 @@ class Calls:
                 try:
                     yield number
                 except BaseException:
-                    if self.is_open():
+                    if self.is_open:
                         self._end_session(mine, number, self.undo)
                     is_settled = True
                     raise
@@ -106,7 +108,7 @@ class Calls:
     def _end_session(self, block: object, number: int, step: Callable[[], int]) -> None:
         """Ends the session of this number and those above it, as far as the connection holds them: what was committed or pushed
         in the block isn't its own any more."""
-        if self.is_open() and self._blocks[-1] is not block:
+        if self.is_open and self._blocks[-1] is not block:
             raise RuntimeError("the block of a session ends before one that began later: the connection is closed")
         now = self.revision()
         while now.held > 0 and now.revision >= number:

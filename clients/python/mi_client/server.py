@@ -14,6 +14,7 @@ from typing import Any, List, Optional, Union
 
 from mi_client.database import Database, schema_of
 from mi_client.errors import Ended
+from mi_client.old_forms import clients_first
 
 GUARD = ["sh", "-c", 'read -r _; kill "$1" 2> /dev/null', "sh"]
 """Ends a process once the pipe that it reads has nobody who could write into it."""
@@ -29,11 +30,12 @@ class Server:
     `mi_service`, whose clients come and go, and which may keep a journal. Either ends when this object or this process is gone,
     or at the end of a `with` block."""
 
+    @clients_first
     def __init__(
         self,
         program: AnyPath = None,
-        clients: int = 1,
         schema: AnyPath = None,
+        clients: int = 1,
         wait: float = 10.0,
         *,
         service: AnyPath = None,

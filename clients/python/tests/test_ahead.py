@@ -148,7 +148,7 @@ class Ahead:
                 self.end()
                 while True:
                     ahead.size()
-        self.assertFalse(self.db.is_open())
+        self.assertFalse(self.db.is_open)
 
     def end(self) -> None:
         raise NotImplementedError

@@ -2,6 +2,8 @@
 import asyncio
 import contextlib
 import inspect
+import os
+import signal
 import unittest
 from typing import Any, AsyncIterator
 from unittest import mock
@@ -30,6 +32,18 @@ class Names(unittest.TestCase):
         self.assertEqual(named(Pipeline), direct)
         self.assertEqual(list(direct["insert"].parameters), ["self", "row", "table", "before"])
         self.assertIn("Adds a record", Database.insert.__doc__ or "")
+
+
+    def test_what_one_of_them_has_alone(self) -> None:
+        def public(kind: Any) -> "set[str]":
+            return {it for it in dir(kind) if not it.startswith("_")}
+
+        self.assertEqual(public(Database) - public(AsyncDatabase), {"alone", "pipeline"})  # (tasks wait for a block, and are sent ahead)
+        self.assertEqual(public(AsyncDatabase) - public(Database), set())
+        for kind in (Database, AsyncDatabase):
+            self.assertEqual({it for it in public(kind) if isinstance(inspect.getattr_static(kind, it), property)}, {"schema", "process", "is_open"})
+        lacking = set(inspect.signature(Database.connect).parameters) - set(inspect.signature(AsyncDatabase.connect).parameters)
+        self.assertEqual(lacking, set())
 
 
 class Waits(unittest.TestCase):
@@ -232,10 +246,12 @@ class OverPipes(Calls, unittest.TestCase):
 
     def test_ends(self) -> None:
         async def work(db: AsyncDatabase) -> None:
-            db._process.kill()
+            self.assertTrue(db.is_open)
+            os.kill(db.process, signal.SIGKILL)
             with self.assertRaisesRegex(Ended, "status -9"):
                 while True:
                     await db.size()
+            self.assertFalse(db.is_open)
             with self.assertRaises(Ended):
                 await AsyncDatabase.start(program(), "/no/such/file")
 
@@ -258,6 +274,14 @@ class OverLoopback(Calls, unittest.TestCase):
         self.server = Server(program())
         self.addCleanup(self.server.close)
         return await AsyncDatabase.connect(self.server.port, kit.Schema.built_in(), wait=20)
+
+    def test_it_has_no_process(self) -> None:
+        async def work(db: AsyncDatabase) -> None:
+            self.assertEqual((db.process, db.is_open), (None, True))
+            await db.close()
+            self.assertFalse(db.is_open)
+
+        self.run_on(work)
 
     def test_no_listener(self) -> None:
         async def work() -> None:

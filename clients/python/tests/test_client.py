@@ -133,7 +133,16 @@ class OverPipes(Commands, unittest.TestCase):
             self.db.size()
         with self.assertRaisesRegex(Ended, "status -9"):
             self.db.size()
-        self.assertFalse(self.db.is_open())
+        self.assertFalse(self.db.is_open)
+
+    def test_whether_it_is_open(self):
+        self.assertTrue(self.db.is_open)
+        self.assertEqual((self.db.is_open, repr(self.db.is_open)), (True, "True"))
+        self.db.close()
+        self.assertFalse(self.db.is_open)
+        with self.assertWarnsRegex(DeprecationWarning, "^is_open isn't called any more") as warned:
+            self.assertIs(self.db.is_open(), False)
+        self.assertEqual(warned.filename, __file__)
 
     def test_a_schema_that_is_not_there_fails_at_once(self):
         with self.assertRaisesRegex(Ended, "^the server ended with status 3: schema: file$"):
@@ -222,6 +231,19 @@ class Several(unittest.TestCase):
             for it in threads:
                 it.join(20)
             self.assertEqual((sorted(done), server.ended()), (["a", "b"], 0))
+
+    def test_the_order_of_what_a_server_takes(self):
+        path = kit.written(self, MANY)
+        with Server(program(), path, 2) as server, server.connect(20) as first, server.connect(20) as second:
+            self.assertEqual((first.schema.tables[0].name, first.size(), second.size()), ("many", 0, 0))
+        old = [lambda: Server(program(), 1, path), lambda: Server(program(), 1, path, 5.0), lambda: Server(program(), 1, schema=path)]
+        for server_of in old:
+            with self.assertWarnsRegex(DeprecationWarning, "^the schema stands ahead of the number of clients") as warned:
+                server = server_of()
+            with server, server.connect(20) as db:
+                self.assertEqual((db.schema.tables[0].name, db.size()), ("many", 0))
+            self.assertEqual(warned.filename, __file__)
+        self.assertRaises(TypeError, Server, program(), path, 1, clients=2)
 
     def test_no_server(self):
         with Server(program(), schema="/no/such/file") as server:

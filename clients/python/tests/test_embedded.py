@@ -299,7 +299,7 @@ class Closing(unittest.TestCase):
                     self.assertEqual(str(error), "the connection is closed")
                 if middle.is_over():
                     db.close()
-                self.assertFalse(db.is_open())
+                self.assertFalse(db.is_open)
                 if not is_last:
                     self.assertEqual(other.revision(), (0, 0, 0))
                     other.close()

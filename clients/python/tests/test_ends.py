@@ -86,7 +86,7 @@ class Reasons(unittest.TestCase):
                     for _ in range(2):
                         with self.assertRaisesRegex(Ended, why):
                             call(db)
-                    self.assertFalse(db.is_open())
+                    self.assertFalse(db.is_open)
 
     def test_such_a_server_and_tasks(self) -> None:
         async def main(port: int, call: Callable[[Any], Any], why: str) -> None:
@@ -155,7 +155,7 @@ class Reasons(unittest.TestCase):
         self.ended(db, "^a session was interrupted where it begins or ends: the connection is closed$")
 
     def ended(self, db: Database, why: str) -> None:
-        self.assertFalse(db.is_open())
+        self.assertFalse(db.is_open)
         for call in CALLS:
             with self.assertRaisesRegex(Ended, why):
                 call(db)
@@ -185,7 +185,7 @@ class Timeouts(unittest.TestCase):
         async def main() -> None:
             async with await AsyncDatabase.start(kit.program()) as db:
                 db.answer_within(PATIENCE)
-                os.kill(db._process.pid, signal.SIGSTOP)
+                os.kill(db.process, signal.SIGSTOP)
                 asked = [asyncio.ensure_future(db.size()) for _ in range(3)]
                 for it in asked:
                     with self.assertRaisesRegex(Ended, "^the server took too long$"):

@@ -60,7 +60,7 @@ class Sessions(unittest.TestCase):
                 with db.session():
                     db.insert(kit.BOB)
                     step(walk)
-            self.assertFalse(db.is_open())
+            self.assertFalse(db.is_open)
 
     def test_such_a_block_of_tasks(self) -> None:
         async def main() -> None:
