@@ -7,16 +7,16 @@ import asyncio
 import collections
 import contextlib
 import contextvars
-import errno
 import os
 import socket
-import time
 from typing import TYPE_CHECKING, Any, AsyncIterator, Awaitable, Callable, Deque, Iterable, List, Optional, Tuple, TypeVar, Union
 
 from mi_client import calls
+from mi_client.aio_opening import opened
 from mi_client.aio_walks import AwaitedWalks
+from mi_client.atomic import Together
 from mi_client.calls import Request
-from mi_client.database import schema_of
+from mi_client.database import AnySchema, schema_of
 from mi_client.dialect import Dialect, sent_by
 from mi_client.errors import Ended
 from mi_client.old_forms import Openness
@@ -65,34 +65,13 @@ class AsyncDatabase(AwaitedWalks):
 
     @classmethod
     async def connect(
-        cls,
-        port: int,
-        schema: Union[None, str, os.PathLike[str], Schema] = None,
-        wait: float = 0.0,
-        window: int = WINDOW,
-        timeout: Optional[float] = None,
-        host: str = "127.0.0.1",
+        cls, port: int, schema: AnySchema = None, wait: float = 0.0, window: int = WINDOW, timeout: Optional[float] = None, host: str = "127.0.0.1"
     ) -> AsyncDatabase:
         """A connection to a server that listens on this port of 127.0.0.1, or does so within `wait` seconds; else OSError is
         raised. At most `window` replies are awaited at a time. A reply that takes longer than `timeout` seconds ends the connection.
         Another `host` has members of a ledger alone."""
         read, places = Schema.of(schema), Places(window)
-        end = time.monotonic() + wait
-        while True:
-            try:
-                reader, writer = await asyncio.wait_for(asyncio.open_connection(host, port), timeout)
-                if writer.get_extra_info("sockname") == writer.get_extra_info("peername"):
-                    writer.transport.abort()  # (where nobody listens the system may have chosen this very port, and joined the two ends)
-                    raise ConnectionRefusedError(errno.ECONNREFUSED, os.strerror(errno.ECONNREFUSED))
-                break
-            except ConnectionRefusedError:
-                if time.monotonic() >= end:
-                    raise
-                await asyncio.sleep(0.02)
-            except asyncio.TimeoutError:  # (which is no OSError ahead of Python 3.11)
-                raise TimeoutError("the server took too long") from None
-        writer.get_extra_info("socket").setsockopt(socket.IPPROTO_TCP, socket.TCP_NODELAY, 1)
-        made = cls(reader, writer, None, read, places)
+        made = cls(*await opened(host, port, wait, timeout), None, read, places)
         made.answer_within(timeout)
         return made
 
@@ -162,9 +141,7 @@ class AsyncDatabase(AwaitedWalks):
 
     async def ask_line(self, line: str) -> str:
         """The reply to one line, both without their newlines."""
-        if "\n" in line or not line.rstrip("\r"):
-            raise ValueError("a line has one command and no newline")
-        return (await self._exchange(line.encode("utf-8", "surrogatepass") + b"\n")).decode()
+        return (await self._exchange(self._dialect.made_elsewhere(line))).decode()
 
     async def ask_lines(self, lines: Iterable[str], window: int = WINDOW) -> AsyncIterator[str]:
         """The replies to many lines, which are sent ahead: at most `window` of them are awaited at a time."""
@@ -197,21 +174,37 @@ class AsyncDatabase(AwaitedWalks):
             async with self._window:
                 if self._waits(block):  # (a block has begun while the window was full)
                     continue
-                if self._closed_for:
-                    raise Ended(self._closed_for)
-                reply: asyncio.Future[bytes] = asyncio.get_running_loop().create_future()
-                self._awaited.append(reply)
-                if len(self._awaited) == 1:
-                    self._begin_time()
-                self._writer.write(line)
                 try:
-                    with contextlib.suppress(OSError):  # (the reader says why)
-                        await self._writer.drain()
-                    return await reply
+                    return await (await self._written([line]))[0]
                 except BaseException:
                     if block is not None:
                         self._break_off("a session was interrupted where it begins or ends")
                     raise
+
+    async def _exchange_of_block(self, lines: List[bytes]) -> List[bytes]:
+        """The replies to lines of the block that is open, which are written together as far as the window has room."""
+        replies: List[bytes] = []
+        while len(replies) < len(lines):
+            some = lines[len(replies):][: self._window.most]
+            async with contextlib.AsyncExitStack() as places:
+                for _ in some:
+                    await places.enter_async_context(self._window)
+                replies += await asyncio.gather(*await self._written(some))
+        return replies
+
+    async def _written(self, lines: List[bytes]) -> List[asyncio.Future[bytes]]:
+        """Writes lines together, and answers what their replies will be given to."""
+        if self._closed_for:
+            raise Ended(self._closed_for)
+        loop, is_first = asyncio.get_running_loop(), not self._awaited
+        replies: List[asyncio.Future[bytes]] = [loop.create_future() for _ in lines]
+        self._awaited.extend(replies)
+        if is_first:
+            self._begin_time()
+        self._writer.write(b"".join(lines))
+        with contextlib.suppress(OSError):  # (the reader says why)
+            await self._writer.drain()
+        return replies
 
     async def _turn(self, block: Optional[object] = None) -> None:
         """Waits until no block is open but those that this task is in, and this one."""
@@ -317,26 +310,49 @@ class AsyncDatabase(AwaitedWalks):
         try:
             number = await self._step(mine, calls.begin())
             _within.set((*_within.get(), mine))
+            steps = self._dialect.session_steps
             try:
                 yield number
             except BaseException:
                 if not self._closed_for:
-                    await self._end_session(mine, number, calls.undo)
+                    await self._end_session(mine, number, steps, calls.undo)
                 raise
-            await self._end_session(mine, number, calls.squash)
+            await self._end_session(mine, number, steps, calls.squash)
         finally:
             self._blocks.remove(mine)
             self._wake()
             # (it may end in another context than it began in, as a generator does that was dropped)
             _within.set(tuple(it for it in _within.get() if it is not mine))
 
-    async def _end_session(self, block: object, number: int, end: Callable[[], Request[int]]) -> None:
-        """Ends the session of this number and those above it, as far as the connection holds them: what was committed or pushed
-        in the block isn't its own any more. Where this fails the connection ends."""
+    async def atomically(self, changes: Iterable[Request[Any]]) -> List[Any]:
+        """Does all of some changes or none, as `Database.atomically` does. Others that share the connection wait meanwhile. Where it is
+        cancelled the connection ends, so that the server undoes what isn't squashed."""
+        made, mine = Together(self._dialect, changes), object()
+        steps, replies = made.steps(), None
+        await self._turn()
+        self._blocks.append(mine)
+        try:
+            while True:
+                replies = await self._exchange_of_block(steps.send(replies))
+        except StopIteration:
+            pass
+        except BaseException as error:
+            self._break_off(str(error) if isinstance(error, Ended) else "changes that are done together were interrupted")
+            raise
+        finally:
+            self._blocks.remove(mine)
+            self._wake()
+        return made.results()
+
+    async def _end_session(self, block: object, number: int, steps: int, end: Callable[[], Request[int]]) -> None:
+        """Ends the session of a block as `Database` does. Where this fails the connection ends."""
         try:
             await self._turn(block)
             if not self._closed_for and self._blocks[-1] is not block:
                 raise RuntimeError("the block of a session ends before one that began later: the connection is closed")
+            if self._dialect.session_steps == steps:
+                await self._step(block, end())
+                return
             now = await self._step(block, calls.revision())
             while now.held > 0 and now.revision >= number:
                 await self._step(block, end())
@@ -347,7 +363,7 @@ class AsyncDatabase(AwaitedWalks):
 
     async def _step(self, block: object, request: Request[T]) -> T:
         """The answer to a request by which a block begins or ends."""
-        return self._dialect.read(request, await self._exchange(self._dialect.line(request), block))
+        return self._dialect.read(request, await self._exchange(request.line(), block))
 
     ask = awaited(calls.ask)
 

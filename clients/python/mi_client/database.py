@@ -137,15 +137,22 @@ class Database(Walks):
         """The answer to a request. Raises Refused and Ended."""
         return self._dialect.read(request, self._exchange(self._dialect.line(request)))
 
+    def _answer_of_block(self, request: Request[T]) -> T:
+        return self._dialect.read(request, self._exchange(request.line()))
+
+    def _replies_to(self, lines: List[bytes]) -> List[bytes]:
+        with self._lock, self._sending(LinesAhead(self._step, self._flush, WINDOW)) as made:
+            return list(made.replies(lines))
+
     def ask_line(self, line: str) -> str:
         """The reply to one line, both without their newlines. The line has a command: an empty one would have no reply."""
-        return self._exchange(_line_of(line)).decode()
+        return self._exchange(self._dialect.made_elsewhere(line)).decode()
 
     def ask_lines(self, lines: Iterable[Union[str, bytes]], window: int = WINDOW) -> Iterator[str]:
         """The replies to many lines, which are sent ahead: at most `window` of them are awaited at a time. Other threads that
         share the connection wait until all have been answered, or the iterator is closed."""
         with self._lock, self._sending(LinesAhead(self._step, self._flush, window)) as made:
-            for reply in made.replies(map(_line_of, lines)):
+            for reply in made.replies(map(self._dialect.made_elsewhere, lines)):
                 yield reply.decode()
 
     def pass_turn(self) -> None:
@@ -312,14 +319,6 @@ def schema_of(path: Union[None, str, os.PathLike[str]]) -> Optional[Schema]:
     except (OSError, ValueError) as error:
         warnings.warn(f"{os.fspath(path)}: the server takes this schema, and the client can't read it: {error}", stacklevel=3)
         return None
-
-
-def _line_of(line: Union[str, bytes]) -> bytes:
-    data = line if isinstance(line, bytes) else line.encode("utf-8", "surrogatepass")
-    data = data[:-1] if isinstance(line, bytes) and data.endswith(b"\n") else data
-    if b"\n" in data or not data.rstrip(b"\r"):
-        raise ValueError("a line has one command and no newline")
-    return data + b"\n"
 
 
 _opened: weakref.WeakSet[Database] = weakref.WeakSet()

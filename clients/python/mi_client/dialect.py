@@ -5,10 +5,11 @@ from __future__ import annotations
 import functools
 import inspect
 import json
-from typing import TYPE_CHECKING, Any, Callable, Dict, Mapping, Optional, TypeVar
+from typing import TYPE_CHECKING, Any, Callable, Dict, Mapping, Optional, TypeVar, Union
 
 from mi_client import explain
 from mi_client.calls import Alone, Request, Values
+from mi_client.commands import SESSION_STEPS
 from mi_client.errors import NeedsSchema, Refused
 from mi_client.schema import Schema
 
@@ -29,17 +30,31 @@ REFUSAL = b'{"error"'
 class Dialect:
     def __init__(self, schema: Optional[Schema]) -> None:
         self.schema = schema
+        self.session_steps = 0
+        """How many of the lines may have begun or ended a session. (Those by which a block does so are made without this.)"""
 
     def line(self, request: Request[Any]) -> bytes:
         """The line of a request. Keys that are given by columns become lists in its members. Raises NeedsSchema, ValueError
         where such a key, or a value alone, isn't one of its index, and TypeError where a value is nothing that JSON has."""
         members = request.members
+        if members["cmd"] in SESSION_STEPS:
+            self.session_steps += 1
         if "key" in members:
             members["key"] = self.key(members, members["key"])
         for side in ("lower", "upper"):
             if isinstance(members.get(side), Mapping):
                 members[side] = {name: self.key(members, it) for name, it in members[side].items()}
         return request.line()
+
+    def made_elsewhere(self, line: Union[str, bytes]) -> bytes:
+        """A line that is given whole, with its newline. Nobody looks into it, so it may begin or end a session. Raises ValueError where it is
+        no single line, or an empty one, which would have no reply."""
+        self.session_steps += 1
+        data = line if isinstance(line, bytes) else line.encode("utf-8", "surrogatepass")
+        data = data[:-1] if isinstance(line, bytes) and data.endswith(b"\n") else data
+        if b"\n" in data or not data.rstrip(b"\r"):
+            raise ValueError("a line has one command and no newline")
+        return data + b"\n"
 
     def key(self, members: Mapping[str, Any], key: Values) -> Any:
         if not isinstance(key, (Alone, Mapping)):
@@ -57,8 +72,8 @@ class Dialect:
             raise self.refusal(request.members, found)
         return request.read(found)
 
-    def refusal(self, members: Mapping[str, Any], reply: Dict[str, Any]) -> Refused:
-        return Refused(reply, explain.why(self.schema, members, reply["error"]))
+    def refusal(self, members: Mapping[str, Any], reply: Dict[str, Any], change: Optional[int] = None) -> Refused:
+        return Refused(reply, explain.why(self.schema, members, reply["error"]), change)
 
 
 def sent_by(method: str) -> Callable[[Callable[P, Request[T]]], Callable[Concatenate[Any, P], Any]]:

@@ -2,11 +2,12 @@
 from __future__ import annotations
 
 import contextlib
-from typing import TYPE_CHECKING, Any, Callable, Iterator, List, TypeVar
+from typing import TYPE_CHECKING, Any, Callable, Iterable, Iterator, List, TypeVar
 
 from mi_client import calls
+from mi_client.atomic import Together
 from mi_client.calls import Request
-from mi_client.dialect import sent_by
+from mi_client.dialect import Dialect, sent_by
 from mi_client.errors import Ended, Refused
 from mi_client.old_forms import Openness
 
@@ -25,6 +26,7 @@ else:
 class Calls:
     """The commands, by their names; `start` is `begin`, since `Database.start` starts a server of its own."""
 
+    _dialect: Dialect
     _blocks: List[object]
     """Of the open sessions, the innermost last."""
 
@@ -34,6 +36,14 @@ class Calls:
 
     def send(self, request: Request[T]) -> T:
         """The answer to a request. Raises Refused and Ended."""
+        raise NotImplementedError
+
+    def _answer_of_block(self, request: Request[T]) -> T:
+        """The answer to a request by which a block begins or ends, which isn't counted among the lines that do so."""
+        raise NotImplementedError
+
+    def _replies_to(self, lines: List[bytes]) -> List[bytes]:
+        """The replies to lines that are sent together."""
         raise NotImplementedError
 
     def alone(self) -> contextlib.AbstractContextManager[Any]:
@@ -85,19 +95,20 @@ class Calls:
         with self.alone():
             try:
                 try:
-                    number = self.begin()
+                    number = self._answer_of_block(calls.begin())
                 except (Refused, Ended, RuntimeError):
                     is_settled = True
                     raise
                 self._blocks.append(mine)
+                steps = self._dialect.session_steps
                 try:
                     yield number
                 except BaseException:
                     if self.is_open:
-                        self._end_session(mine, number, self.undo)
+                        self._end_session(mine, number, steps, calls.undo)
                     is_settled = True
                     raise
-                self._end_session(mine, number, self.squash)
+                self._end_session(mine, number, steps, calls.squash)
                 is_settled = True
             finally:
                 if not is_settled:
@@ -105,12 +116,39 @@ class Calls:
                 if mine in self._blocks:
                     self._blocks.remove(mine)
 
-    def _end_session(self, block: object, number: int, step: Callable[[], int]) -> None:
-        """Ends the session of this number and those above it, as far as the connection holds them: what was committed or pushed
-        in the block isn't its own any more."""
+    def _end_session(self, block: object, number: int, steps: int, end: Callable[[], Request[int]]) -> None:
+        """Ends the session of this number. Where the block itself may have begun or ended some, it is those from this one on, as far as the
+        connection holds them: what was committed or pushed in the block isn't its own any more."""
         if self.is_open and self._blocks[-1] is not block:
             raise RuntimeError("the block of a session ends before one that began later: the connection is closed")
-        now = self.revision()
+        if self._dialect.session_steps == steps:
+            self._answer_of_block(end())
+            return
+        now = self._answer_of_block(calls.revision())
         while now.held > 0 and now.revision >= number:
-            step()
-            now = self.revision()
+            self._answer_of_block(end())
+            now = self._answer_of_block(calls.revision())
+
+    def atomically(self, changes: Iterable[Request[Any]]) -> List[Any]:
+        """Does all of some changes or none, as `[calls.modify(0, add={"balance": -5}), calls.erase(1)]` of `mi_client.calls`, and answers what
+        each would; look-ups may stand among them. Where one is refused all are undone, and its refusal is raised: `change` is its place.
+
+        They are sent ahead in a session of their own, so all of them cost two waits. Where that is interrupted the connection ends, and the
+        server undoes what isn't squashed. It ends too, with Ended, in the rare case that the session is refused and a change isn't."""
+        made, mine = Together(self._dialect, changes), object()
+        steps, replies, broken_by = made.steps(), None, "changes that are done together were interrupted"
+        with self.alone():
+            self._blocks.append(mine)
+            try:
+                with contextlib.suppress(StopIteration):
+                    while True:
+                        replies = self._replies_to(steps.send(replies))
+                broken_by = ""
+            except (Ended, RuntimeError) as error:
+                broken_by = "" if replies is None else str(error)  # (in the middle of another call nothing is sent)
+                raise
+            finally:
+                if broken_by:
+                    self._break_off(broken_by)
+                self._blocks.remove(mine)
+        return made.results()

@@ -7,16 +7,18 @@ from typing import Any, Dict, Optional, Tuple
 class Refused(Exception):
     """The server refused a command. `word` is the reason; where it is `unique`, `id` and `index` say which record stands in
     the way, and of a modify `lost` says whether the modified record was erased. `why` is what the client can tell beyond the
-    word, where it knows the schema: `balance is a float; int wanted`."""
+    word, where it knows the schema: `balance is a float; int wanted`. Of `atomically`, `change` is the place of the refused change
+    among the changes, from 0."""
 
-    def __init__(self, reply: Dict[str, Any], why: str = "") -> None:
+    def __init__(self, reply: Dict[str, Any], why: str = "", change: Optional[int] = None) -> None:
         self.reply = reply
         self.word: str = reply["error"]
         self.id: Optional[int] = reply.get("id")
         self.index: Optional[str] = reply.get("index")
         self.lost: Optional[bool] = reply.get("lost")
-        self.why = why or self._stands_in_the_way()
-        super().__init__(f"{self.word}: {self.why}" if self.why else self.word)
+        self.why, self.change = why or self._stands_in_the_way(), change
+        said = f"{self.word}: {self.why}" if self.why else self.word
+        super().__init__(said if change is None else f"change {change}: {said}")
 
     def _stands_in_the_way(self) -> str:
         if self.index is None:
@@ -25,7 +27,7 @@ class Refused(Exception):
         return f"record {self.id} has this key in {self.index}{lost}"
 
     def __reduce__(self) -> Tuple[Any, ...]:
-        return type(self), (self.reply, self.why)
+        return type(self), (self.reply, self.why, self.change)
 
 
 class Ended(ConnectionError):

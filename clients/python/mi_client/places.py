@@ -11,7 +11,7 @@ class Places:
     def __init__(self, places: int) -> None:
         if places < 1:
             raise ValueError("a window has room for one line at least")
-        self._places = places
+        self.most = self._places = places
         self._waiting: Deque[asyncio.Future[None]] = collections.deque()
 
     async def __aenter__(self) -> None:

@@ -29,8 +29,9 @@ column = [{ name = "item", type = "int" }]
 
 class Sessions(unittest.TestCase):
     def test_interrupted_where_they_begin_or_end(self) -> None:
-        """An interrupt that comes when the reply is there: what is done later must not fall into the session."""
-        for n in range(1, 6):
+        """An interrupt that comes when the reply is there: what is done later must not fall into the session. Behind a line that it doesn't
+        know the block asks what is held."""
+        for n, line in [*((n, "") for n in range(1, 4)), *((n, '{"cmd":"size"}') for n in range(1, 6))]:
             db, left = kit.start(self), [n]
             read = db._dialect.read
 
@@ -43,6 +44,8 @@ class Sessions(unittest.TestCase):
             with mock.patch.object(db._dialect, "read", interrupted), self.assertRaises(KeyboardInterrupt):
                 with db.session():
                     db.insert(kit.ANN)
+                    if line:
+                        db.ask_line(line)
             with contextlib.suppress(Ended):
                 self.assertEqual(db.revision().held, 0, n)
 
