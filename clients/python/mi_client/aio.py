@@ -328,9 +328,9 @@ class AsyncDatabase(AwaitedWalks):
         """Does all of some changes or none, as `Database.atomically` does. Others that share the connection wait meanwhile. Where it is
         cancelled the connection ends, so that the server undoes what isn't squashed."""
         made, mine = Together(self._dialect, changes), object()
-        steps, replies = made.steps(), None
         await self._turn()
         self._blocks.append(mine)
+        steps, replies = made.steps(is_quiet=not self._awaited), None
         try:
             while True:
                 replies = await self._exchange_of_block(steps.send(replies))

@@ -32,12 +32,13 @@ class Together:
         self._started: bytes = b""
         self._replies: List[bytes] = []
 
-    def steps(self) -> Steps:
-        """Start and changes together, and then what ends the session. Where they are more than a piece, the rest follows once the session is
-        open and none was refused: else a start that is refused while others hold sessions could have changes behind it that aren't."""
+    def steps(self, is_quiet: bool = True) -> Steps:
+        """Start and changes together, and then what ends the session. Where they are more than a piece, or other lines are on their way
+        (it isn't quiet), the rest follows once the session is open and none was refused: else a start that is refused while others hold
+        sessions could have changes behind it that aren't."""
         if not self._changes:
             return
-        first = self._first_piece()
+        first = self._first_piece() if is_quiet else 0
         self._started, *self._replies = yield [self._start.line(), *self._lines[:first]]
         if self._is_refused(self._started):
             self._check_none_done()

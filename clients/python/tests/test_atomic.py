@@ -143,7 +143,7 @@ class Interrupts(unittest.TestCase):
         left = [n]
 
         def trace(frame: Any, event: str, _: Any) -> Any:
-            if event == "line" and "mi_client" in frame.f_code.co_filename and frame.f_code.co_name not in ("__exit__", "remove"):
+            if event == "line" and "mi_client" in frame.f_code.co_filename:
                 left[0] -= 1
                 if left[0] == 0:
                     raise KeyboardInterrupt
@@ -171,8 +171,8 @@ class OnAServer(unittest.TestCase):
         done = self.db.atomically([calls.insert(ANN), calls.insert(BOB), calls.modify(0, add={"balance": 1}), calls.get(0), calls.erase(1)])
         self.assertEqual(done, [0, 1, None, {"id": 0, **ANN, "balance": 51}, None])
         self.assertEqual((self.db.size(), self.db.revision()), (1, (0, 0, 0)))
-        self.assertEqual(self.db.atomically(inserts(3000)), list(range(2, 3002)))
-        self.assertEqual(self.db.atomically(calls.erase(it) for it in range(2, 3002)), [None] * 3000)
+        self.assertEqual(self.db.atomically(inserts(300)), list(range(2, 302)))
+        self.assertEqual(self.db.atomically(calls.erase(it) for it in range(2, 302)), [None] * 300)
         self.assertEqual((self.db.size(), self.db.revision()), (1, (0, 0, 0)))
 
     def test_none_is_done(self) -> None:
@@ -187,8 +187,8 @@ class OnAServer(unittest.TestCase):
             self.db.atomically([calls.erase(0), calls.modify(1, set={"balance": 0.5})])
         with self.assertRaisesRegex(Refused, "^change 0: id: there is no record 7$"):
             self.db.atomically([calls.get(7), calls.erase(0)])
-        with self.assertRaisesRegex(Refused, "^change 2999: unique"):
-            self.db.atomically([*inserts(2999), calls.insert(ANN)])
+        with self.assertRaisesRegex(Refused, "^change 299: unique"):
+            self.db.atomically([*inserts(299), calls.insert(ANN)])
         self.assertEqual(([self.db.get(it) for it in (0, 1)], self.db.size()), ([{"id": 0, **ANN}, {"id": 1, **BOB}], 2))
         self.assertEqual(self.db.revision(), (0, 0, 0))
 

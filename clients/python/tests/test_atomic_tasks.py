@@ -50,6 +50,11 @@ class Together(unittest.TestCase):
                 await db.push()
             self.assertEqual(writes, [["start"], ["push"], ["revision"]])
             await db.undo()
+            writes.clear()
+            behind = asyncio.ensure_future(db.insert(BOB))  # (the start waits for its turn at the server: what stands behind it waits too)
+            await asyncio.sleep(0)
+            await db.atomically(inserts(2, "p"))
+            self.assertEqual((writes, await behind), ([["insert"], ["start"], ["insert", "insert"], ["squash"]], 3))
             self.assertEqual((await db.atomically([]), await db.revision()), ([], (0, 0, 0)))
 
         self.run_on(work)
