@@ -6,7 +6,7 @@ const fs = require("node:fs");
 const os = require("node:os");
 const path = require("node:path");
 const { test: tested } = require("node:test");
-const { Database, Ended, Refused, Server, TooManyEqual } = require("./weltiyo.js");
+const { Database, Ended, Refused, Server, TooManyEqual, calls } = require("./weltiyo.js");
 
 const PROGRAM = process.env.MI_SERVER || "mi_server";
 const LIMIT = 60_000; // milliseconds, of each test
@@ -230,6 +230,84 @@ test("a block ends no sessions but those that its connection holds", () =>
     });
     assert.deepEqual([await two.size(), await two.undo(), await two.size()], [3, 2, 2]);
   }));
+
+/** The commands that are written together from here on. */
+function watched(db) {
+  const writes = [], writing = db._channel.writing, write = writing.write.bind(writing);
+  writing.write = (text) => {
+    writes.push(text.trim().split("\n").map((line) => JSON.parse(line).cmd).join(" "));
+    return write(text);
+  };
+  return writes;
+}
+
+const added = (count, name = "owner") => Array.from({ length: count }, (_, n) => calls.insert(account(`${name} ${n}`, n)));
+
+test("a session of one change takes three exchanges, and changes together take two waits", () =>
+  withDatabase(async (db) => {
+    const writes = watched(db);
+    await db.session(() => db.insert(account("ann")));
+    await assert.rejects(db.session(() => db.insert(account("ann"))), refused("unique"));
+    assert.deepEqual(writes.splice(0), ["start", "insert", "squash", "start", "insert", "undo"]);
+    assert.deepEqual(await db.atomically(added(3)), [1, 2, 3]);
+    assert.deepEqual(writes.splice(0), ["start insert insert insert", "squash"]);
+    const steps = [() => db.push(), () => db.askLine('{"cmd":"size"}'), () => db.session(() => db.ask("commit", { revision: 1 }))];
+    for (const step of steps) {
+      await db.session(step);
+      assert.ok(writes.splice(0).includes("revision"));
+      await db.undoAll();
+    }
+    const other = db.size(); // (what is on its way stands ahead of the start at the server)
+    await Promise.all([other, new Promise(setImmediate).then(() => db.atomically(added(2, "more")))]);
+    assert.deepEqual(writes.splice(1), ["size", "start", "insert insert", "squash"]);
+    await db.atomically(added(100, "many"));
+    assert.ok(/^start( insert)+$/.test(writes[1]) && /^insert( insert)+$/.test(writes[2]) && writes[3] === "squash", writes.splice(0).join());
+    assert.deepEqual([await db.atomically([]), (await db.revision()).depth, await db.size()], [[], 0, 106]);
+  }));
+
+test("changes are done all or not at all", () =>
+  withDatabase(async (db) => {
+    const changes = [calls.insert(account("ann")), calls.insert(account("bob")), calls.modify(0, { add: { balance: 4 } }), calls.relocate("line", 0)];
+    assert.deepEqual(await db.atomically([...changes, calls.ask("size")]), [0, 1, undefined, undefined, { ok: true, size: 2 }]);
+    const lost = calls.modify(1, { set: { owner: "ann" }, rollback: false });
+    for (const [wrong, error] of [
+      [[calls.erase(0), calls.insert(account("bob")), calls.erase(9)], { word: "unique", id: 1, index: "by_owner", change: 1 }],
+      [[lost, calls.insert(account("cid"))], { word: "unique", lost: false, change: 0 }],
+      [[calls.eraseKey("by_owner", "ann"), calls.ask("get", { id: 9 })], { word: "id", change: 1 }],
+      [[...added(200), calls.replace(9000, account("dan"))], { word: "id", change: 200 }],
+    ])
+      await assert.rejects(db.atomically(wrong), (it) => it instanceof Refused && Object.entries(error).every(([name, value]) => it[name] === value));
+    for (const wrong of [calls.ask("squash"), calls.ask("commit", { revision: 1 }), { cmd: "insert", members: { row: { balance: 2 ** 60 } } }])
+      await assert.rejects(db.atomically([calls.erase(0), wrong]), TypeError);
+    assert.deepEqual([await owners(db), (await db.get(0)).balance, (await db.revision()).depth], [["bob", "ann"], 5, 0]);
+    const thrown = new Error("out of the block");
+    const block = db.session(async () => {
+      await db.atomically([calls.erase(0), calls.insert(account("cid"))]);
+      throw thrown;
+    });
+    const beside = Promise.allSettled([db.atomically([calls.insert(account("dan")), calls.erase(9)]), db.insert(account("eve"))]);
+    await assert.rejects(block, thrown);
+    assert.deepEqual((await beside).map((it) => it.status), ["rejected", "fulfilled"]);
+    assert.deepEqual([await owners(db), (await db.revision()).depth], [["bob", "ann", "eve"], 0]);
+  }));
+
+test("a session that is refused", async () => {
+  await withServer(async (server) => {
+    const [one, two] = [await server.connect(), await server.connect()];
+    const started = one.start();
+    await assert.rejects(Promise.all([started, two.atomically(added(2))]), refused("busy", { change: undefined }));
+    const undone = one.undo();
+    assert.deepEqual([await two.size(), await undone], [0, 0]);
+    await Promise.all([one.close(), two.close()]);
+  }, { clients: 2 });
+  await withDatabase(async (db) => {
+    await Promise.all(Array.from({ length: 1024 }, () => db.start()));
+    await assert.rejects(db.atomically([calls.ask("size")]), refused("depth"));
+    const ended = (error) => error instanceof Ended && /^the session was refused as depth, and a change behind it was done/.test(error.message);
+    await assert.rejects(db.atomically(added(1)), ended);
+    await assert.rejects(db.size(), ended);
+  });
+});
 
 test("calls that aren't waited for are sent ahead, and answered in their order", () =>
   withDatabase(

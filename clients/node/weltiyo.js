@@ -23,16 +23,24 @@ const MOST_ROWS = 1000;
 /** How many replies are awaited at most, where the caller doesn't say; further lines wait in this process. */
 const WINDOW = 1024;
 
+/** The bytes that a server reads of a connection at one go, and answers with no other connection's in between. (It reads 4,096; empty lines
+ * that it hasn't read yet may stand ahead.) */
+const PIECE = 4000;
+
+const CHANGES = new Set(["insert", "replace", "modify", "erase", "erase_key", "relocate"]);
+const SESSION_STEPS = new Set(["start", "undo", "squash", "commit", "undo_all", "push"]);
+
 /** The server refused a command: `word` is the reason; where it is `unique`, `id` and `index` say which record stands in the way, and of
- * a modify `lost` says whether the modified record was erased. */
+ * a modify `lost` says whether the modified record was erased. Of `atomically`, `change` is the place of the refused change, from 0. */
 class Refused extends Error {
-  constructor(reply) {
+  constructor(reply, change) {
     super(reply.error);
     this.name = "Refused";
     this.word = reply.error;
     this.id = reply.id;
     this.index = reply.index;
     this.lost = reply.lost;
+    this.change = change;
   }
 }
 
@@ -126,11 +134,32 @@ function columnsOf(row) {
   return columns;
 }
 
+/** Changes as they can be handed to `Database.atomically`, and by `ask` any other command: what is sent, and how the accepted reply is read.
+ * They take what the methods of these names do. */
+const calls = {
+  ask: (cmd, members = {}) => ({ cmd, members, read: (reply) => reply }),
+  insert: (row, { before, table } = {}) => ({ cmd: "insert", members: { row, before, table }, read: (reply) => reply.id }),
+  replace: (id, row, { table } = {}) => ({ cmd: "replace", members: { id, row: columnsOf(row), table }, read: nothing }),
+  modify: (id, { set, add, rollback = true, table } = {}) => ({ cmd: "modify", members: { id, set, add, rollback: rollback || undefined, table }, read: nothing }),
+  erase: (id, { table } = {}) => ({ cmd: "erase", members: { id, table }, read: nothing }),
+  eraseKey: (index, key, { table } = {}) => ({ cmd: "erase_key", members: { index, key: keyOf(key), table }, read: (reply) => reply.erased }),
+  relocate: (index, id, { before, table } = {}) => ({ cmd: "relocate", members: { index, id, before, table }, read: nothing }),
+};
+
+function nothing() {}
+
 /** The reply of this text. Throws `Refused`. */
 function accepted(text) {
   const reply = decode(text);
   if (!reply.ok) throw new Refused(reply);
   return reply;
+}
+
+/** How many of these lines stand in a piece with the start. */
+function firstPiece(start, lines) {
+  let size = Buffer.byteLength(start) + 1, n = 0;
+  while (n < lines.length && (size += Buffer.byteLength(lines[n]) + 1) <= PIECE) n++;
+  return n;
 }
 
 // Connections
@@ -246,6 +275,7 @@ class Block {
     this.inner = null; // the open block within
     this.waiting = []; // for its end
     this.isOver = false; // what is asked of it then is asked of the outer one
+    this.hasSteps = false; // whether what was asked of it may have begun or ended a session
   }
 
   /** What a call answers that is made once no block within is open; where the connection is at its end, at once. */
@@ -272,6 +302,7 @@ class Block {
   /** The session has ended, and the outer block goes on. */
   leave() {
     this.isOver = true;
+    this.outer.hasSteps ||= this.hasSteps;
     this.outer.inner = null;
     this.outer.goOn();
   }
@@ -349,15 +380,23 @@ class Database {
   }
 
   /** Promises the reply to a line, which is sent once no block within the caller's is open. */
-  _exchange(line) {
-    return this._block.when(() => this._channel.ask(line));
+  _exchange(line, isStep) {
+    return this._block.when((block) => {
+      block.hasSteps ||= isStep;
+      return this._channel.ask(line);
+    });
+  }
+
+  /** What a call answers. */
+  async _send({ cmd, members, read }) {
+    return read(accepted(await this._exchange(lineOf(cmd, members), SESSION_STEPS.has(cmd))));
   }
 
   /** The reply to one line, both without their newlines. The line has a command: an empty one would have no reply. */
   askLine(line) {
     if (line.includes("\n") || !line.replace(/\r+$/, "")) return Promise.reject(new TypeError("a line has one command and no newline"));
     if (/\p{Surrogate}/u.test(line)) return Promise.reject(new TypeError("a line has half of a surrogate pair, which would be sent as another text"));
-    return this._exchange(line);
+    return this._exchange(line, true);
   }
 
   /** Sends an empty line, which has no reply. The server reads from its connections by turns and waits for each, so one that has nothing
@@ -373,40 +412,40 @@ class Database {
 
   /** The accepted reply to a command with these members; one that is undefined or null is left out. Rejects with `Refused`. */
   async ask(cmd, members = {}) {
-    return accepted(await this._exchange(lineOf(cmd, members)));
+    return this._send(calls.ask(cmd, members));
   }
 
   // Changes
 
   /** Adds a record and answers its id. `before` is `{ index, id }`: a sequenced index and the id that the record comes before in it. */
-  async insert(row, { before, table } = {}) {
-    return (await this.ask("insert", { row, before, table })).id;
+  async insert(row, options) {
+    return this._send(calls.insert(row, options));
   }
 
   /** Sets another record for an id. A row that was got fits: its member `id` is left out. */
-  async replace(id, row, { table } = {}) {
-    await this.ask("replace", { id, row: columnsOf(row), table });
+  async replace(id, row, options) {
+    return this._send(calls.replace(id, row, options));
   }
 
   /** Sets columns and adds to int columns. Where a unique index refuses the result nothing has changed; with `rollback: false` the record
-   * is erased then, as in Boost.MultiIndex and in the bare command. */
-  async modify(id, { set, add, rollback = true, table } = {}) {
-    await this.ask("modify", { id, set, add, rollback: rollback || undefined, table });
+   * is erased then, as in Boost.MultiIndex and in the bare command. The options are `{ set, add, rollback, table }`. */
+  async modify(id, options) {
+    return this._send(calls.modify(id, options));
   }
 
   /** Erases a record. */
-  async erase(id, { table } = {}) {
-    await this.ask("erase", { id, table });
+  async erase(id, options) {
+    return this._send(calls.erase(id, options));
   }
 
   /** Erases every record with a whole key, and answers how many. */
-  async eraseKey(index, key, { table } = {}) {
-    return (await this.ask("erase_key", { index, key: keyOf(key), table })).erased;
+  async eraseKey(index, key, options) {
+    return this._send(calls.eraseKey(index, key, options));
   }
 
-  /** Moves a record of a sequenced index directly before another, or to the end. */
-  async relocate(index, id, { before, table } = {}) {
-    await this.ask("relocate", { index, id, before, table });
+  /** Moves a record of a sequenced index directly before another, the option `before`, or to the end. */
+  async relocate(index, id, options) {
+    return this._send(calls.relocate(index, id, options));
   }
 
   // Sessions
@@ -473,22 +512,73 @@ class Database {
       answer = await within.run(new Map(within.getStore()).set(this, mine), block, number);
     } catch (error) {
       await mine.end();
-      if (!this._channel.ended) await this._endSession(number, "undo");
+      if (!this._channel.ended) await this._endSession(mine, number, "undo");
       throw error;
     }
     await mine.end();
-    await this._endSession(number, "squash");
+    await this._endSession(mine, number, "squash");
     return answer;
   }
 
-  /** Ends the session of a number and those above it, while this connection holds them: what was committed or pushed meanwhile is none of
-   * them, and no more is what another connection started since. */
-  async _endSession(number, step) {
+  /** Ends the session of a number. Where its block itself may have begun or ended some, it is those from this one on, while this connection
+   * holds them: what was committed or pushed meanwhile is none of them, and no more is what another connection started since. */
+  async _endSession(mine, number, step) {
+    if (!mine.hasSteps) return void (await this._askAtOnce(step));
     for (;;) {
       const { revision, held } = await this._askAtOnce("revision");
       if (held === 0 || revision < number) return;
       await this._askAtOnce(step);
     }
+  }
+
+  /** Does all of some changes or none, as `[calls.modify(0, { add: { balance: -5 } }), calls.erase(1)]`, and answers what each would. Where one
+   * is refused all are undone, and its refusal is thrown: `change` is its place. They are sent ahead in a session of their own, so all of them
+   * cost two waits. Other calls and blocks of this connection wait until it has ended.
+   *
+   * Where the connection ends meanwhile the server undoes what isn't squashed. It is ended here, and `Ended` thrown, in the rare case that the
+   * session is refused and a change isn't. */
+  async atomically(changes) {
+    const asked = [...changes];
+    for (const { cmd } of asked)
+      if (SESSION_STEPS.has(cmd)) throw new TypeError(`${cmd} begins or ends a session, so it can't stand among changes that are done in one`);
+    const lines = asked.map((it) => lineOf(it.cmd, it.members));
+    if (lines.length === 0) return [];
+    const mine = await this._block.when((outer) => outer.open());
+    let replies;
+    try {
+      replies = await this._together(asked, lines);
+    } finally {
+      mine.leave();
+    }
+    const refused = replies.findIndex((it) => !it.ok);
+    if (refused < 0) return asked.map((it, n) => it.read(replies[n]));
+    const { lost, ...reply } = replies[refused];
+    throw new Refused(lost === undefined ? reply : { ...reply, lost: false }, refused); // (what a modify has lost is back)
+  }
+
+  /** The replies to changes that were done in one session, which has ended. Where they are more than a piece, or other lines are on their way,
+   * the rest follows once the session is open and none was refused: else a start that is refused while others hold sessions could have changes
+   * behind it that aren't. */
+  async _together(asked, lines) {
+    const ask = async (some) => (await Promise.all(some.map((it) => this._channel.ask(it)))).map(decode);
+    const start = lineOf("start");
+    const first = this._channel.isIdle ? firstPiece(start, lines) : 0;
+    const [started, ...replies] = await ask([start, ...lines.slice(0, first)]);
+    if (!started.ok) {
+      if (replies.some((it, n) => CHANGES.has(asked[n].cmd) && (it.ok || it.lost)))
+        throw this._brokenOff(`the session was refused as ${started.error}, and a change behind it was done outside of one`);
+      throw new Refused(started);
+    }
+    if (first < lines.length && replies.every((it) => it.ok)) replies.push(...(await ask(lines.slice(first))));
+    await this._askAtOnce(replies.every((it) => it.ok) ? "squash" : "undo");
+    return replies;
+  }
+
+  /** Ends the connection, and answers the error of all later calls. */
+  _brokenOff(why) {
+    this._channel.end(why);
+    this._closing();
+    return this._channel.ended;
   }
 
   /** The accepted reply to a command of a block that begins or ends: nothing else is asked meanwhile. */
@@ -673,4 +763,4 @@ class Server {
   }
 }
 
-module.exports = { Database, Server, Refused, Ended, TooManyEqual, MOST_ROWS, WINDOW };
+module.exports = { Database, Server, Refused, Ended, TooManyEqual, calls, MOST_ROWS, WINDOW };
