@@ -263,6 +263,11 @@ test("a session of one change takes three exchanges, and changes together take t
     await db.atomically(added(100, "many"));
     assert.ok(/^start( insert)+$/.test(writes[1]) && /^insert( insert)+$/.test(writes[2]) && writes[3] === "squash", writes.splice(0).join());
     assert.deepEqual([await db.atomically([]), (await db.revision()).depth, await db.size()], [[], 0, 106]);
+    await withDatabase(async (narrow) => {
+      const few = watched(narrow);
+      await narrow.atomically(added(7));
+      assert.deepEqual(few, ["start insert insert", "insert insert insert", "insert insert", "squash"]);
+    }, { window: 3 });
   }));
 
 test("changes are done all or not at all", () =>
@@ -277,7 +282,7 @@ test("changes are done all or not at all", () =>
       [[...added(200), calls.replace(9000, account("dan"))], { word: "id", change: 200 }],
     ])
       await assert.rejects(db.atomically(wrong), (it) => it instanceof Refused && Object.entries(error).every(([name, value]) => it[name] === value));
-    for (const wrong of [calls.ask("squash"), calls.ask("commit", { revision: 1 }), { cmd: "insert", members: { row: { balance: 2 ** 60 } } }])
+    for (const wrong of [calls.ask("squash"), calls.ask("commit", { revision: 1 }), calls.insert({ balance: 2 ** 60 }), { cmd: "erase", members: { id: 1 } }, 7])
       await assert.rejects(db.atomically([calls.erase(0), wrong]), TypeError);
     assert.deepEqual([await owners(db), (await db.get(0)).balance, (await db.revision()).depth], [["bob", "ann"], 5, 0]);
     const thrown = new Error("out of the block");

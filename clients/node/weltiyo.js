@@ -539,8 +539,10 @@ class Database {
    * session is refused and a change isn't. */
   async atomically(changes) {
     const asked = [...changes];
-    for (const { cmd } of asked)
-      if (SESSION_STEPS.has(cmd)) throw new TypeError(`${cmd} begins or ends a session, so it can't stand among changes that are done in one`);
+    for (const it of asked) {
+      if (typeof it?.read !== "function") throw new TypeError("changes are made by `calls`, as calls.insert(row)");
+      if (SESSION_STEPS.has(it.cmd)) throw new TypeError(`${it.cmd} begins or ends a session, so it can't stand among changes that are done in one`);
+    }
     const lines = asked.map((it) => lineOf(it.cmd, it.members));
     if (lines.length === 0) return [];
     const mine = await this._block.when((outer) => outer.open());
@@ -556,13 +558,13 @@ class Database {
     throw new Refused(lost === undefined ? reply : { ...reply, lost: false }, refused); // (what a modify has lost is back)
   }
 
-  /** The replies to changes that were done in one session, which has ended. Where they are more than a piece, or other lines are on their way,
-   * the rest follows once the session is open and none was refused: else a start that is refused while others hold sessions could have changes
+  /** The replies to changes that were done in one session, which has ended. Where they are more than a piece or a window, or other lines are on their
+   * way, the rest follows once the session is open and none was refused: else a start that is refused while others hold sessions could have changes
    * behind it that aren't. */
   async _together(asked, lines) {
     const ask = async (some) => (await Promise.all(some.map((it) => this._channel.ask(it)))).map(decode);
     const start = lineOf("start");
-    const first = this._channel.isIdle ? firstPiece(start, lines) : 0;
+    const first = this._channel.isIdle ? Math.min(firstPiece(start, lines), this._channel.window - 1) : 0;
     const [started, ...replies] = await ask([start, ...lines.slice(0, first)]);
     if (!started.ok) {
       if (replies.some((it, n) => CHANGES.has(asked[n].cmd) && (it.ok || it.lost)))

@@ -330,7 +330,9 @@ class AsyncDatabase(AwaitedWalks):
         made, mine = Together(self._dialect, changes), object()
         await self._turn()
         self._blocks.append(mine)
-        steps, replies = made.steps(is_quiet=not self._awaited), None
+        # (behind lines that are on their way the start may stand at the end of a piece)
+        steps = made.steps(0 if self._awaited else self._window.most - 1)
+        replies: Optional[List[bytes]] = None
         try:
             while True:
                 replies = await self._exchange_of_block(steps.send(replies))

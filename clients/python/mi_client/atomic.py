@@ -22,9 +22,11 @@ class Together:
     """Some changes, and in the end the replies to them."""
 
     def __init__(self, dialect: Dialect, changes: Iterable[Request[Any]]) -> None:
-        """Makes all lines ahead of the first that is sent. Raises ValueError where one is no change, and what `Dialect.line` does."""
+        """Makes all lines ahead of the first that is sent. Raises TypeError or ValueError where one is no change, and what `Dialect.line` does."""
         self._dialect, self._changes = dialect, list(changes)
         for it in self._changes:
+            if not isinstance(it, Request):
+                raise TypeError(f"changes are made by mi_client.calls, as calls.insert(row); {type(it).__name__} is none")
             if it.members["cmd"] in SESSION_STEPS:
                 raise ValueError(f"{it.members['cmd']} begins or ends a session, so it can't stand among changes that are done in one")
         self._lines = [dialect.line(it) for it in self._changes]
@@ -32,13 +34,13 @@ class Together:
         self._started: bytes = b""
         self._replies: List[bytes] = []
 
-    def steps(self, is_quiet: bool = True) -> Steps:
-        """Start and changes together, and then what ends the session. Where they are more than a piece, or other lines are on their way
-        (it isn't quiet), the rest follows once the session is open and none was refused: else a start that is refused while others hold
-        sessions could have changes behind it that aren't."""
+    def steps(self, at_once: int = PIECE) -> Steps:
+        """Start and changes together, and then what ends the session. Where they are more than a piece, or more changes than can be sent
+        `at_once`, the rest follows once the session is open and none was refused: else a start that is refused while others hold sessions
+        could have changes behind it that aren't."""
         if not self._changes:
             return
-        first = self._first_piece() if is_quiet else 0
+        first = min(self._first_piece(), at_once)
         self._started, *self._replies = yield [self._start.line(), *self._lines[:first]]
         if self._is_refused(self._started):
             self._check_none_done()

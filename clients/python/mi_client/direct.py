@@ -2,7 +2,7 @@
 from __future__ import annotations
 
 import contextlib
-from typing import TYPE_CHECKING, Any, Callable, Iterable, Iterator, List, TypeVar
+from typing import TYPE_CHECKING, Any, Callable, Iterable, Iterator, List, Optional, TypeVar
 
 from mi_client import calls
 from mi_client.atomic import Together
@@ -136,7 +136,8 @@ class Calls:
         They are sent ahead in a session of their own, so all of them cost two waits. Where that is interrupted the connection ends, and the
         server undoes what isn't squashed. It ends too, with Ended, in the rare case that the session is refused and a change isn't."""
         made, mine = Together(self._dialect, changes), object()
-        steps, replies, broken_by = made.steps(), None, "changes that are done together were interrupted"
+        steps, broken_by = made.steps(), "changes that are done together were interrupted"
+        replies: Optional[List[bytes]] = None
         with self.alone():
             self._blocks.append(mine)
             try:

@@ -116,6 +116,7 @@ class Costs(unittest.TestCase):
         db = wire.opened()
         wrong = [(ValueError, [calls.erase(0), calls.find("by_class", True)]), (TypeError, [calls.insert({"owner": object()})]), (KeyError, breaks())]
         wrong += [(ValueError, [calls.insert(ANN), it]) for it in (calls.squash(), calls.begin(), calls.commit(1), calls.push(), calls.undo_all())]
+        wrong.append((TypeError, [calls.insert(ANN), {"cmd": "erase", "id": 0}]))
         for error, changes in wrong:
             self.assertRaises(error, db.atomically, changes)
         self.assertEqual((self.told(db), db.atomically([]), self.told(db)), (([], 0), [], ([], 0)))

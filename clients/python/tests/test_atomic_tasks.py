@@ -59,6 +59,14 @@ class Together(unittest.TestCase):
 
         self.run_on(work)
 
+    def test_a_narrow_window(self) -> None:
+        async def work(db: AsyncDatabase) -> None:
+            writes = watched(db)
+            await db.atomically(inserts(7))
+            self.assertEqual(writes, [["start", "insert", "insert"], ["insert"] * 3, ["insert"] * 2, ["squash"]])
+
+        self.run_on(work, 3)
+
     def test_what_is_done_and_undone(self) -> None:
         async def work(db: AsyncDatabase) -> None:
             await db.atomically([calls.insert(ANN), calls.insert(BOB)])

@@ -173,7 +173,9 @@ class Timeouts(unittest.TestCase):
 
     def test_such_a_server_and_tasks(self) -> None:
         async def main(port: int, call: Callable[[Any], Any]) -> None:
-            async with await AsyncDatabase.connect(port, timeout=PATIENCE) as db:
+            async with await AsyncDatabase.connect(port, timeout=60) as db:
+                self.assertEqual(db._timeout, 60)
+                db.answer_within(PATIENCE)
                 for _ in range(2):
                     with self.assertRaisesRegex(Ended, "^the server took too long$"):
                         await asyncio.wait_for(call(db), 20)
@@ -218,11 +220,11 @@ class Timeouts(unittest.TestCase):
     def test_a_loop_that_was_busy(self) -> None:
         """The reply that came meanwhile is in time."""
         async def main(port: int) -> None:
-            async with await AsyncDatabase.connect(port, timeout=0.05) as db:
+            async with await AsyncDatabase.connect(port) as db:
+                db.answer_within(0.05)
                 for _ in range(3):
                     asked = asyncio.ensure_future(db.size())
-                    await asyncio.sleep(0)
-                    await asyncio.sleep(0)
+                    await asyncio.sleep(0)  # (then it is sent)
                     came.wait(20)
                     came.clear()
                     busy.wait(0.1)
