@@ -8,6 +8,7 @@ import signal
 import socket
 import struct
 import threading
+import time
 import unittest
 from typing import Any, Callable, Iterator, List
 from unittest import mock
@@ -120,20 +121,33 @@ class Reasons(unittest.TestCase):
         asyncio.run(main(listener(self, says_more)))
 
     def test_an_interrupted_call(self) -> None:
+        self.addCleanup(signal.signal, signal.SIGUSR1, signal.getsignal(signal.SIGUSR1))
+        for call in CALLS:
+            self.interrupted(call)
+
+    def interrupted(self, call: Callable[[Database], Any]) -> None:
+        raised: List[bool] = []
+        is_over = threading.Event()
+
         def interrupts(stream: socket.socket) -> None:
             stream.recv(65_536)
-            signal.pthread_kill(threading.main_thread().ident or 0, signal.SIGUSR1)
+            while not raised:  # (one that comes just ahead of the wait for the reply wouldn't end it)
+                signal.pthread_kill(threading.main_thread().ident or 0, signal.SIGUSR1)
+                time.sleep(0.01)
+            is_over.set()
             stream.recv(65_536)
 
         def interrupt(*_: Any) -> None:
-            raise KeyboardInterrupt
+            if not raised:
+                raised.append(True)
+                raise KeyboardInterrupt
 
-        self.addCleanup(signal.signal, signal.SIGUSR1, signal.signal(signal.SIGUSR1, interrupt))
-        for call in CALLS:
-            with Database.connect(listener(self, interrupts)) as db:
-                with self.assertRaises(KeyboardInterrupt):
-                    call(db)
-                self.ended(db, "^a call was interrupted by KeyboardInterrupt: the connection is closed$")
+        signal.signal(signal.SIGUSR1, interrupt)
+        with Database.connect(listener(self, interrupts)) as db:
+            with self.assertRaises(KeyboardInterrupt):
+                call(db)
+            self.ended(db, "^(a call was|calls sent ahead were) interrupted by KeyboardInterrupt: the connection is closed$")
+        self.assertTrue(is_over.wait(20))  # (no signal comes later)
 
     def test_an_interrupted_block(self) -> None:
         def lines() -> Iterator[str]:
