@@ -73,11 +73,11 @@ class Channel:
 
     def write_all(self, data: bytes) -> None:
         """Writes bytes that have no reply, for which the time is that of a reply."""
-        self._left = self._timeout
         self._out += data
         self._write()
         while self._out:
             self.step()
+        self._left = self._timeout
         if self._broken:
             raise self._broken
 
