@@ -10,14 +10,14 @@ _weltiyo_files() {
 _weltiyo_options() {
     local all='--connect --program --schema --help'
     case $1 in
-        dump) echo "$all --table --order --hold --resume" ;;
-        export) echo "$all --table --order --hold --format" ;;
-        load) echo "$all --table --keep-going --resume --dump" ;;
-        import) echo "$all --table --keep-going --resume --dump --format" ;;
-        top) echo "$all --pid --every --count" ;;
-        metrics) echo "$all --pid --every --count --file" ;;
-        plot) echo "$all --table --column --points --bins --svg --load" ;;
-        web) echo "$all --port --write" ;;
+        dump) echo "$all --journal --table --order --hold --force --resume" ;;
+        export) echo "$all --journal --table --order --hold --force --format" ;;
+        load) echo "$all --table --keep-going --resume --dump --force" ;;
+        import) echo "$all --table --keep-going --resume --dump --force --format" ;;
+        top) echo "$all --journal --pid --every --count" ;;
+        metrics) echo "$all --journal --pid --every --count --file" ;;
+        plot) echo "$all --journal --table --column --points --bins --svg --load" ;;
+        web) echo "$all --journal --port --write" ;;
         '') echo "$all --run --tables --times --version prompt dump load export import top metrics plot web" ;;
         *) echo "$all --run --tables --times" ;;
     esac

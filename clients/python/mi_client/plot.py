@@ -8,7 +8,7 @@ from typing import List, Optional, Sequence, Tuple, Union
 from xml.sax.saxutils import escape
 
 from mi_client.errors import Ended, Refused, TooManyEqual
-from mi_client.opening import add_server, opened
+from mi_client.opening import add_source, opened, source_words
 from mi_client.rowfiles import read_json_lines, reading
 from mi_client.sampling import Bars, Line, along, distribution
 from mi_client.show import width_of
@@ -108,15 +108,15 @@ def drawn(it: Union[Bars, Line], as_svg: bool, width: int) -> str:
 def main(words: Optional[List[str]] = None) -> int:
     about = "Draws how many records have which keys of an index; with --column, a column's value along the index."
     parser = argparse.ArgumentParser(prog="weltiyo plot", description=about)
-    add_server(parser)
+    add_source(parser)
     parser.add_argument("--table", help="the table; without it the first")
     parser.add_argument("--column", help="a column of numbers, in place of the distribution")
     parser.add_argument("--points", type=int, default=200, help="at how many places a column is looked at (%(default)s)")
     parser.add_argument("--bins", type=int, default=20, help="how many ranges a distribution has (%(default)s)")
     parser.add_argument("--svg", metavar="FILE", help="writes a picture to this file in place of the terminal")
-    parser.add_argument("--load", metavar="FILE", help="loads this dump first, as into a server of its own")
+    parser.add_argument("--load", metavar="FILE", help="loads this dump first, into a server of its own unless one is named")
     parser.add_argument("index", help="a ranked index; an ordered one is walked whole")
-    options = parser.parse_args(words)
+    options = source_words(parser, words, lambda it: it.load)
     if options.points < 1 or options.bins < 1:
         parser.error("--points and --bins begin at 1")
     try:

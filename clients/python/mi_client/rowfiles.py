@@ -4,6 +4,7 @@ from __future__ import annotations
 import contextlib
 import csv
 import io
+import itertools
 import json
 import os
 import re
@@ -51,6 +52,14 @@ def writing(path: str, resumed: bool = False) -> Iterator[IO[bytes]]:
     else:
         with open(path, "ab" if resumed else "wb") as file:
             yield file
+
+
+def has_rows(path: str, kind: str) -> bool:
+    """Whether a file of this format that is there has a row; the first line of CSV has names."""
+    if path == "-" or not os.path.isfile(path):
+        return False
+    with open(path, "rb") as file:
+        return any(it.strip() for it in itertools.islice(file, 1 if kind == "csv" else 0, None))
 
 
 def length_of(path: str) -> int:

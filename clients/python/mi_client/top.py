@@ -11,7 +11,7 @@ from typing import Callable, List, NamedTuple, Optional, Tuple
 from mi_client import process
 from mi_client.database import Database
 from mi_client.errors import Ended, Refused
-from mi_client.opening import add_server, opened
+from mi_client.opening import add_source, opened, source_words
 from mi_client.process import Usage
 from mi_client.show import table
 
@@ -150,7 +150,7 @@ def watch(options: argparse.Namespace, shown: Callable[[Sample, Sample], None]) 
 
 def parser_of(name: str, about: str, every: float, count: Optional[int]) -> argparse.ArgumentParser:
     parser = argparse.ArgumentParser(prog=f"weltiyo {name}", description=about)
-    add_server(parser)
+    add_source(parser)
     parser.add_argument("--pid", type=int, help="the server's process, where it can't be found by the port")
     parser.add_argument("--every", type=float, default=every, metavar="SECONDS", help="how often (%(default)s)")
     parser.add_argument("--count", type=int, default=count, help="ends after so many")
@@ -159,7 +159,7 @@ def parser_of(name: str, about: str, every: float, count: Optional[int]) -> argp
 
 def main(words: Optional[List[str]] = None) -> int:
     about = "Shows a running server. It is one of the server's clients, and asks all the time so that it holds no other up."
-    options = parser_of("top", about, 1.0, None).parse_args(words)
+    options = source_words(parser_of("top", about, 1.0, None), words)
     clear = "\x1b[H\x1b[2J" if sys.stdout.isatty() else ""
 
     def shown(now: Sample, before: Sample) -> None:
@@ -172,7 +172,7 @@ def main_metrics(words: Optional[List[str]] = None) -> int:
     about = "Writes what a running server holds as text that Prometheus reads; by --every and --file again and again, for a collector of files."
     parser = parser_of("metrics", about, 0.0, None)
     parser.add_argument("--file", help="replaces this file each time, in place of writing to the standard output")
-    options = parser.parse_args(words)
+    options = source_words(parser, words)
     if options.count is None and not options.every:
         options.count = 1
 

@@ -7,18 +7,19 @@ import contextlib
 import itertools
 import json
 import sys
-from typing import Callable, Dict, Iterable, Iterator, List, NamedTuple, Optional
+from typing import Callable, Dict, Iterable, Iterator, List, NamedTuple, Optional, TypeVar
 
 from mi_client.calls import MOST_ROWS, Bound, Row, columns_of
 from mi_client.database import Database
 from mi_client.errors import Ended, NeedsSchema, Refused, TooManyEqual
-from mi_client.opening import add_server, opened
+from mi_client.opening import add_server, add_source, opened, source_words
 from mi_client.progress import Progress
 from mi_client.rowfiles import (
-    CsvWriter, Faulty, Item, format_of, json_line, length_of, read_csv, read_json_lines, reading, whole_lines, writing,
+    CsvWriter, Faulty, Item, format_of, has_rows, json_line, length_of, read_csv, read_json_lines, reading, whole_lines, writing,
 )
 from mi_client.schema import Table
 
+T = TypeVar("T")
 KEEPS = """A load gives the rows back, and what follows from them. It can't keep ids (they are counted from the first id again),
 nor the places of records among equals, nor the orders of sequenced indexes beside the one that was dumped by --order. For an
 exact copy keep the lines of the changes themselves, as a journal: sent again in their order they make the same tables."""
@@ -134,22 +135,32 @@ def dump(db: Database, options: argparse.Namespace) -> int:
         tables = tables[tables.index(last[0].get("table")):]
         lower = {"gt": [last[0]["id"]]}
     rows = 0
-    # (what is refused is refused before the file is emptied)
     sources = [(it, rows_in_order(db, it, options.order, None if n else lower)) for n, it in enumerate(tables)]
     total = sum(db.size(it) for it in tables)
+    lines = begun((json_line(row, table) for table, source in sources for row in source), options, "jsonl", bool(last))
     with writing(options.file, bool(last)) as file, Progress(total) as progress:
-        for table, source in sources:
-            for row in source:
-                file.write(json_line(row, table))
-                rows += 1
-                progress.step(1)
+        for line in lines:
+            file.write(line)
+            rows += 1
+            progress.step(1)
     return rows
+
+
+def begun(rows: Iterator[T], options: argparse.Namespace, kind: str, resumed: bool) -> Iterator[T]:
+    """The same, the first of which has come: what is refused or breaks off there does so before the file is emptied. Raises ValueError
+    where there is none and the file has rows, unless that is wanted."""
+    first = list(itertools.islice(rows, 1))
+    if not first and not resumed and not getattr(options, "force", False) and has_rows(options.file, kind):
+        raise ValueError(f"there is no row to write, and {options.file} has some: --force empties it")
+    return itertools.chain(first, rows)
 
 
 def export(db: Database, options: argparse.Namespace) -> int:
     rows = 0
-    home = home_of(db, options.table) if format_of(options.file, options.format) == "csv" else None
-    source, total = rows_in_order(db, options.table, options.order), db.size(options.table)
+    kind = format_of(options.file, options.format)
+    home = home_of(db, options.table) if kind == "csv" else None
+    total = db.size(options.table)
+    source = begun(rows_in_order(db, options.table, options.order), options, kind, False)
     with writing(options.file) as file, Progress(total) as progress:
         sheet = CsvWriter(file, home) if home else None
         for row in source:
@@ -187,10 +198,11 @@ def load(db: Database, options: argparse.Namespace) -> Loaded:
 
 def writer_options(name: str, about: str) -> argparse.ArgumentParser:
     parser = argparse.ArgumentParser(prog=f"weltiyo {name}", description=about, epilog=KEEPS)
-    add_server(parser)
+    add_source(parser)
     parser.add_argument("--table", help="this table alone")
     parser.add_argument("--order", metavar="INDEX", default="id", help="the rows in the order of this index (id)")
     parser.add_argument("--hold", action="store_true", help="holds a session meanwhile, so that no other connection changes anything")
+    parser.add_argument("--force", action="store_true", help="empties a file that has rows, where there is none to write")
     return parser
 
 
@@ -201,6 +213,7 @@ def reader_options(name: str, about: str) -> argparse.ArgumentParser:
     parser.add_argument("--keep-going", action="store_true", help="leaves refused rows out and tells them, in place of stopping")
     parser.add_argument("--resume", action="store_true", help="goes on behind the rows of the file that the tables have; those left out among them stay out")
     parser.add_argument("--dump", metavar="FILE", dest="then", help="dumps the tables to this file behind it")
+    parser.add_argument("--force", action="store_true", help="lets --dump empty a file that has rows, where there is none to write")
     return parser
 
 
@@ -232,7 +245,7 @@ def read(db: Database, options: argparse.Namespace) -> int:
     if done.other_ids:
         print(f"{done.other_ids} of them have other ids than they had", file=sys.stderr)
     if options.then:
-        dump(db, argparse.Namespace(file=options.then, table=None, order="id", resume=False))
+        dump(db, argparse.Namespace(file=options.then, table=None, order="id", resume=False, force=options.force))
     return 1 if done.refused else 0
 
 
@@ -240,7 +253,7 @@ def main_dump(words: Optional[List[str]] = None) -> int:
     parser = writer_options("dump", "Writes the rows of all tables as JSON lines.")
     parser.add_argument("--resume", action="store_true", help="goes on behind the last whole line of the file")
     parser.add_argument("file", nargs="?", default="-", help="- is the standard output (as without)")
-    options = parser.parse_args(words)
+    options = source_words(parser, words)
     if options.resume and options.order != "id":
         parser.error("--resume goes on by ids, so it can't go with --order")
     return ran("dump", argparse.Namespace(**vars(options), write=dump), written)
@@ -250,7 +263,7 @@ def main_export(words: Optional[List[str]] = None) -> int:
     parser = writer_options("export", "Writes the rows of one table as CSV or JSON lines.")
     parser.add_argument("--format", choices=["csv", "jsonl"], help="where the file's name doesn't end in .csv or .jsonl")
     parser.add_argument("file", nargs="?", default="-", help="- is the standard output (as without)")
-    return ran("export", argparse.Namespace(**vars(parser.parse_args(words)), write=export), written)
+    return ran("export", argparse.Namespace(**vars(source_words(parser, words)), write=export), written)
 
 
 def main_load(words: Optional[List[str]] = None) -> int:

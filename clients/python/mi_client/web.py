@@ -8,7 +8,7 @@ from typing import Callable, List, Optional, Tuple
 
 from mi_client.database import Database
 from mi_client.errors import Ended
-from mi_client.opening import add_server, opened
+from mi_client.opening import add_source, opened, program_of, source_words
 from mi_client.schema import Schema
 from mi_client.web_http import Window
 from mi_client.web_source import Source
@@ -21,7 +21,7 @@ def source_of(options: argparse.Namespace) -> Tuple[Source, str]:
     schema = Schema.read(options.schema) if options.schema else Schema.built_in()
     if options.connect is None:
         # (a server of its own has its tables with its connection, so there is none to come back to)
-        return Source(lambda: opened(options), schema, None, False), options.program
+        return Source(lambda: opened(options), schema, None, False), options.journal or program_of(options)
     connect: Callable[[], Database] = lambda: Database.connect(options.connect, schema=schema)
     return Source(connect, schema, options.connect, True), f"port {options.connect}"
 
@@ -29,7 +29,7 @@ def source_of(options: argparse.Namespace) -> Tuple[Source, str]:
 def parser_of() -> argparse.ArgumentParser:
     about = "Shows the tables of a running server in a browser, by a page on 127.0.0.1 for whoever has the address that is printed. Read-only."
     parser = argparse.ArgumentParser(prog="weltiyo web", description=about)
-    add_server(parser)
+    add_source(parser)
     parser.add_argument("--port", type=int, default=0, help="the page's port of 127.0.0.1; without it the system gives a free one")
     parser.add_argument("--write", action="store_true", help="lets the page change rows, and start, squash and undo sessions")
     return parser
@@ -37,7 +37,7 @@ def parser_of() -> argparse.ArgumentParser:
 
 def main(words: Optional[List[str]] = None) -> int:
     parser = parser_of()
-    options = parser.parse_args(words)
+    options = source_words(parser, words, lambda it: it.write)
     if not 0 <= options.port <= 65535:
         parser.error("--port is 0 to 65535")
     try:

@@ -73,6 +73,7 @@ def environment() -> Dict[str, str]:
     return {**os.environ, "PYTHONPATH": CLIENT, "MI_SERVER": program()}
 
 
-def ran(*words: str, typed: str = "") -> "subprocess.CompletedProcess[str]":
-    """What `python3 -m mi_client` does with these words."""
-    return subprocess.run([sys.executable, "-m", "mi_client", *words], input=typed, capture_output=True, text=True, env=environment(), timeout=60)
+def ran(*words: str, typed: str = "", variables: Optional[Dict[str, str]] = None) -> "subprocess.CompletedProcess[str]":
+    """What `python3 -m mi_client` does with these words; `variables` are those of its environment that are to be others."""
+    env = {**environment(), **(variables or {})}
+    return subprocess.run([sys.executable, "-m", "mi_client", *words], input=typed, capture_output=True, text=True, env=env, timeout=60)

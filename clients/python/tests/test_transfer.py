@@ -149,10 +149,11 @@ class Files(unittest.TestCase):
         self.assertEqual(list(second.walk_range("id")), list(first.walk_range("id")))
 
     def test_export(self) -> None:
-        ran = kit.ran("export", "--table", "none", "--schema", self.schema)
+        ran = kit.ran("export", "--program", kit.program(), "--table", "none", "--schema", self.schema)
         self.assertEqual((ran.returncode, ran.stderr), (1, "weltiyo export: table: there is no table none; tables are item, sale\n"))
-        self.assertEqual(self.run_tool("export", "--format", "csv", said="0 rows written\n"), "id,name,stock,sold\n")
-        self.run_tool("export", "--order", "by_name", status=1, said="weltiyo export: by_name is hashed and has no order; take another index, or `id`\n")
+        self.assertEqual(self.run_tool("export", "--program", kit.program(), "--format", "csv", said="0 rows written\n"), "id,name,stock,sold\n")
+        self.run_tool("export", "--program", kit.program(), "--order", "by_name", status=1,
+                      said="weltiyo export: by_name is hashed and has no order; take another index, or `id`\n")
 
     def test_json_lines_that_are_none(self) -> None:
         for text, words in [("{", ":1: no JSON:"), ("\n5\n", ":2: a row is an object"), ('{"name":"a"}\n', ":1: row: stock, sold are missing")]:

@@ -1,0 +1,117 @@
+"""Where the tools get their rows from: a server, a service's journal, and never an empty server that takes the place of a backup."""
+import json
+import os
+import unittest
+
+import kit
+from kit import ANN, BOB
+from test_service import SERVICE
+
+from mi_client import Server, rowfiles
+
+HEADER = '{"journal":1,"revision":0,"schema":"00"}'
+
+
+class Sources(unittest.TestCase):
+    def setUp(self) -> None:
+        self.folder = kit.folder(self)
+        self.backup = f"{self.folder}/backup.jsonl"
+        self.write(self.backup, "a backup\n")
+
+    def write(self, path: str, text: str) -> None:
+        with open(path, "w", encoding="utf-8") as file:
+            file.write(text)
+
+    def read(self, path: str) -> str:
+        with open(path, encoding="utf-8") as file:
+            return file.read()
+
+    def journal(self, *lines: str, end: str = "") -> str:
+        path = f"{self.folder}/journal"
+        self.write(path, "".join(f"{it}\n" for it in [HEADER, *lines]) + end)
+        return path
+
+    def test_what_reads_starts_no_empty_server(self) -> None:
+        for words in (["dump", self.backup], ["export", self.backup], ["top", "--count", "1"], ["metrics"], ["plot", "by_balance"], ["web"]):
+            ran = kit.ran(*words)
+            self.assertEqual((ran.returncode, ran.stdout), (2, ""), words)
+            for name in ("--connect", "--program", "--journal"):
+                self.assertIn(name, ran.stderr.partition("error:")[2], words)
+        self.assertEqual(self.read(self.backup), "a backup\n")
+        self.assertEqual(kit.ran("dump", "--connect", "1", "--journal", "x").returncode, 2)
+
+    def test_no_rows_over_some(self) -> None:
+        for words in (["dump", "--program", kit.program(), self.backup], ["export", "--program", kit.program(), self.backup],
+                      ["load", os.devnull, "--dump", self.backup]):
+            ran = kit.ran(*words)
+            self.assertEqual((ran.returncode, ran.stderr.splitlines()[-1]),
+                             (1, f"weltiyo {words[0]}: there is no row to write, and {self.backup} has some: --force empties it"))
+            self.assertEqual(self.read(self.backup), "a backup\n")
+            self.assertEqual(kit.ran(*words, "--force").returncode, 0)
+            self.assertEqual(self.read(self.backup), "")
+            self.assertEqual(kit.ran(*words).returncode, 0)
+            self.write(self.backup, "a backup\n")
+
+    def test_names_alone_are_no_rows(self) -> None:
+        for kind, text, want in [("csv", "id,owner\n", False), ("csv", "id,owner\n0,ann\n", True), ("jsonl", "\n", False), ("jsonl", "{}", True)]:
+            self.write(self.backup, text)
+            self.assertEqual(rowfiles.has_rows(self.backup, kind), want, text)
+        self.assertFalse(rowfiles.has_rows("-", "csv") or rowfiles.has_rows(f"{self.folder}/none", "csv"))
+
+    def test_a_server_that_goes_away_leaves_the_backup(self) -> None:
+        gone = f"{self.folder}/gone"
+        self.write(gone, f'#!/bin/sh\nhead -n 1 | {kit.program()}\nhead -n 1 > {os.devnull}; echo \'{{"ok":true,"size":7}}\'\n')
+        os.chmod(gone, 0o755)
+        ran = kit.ran("dump", "--program", gone, self.backup)
+        self.assertEqual((ran.returncode, self.read(self.backup)), (1, "a backup\n"), ran.stderr)
+
+    def test_a_journal(self) -> None:
+        insert = [json.dumps({"cmd": "insert", "row": it}) for it in (ANN, BOB)]
+        path = self.journal(insert[0], '{"cmd":"start"}', insert[1], end='{"cmd":"erase","id":0}')
+        before = self.read(path)
+        ran = kit.ran("dump", "--journal", path)
+        self.assertEqual((ran.returncode, ran.stdout, ran.stderr),
+                         (0, json.dumps({"id": 0, "row": dict(sorted(ANN.items())), "table": "accounts"}, separators=(",", ":")) + "\n", "1 rows written\n"))
+        self.assertEqual(self.read(path), before)
+        self.assertIn('weltiyo_rows{table="accounts"} 1', kit.ran("metrics", "--journal", path).stdout)
+        self.assertIn("0,ann,50,false", kit.ran("export", "--format", "csv", "--journal", path).stdout)
+        self.assertIn("50 1 #", kit.ran("plot", "--journal", path, "by_balance").stdout)
+
+    def test_a_journal_that_the_service_refuses(self) -> None:
+        for lines, words in [
+            (['{"cmd":"size"}'], ':2: no line of a journal of this schema; the server answers {"ok":true,"size":0}'),
+            (['{"cmd":"start"}', '{"cmd":"erase","id":0}'], ':3: no line of a journal of this schema; the server answers {"error":"id","ok":false}'),
+            (['{"cmd":"start"}', ""], ":3: an empty line"),
+        ]:
+            path = self.journal(*lines)
+            ran = kit.ran("dump", "--journal", path, self.backup)
+            self.assertEqual((ran.returncode, ran.stderr), (1, f"weltiyo dump: {path}{words}\n"))
+        for text in ('{"cmd":"start"}\n', "", HEADER):
+            self.write(path, text)
+            ran = kit.ran("dump", "--journal", path, self.backup)
+            self.assertEqual((ran.returncode, ran.stderr), (1, f"weltiyo dump: {path}:1: no header of a journal of format 1\n"))
+        self.assertEqual(kit.ran("dump", "--journal", f"{self.folder}/none", self.backup).returncode, 1)
+        self.assertEqual(self.read(self.backup), "a backup\n")
+
+    def test_the_journal_of_a_running_service(self) -> None:
+        path = f"{self.folder}/journal"
+        with Server(service=SERVICE, journal=path) as server, server.connect(20) as db:
+            db.insert(ANN)
+            db.begin()
+            db.erase(0)
+            self.assertIn('"owner":"ann"', kit.ran("dump", "--journal", path).stdout)
+            db.undo()
+            db.insert(BOB)
+            self.assertEqual(kit.ran("dump", "--journal", path).stderr, "2 rows written\n")
+
+    def test_no_program(self) -> None:
+        for words in ([], ["dump", "--program", "/no/such/program"], ["load", os.devnull]):
+            ran = kit.ran(*words, variables={"MI_SERVER": "/no/such/program"})
+            self.assertEqual(ran.returncode, 1, words)
+            for name in ("there is no program /no/such/program", "--program", "MI_SERVER", "--connect"):
+                self.assertIn(name, ran.stderr)
+            self.assertNotIn("Errno", ran.stderr)
+
+
+if __name__ == "__main__":
+    unittest.main()
