@@ -8,7 +8,7 @@ _weltiyo_files() {
 }
 
 _weltiyo_options() {
-    local all='--connect --program --schema --help'
+    local all='--connect --program --schema --timeout --help'
     case $1 in
         dump) echo "$all --journal --table --order --hold --force --resume" ;;
         export) echo "$all --journal --table --order --hold --force --format" ;;

@@ -5,7 +5,7 @@ import argparse
 import os
 from typing import Callable, List, Optional
 
-from mi_client.database import Database
+from mi_client.database import AnySchema, Database
 from mi_client.journals import replay
 
 NO_SOURCE = """a server that starts here is empty, so there is nothing to read: name the one that runs by --connect PORT, a service's journal by \
@@ -21,10 +21,19 @@ def program_of(options: argparse.Namespace) -> str:
     return options.program or os.environ.get("MI_SERVER") or "mi_server"
 
 
+def seconds(text: str) -> float:
+    """A number of seconds. Raises ValueError."""
+    found = float(text)
+    if not 0 <= found < 1e6:
+        raise ValueError("seconds are from 0 to a million")
+    return found
+
+
 def add_server(parser: argparse.ArgumentParser) -> None:
     parser.add_argument("--connect", type=int, metavar="PORT", help="asks the server that listens on this port of 127.0.0.1")
     parser.add_argument("--program", metavar="FILE", help="the server to start, where --connect isn't given: else MI_SERVER's, else mi_server")
     parser.add_argument("--schema", metavar="FILE", help="the schema that this server is started with, or was, with --connect")
+    parser.add_argument("--timeout", type=seconds, default=5.0, metavar="SECONDS", help="how long --connect waits for a reply; 0 waits without an end (%(default)g)")
 
 
 def add_source(parser: argparse.ArgumentParser) -> None:
@@ -44,10 +53,23 @@ def source_words(parser: argparse.ArgumentParser, words: Optional[List[str]], ha
     return options
 
 
+def connected(options: argparse.Namespace, schema: AnySchema) -> Database:
+    """A connection to the server that is named by its port. Raises OSError."""
+    return Database.connect(options.connect, options.timeout or None, schema)
+
+
+def why(error: BaseException, options: argparse.Namespace) -> str:
+    """What is said of an error; of a server that doesn't answer, why that may be."""
+    if not isinstance(error, TimeoutError) and not isinstance(error.__cause__, TimeoutError):
+        return str(error)
+    return (f"port {options.connect} gave no reply for {options.timeout:g} seconds. It may be busy, all its places may be taken, or it waits for "
+            "another client. --timeout SECONDS waits longer")
+
+
 def opened(options: argparse.Namespace) -> Database:
     """The connection. Raises OSError and Ended; ValueError where the schema is none, or the journal isn't one of this program."""
     if options.connect is not None:
-        return Database.connect(options.connect, schema=options.schema)
+        return connected(options, options.schema)
     program, journal = program_of(options), getattr(options, "journal", None)
     try:
         db = Database.start(program, options.schema)

@@ -8,7 +8,7 @@ from typing import List, Optional, Sequence, Tuple, Union
 from xml.sax.saxutils import escape
 
 from mi_client.errors import Ended, Refused, TooManyEqual
-from mi_client.opening import add_source, opened, source_words
+from mi_client.opening import add_source, opened, source_words, why
 from mi_client.rowfiles import read_json_lines, reading
 from mi_client.sampling import Bars, Line, along, distribution
 from mi_client.show import width_of
@@ -135,6 +135,6 @@ def main(words: Optional[List[str]] = None) -> int:
         else:
             print(text)
     except (Ended, OSError, Refused, ValueError, TooManyEqual, RuntimeError) as error:
-        print(f"weltiyo plot: {error}", file=sys.stderr)
+        print(f"weltiyo plot: {why(error, options)}", file=sys.stderr)
         return 1
     return 0

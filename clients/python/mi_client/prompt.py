@@ -13,7 +13,7 @@ from mi_client.commands import COMMANDS, REFUSALS
 from mi_client.completion import completions
 from mi_client.database import Database
 from mi_client.errors import Ended
-from mi_client.opening import add_server, opened
+from mi_client.opening import add_server, opened, why
 from mi_client.shorthand import FORMS, line_of
 
 HISTORY = os.path.expanduser("~/.mi_client_history")
@@ -202,6 +202,6 @@ def main(words: Optional[List[str]] = None) -> int:
         print("\nweltiyo: interrupted while a reply was awaited, so the connection is closed", file=sys.stderr)
         return 130
     except (Ended, OSError) as error:
-        print(f"weltiyo: {error}", file=sys.stderr)
+        print(f"weltiyo: {why(error, options)}", file=sys.stderr)
         return 1
     return 0

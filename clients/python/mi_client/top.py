@@ -1,5 +1,5 @@
 """The tools top and metrics: what a running server holds and does, from its replies and from the system. The server tells no
-count of lines, so the bytes that it reads and writes stand for them."""
+count of lines, so the bytes that it reads and writes stand for them, without those of the tool itself over a connection."""
 from __future__ import annotations
 
 import argparse
@@ -11,10 +11,14 @@ from typing import Callable, List, NamedTuple, Optional, Tuple
 from mi_client import process
 from mi_client.database import Database
 from mi_client.errors import Ended, Refused
-from mi_client.opening import add_source, opened, source_words
+from mi_client.opening import add_source, opened, source_words, why
 from mi_client.process import Usage
 from mi_client.show import table
+from mi_client.sockets import UNTOLD, Traffic
 
+Moved = Callable[[], Tuple[Optional[int], Optional[int]]]
+"""Bytes that a server has read and written, where the system tells."""
+ONCE = "# Bytes of connections are counted while this runs, so --every SECONDS has them."
 PAUSE = 0.0005
 """Seconds between two questions while nothing is shown. The server waits for each connection in turn, so one that only looks
 on has to go on asking, or it would hold the others up."""
@@ -35,8 +39,9 @@ class Sample(NamedTuple):
 class Watcher:
     """Looks at a server over a connection of its own."""
 
-    def __init__(self, db: Database, number: Optional[int]) -> None:
-        self.db, self.number = db, number
+    def __init__(self, db: Database, number: Optional[int], moved: Optional[Moved] = None) -> None:
+        """`number` is the server's process, which tells bytes of pipes alone; `moved` tells those of connections."""
+        self.db, self.number, self.moved = db, number, moved
         self.turns = 0
 
     def sample(self) -> Sample:
@@ -44,7 +49,11 @@ class Watcher:
         sizes = [(it, self.db.size(it if self.db.schema else None)) for it in names]
         now = self.db.revision()
         self.turns += len(sizes) + 2
-        return Sample(time.monotonic(), sizes, now.revision, now.depth, self.holder(now.held), self.turns, process.usage(self.number))
+        usage = process.usage(self.number)
+        if self.moved:
+            read, written = self.moved()
+            usage = usage._replace(read=read, written=written)
+        return Sample(time.monotonic(), sizes, now.revision, now.depth, self.holder(now.held), self.turns, usage)
 
     def holder(self, held: int) -> str:
         """Asked by a `reserve` of nothing, which changes nothing and is refused as busy where another connection holds sessions."""
@@ -89,9 +98,10 @@ def screen(now: Sample, before: Sample) -> str:
     ]
     per_row = now.usage.memory / total if now.usage.memory and (total := sum(size for _, size in now.sizes)) else None
     read, written = (rate(getattr(now.usage, it), getattr(before.usage, it), took) for it in ("read", "written"))
+    moved = UNTOLD if read is None else f"{amount(read)}/s   written {amount(written)}/s"
     return "\n".join([
         f"memory    {amount(now.usage.memory)}" + (f" ({amount(per_row)} a row)" if per_row else ""),
-        f"read      {amount(read)}/s   written {amount(written)}/s   processor {'not told' if busy is None else f'{busy:.0%}'}",
+        f"read      {moved}   processor {'not told' if busy is None else f'{busy:.0%}'}",
         f"turns     {amount(rate(now.turns, before.turns, took), '')}/s",
         f"sessions  {now.depth} open, revision {now.revision}; held by {now.holder}",
         "",
@@ -113,8 +123,8 @@ def prometheus(it: Sample) -> str:
     add("open_sessions", "gauge", "Open sessions.", ("", it.depth))
     add("held_by_another", "gauge", "1 where another connection holds sessions.", ("", int(it.holder == "another connection")))
     add("resident_memory_bytes", "gauge", "Memory of the process.", ("", it.usage.memory))
-    add("read_bytes_total", "counter", "Bytes that the process has read.", ("", it.usage.read))
-    add("written_bytes_total", "counter", "Bytes that the process has written.", ("", it.usage.written))
+    add("read_bytes_total", "counter", "Bytes that the server has read, of connections since this began to look.", ("", it.usage.read))
+    add("written_bytes_total", "counter", "Bytes that the server has written, likewise.", ("", it.usage.written))
     add("processor_seconds_total", "counter", "Processor time of the process.", ("", it.usage.seconds))
     return "\n".join(parts) + "\n"
 
@@ -126,11 +136,18 @@ def write_whole(path: str, text: str) -> None:
     os.replace(f"{path}.new", path)
 
 
+def moved_by(options: argparse.Namespace) -> Optional[Moved]:
+    """What tells the bytes of a server that is connected to: its other connections, from one look to the next."""
+    if options.connect is None:
+        return None
+    return Traffic(options.connect).moved if options.every else lambda: (None, None)
+
+
 def watch(options: argparse.Namespace, shown: Callable[[Sample, Sample], None]) -> int:
     try:
         with opened(options) as db:
             number = options.pid or db.process or (process.listener(options.connect) if options.connect else None)
-            watcher = Watcher(db, number)
+            watcher = Watcher(db, number, moved_by(options))
             before = watcher.sample()
             count = 0
             while options.count is None or count < options.count:
@@ -143,7 +160,7 @@ def watch(options: argparse.Namespace, shown: Callable[[Sample, Sample], None]) 
     except KeyboardInterrupt:
         print()
     except (Ended, OSError, Refused, ValueError) as error:
-        print(f"weltiyo: {error}", file=sys.stderr)
+        print(f"weltiyo: {why(error, options)}", file=sys.stderr)
         return 1
     return 0
 
@@ -177,9 +194,10 @@ def main_metrics(words: Optional[List[str]] = None) -> int:
         options.count = 1
 
     def shown(now: Sample, _: Sample) -> None:
+        text = prometheus(now) + (f"{ONCE}\n" if options.connect is not None and not options.every else "")
         if options.file:
-            write_whole(options.file, prometheus(now))
+            write_whole(options.file, text)
         else:
-            print(prometheus(now), end="", flush=True)
+            print(text, end="", flush=True)
 
     return watch(options, shown)

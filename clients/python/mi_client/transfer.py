@@ -12,7 +12,7 @@ from typing import Callable, Dict, Iterable, Iterator, List, NamedTuple, Optiona
 from mi_client.calls import MOST_ROWS, Bound, Row, columns_of
 from mi_client.database import Database
 from mi_client.errors import Ended, NeedsSchema, Refused, TooManyEqual
-from mi_client.opening import add_server, add_source, opened, source_words
+from mi_client.opening import add_server, add_source, opened, source_words, why
 from mi_client.progress import Progress
 from mi_client.rowfiles import (
     CsvWriter, Faulty, Item, format_of, has_rows, json_line, length_of, read_csv, read_json_lines, reading, whole_lines, writing,
@@ -224,7 +224,7 @@ def ran(name: str, options: argparse.Namespace, work: Callable[[Database, argpar
             with db.session() if getattr(options, "hold", False) else contextlib.nullcontext():
                 return work(db, options)
     except (Refused, Ended, OSError, ValueError, TooManyEqual, Stopped) as error:
-        print(f"weltiyo {name}: {error}", file=sys.stderr)
+        print(f"weltiyo {name}: {why(error, options)}", file=sys.stderr)
         return 1
     except KeyboardInterrupt:
         print(f"weltiyo {name}: interrupted" + ("; --resume goes on" if hasattr(options, "resume") else ""), file=sys.stderr)

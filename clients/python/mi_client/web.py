@@ -8,7 +8,7 @@ from typing import Callable, List, Optional, Tuple
 
 from mi_client.database import Database
 from mi_client.errors import Ended
-from mi_client.opening import add_source, opened, program_of, source_words
+from mi_client.opening import add_source, connected, opened, program_of, source_words, why
 from mi_client.schema import Schema
 from mi_client.web_http import Window
 from mi_client.web_source import Source
@@ -22,7 +22,7 @@ def source_of(options: argparse.Namespace) -> Tuple[Source, str]:
     if options.connect is None:
         # (a server of its own has its tables with its connection, so there is none to come back to)
         return Source(lambda: opened(options), schema, None, False), options.journal or program_of(options)
-    connect: Callable[[], Database] = lambda: Database.connect(options.connect, schema=schema)
+    connect: Callable[[], Database] = lambda: connected(options, schema)
     return Source(connect, schema, options.connect, True), f"port {options.connect}"
 
 
@@ -58,6 +58,6 @@ def main(words: Optional[List[str]] = None) -> int:
     except KeyboardInterrupt:
         print()
     except (Ended, OSError, OverflowError, ValueError) as error:
-        print(f"weltiyo web: {error}", file=sys.stderr)
+        print(f"weltiyo web: {why(error, options)}", file=sys.stderr)
         return 1
     return 0

@@ -120,6 +120,7 @@ class Source:
         except BaseException:
             db.close()
             raise
+        db.answer_within(None)  # (it has answered: from here on the page says that a reply is awaited)
         self._db, self.epoch = db, self.epoch + 1
         self._process = db.process or (process.listener(self.port) if self.port else None)
         # (where it can't be seen which program listens, an empty line now and then does no harm)

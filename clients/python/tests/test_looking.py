@@ -1,6 +1,9 @@
 """top, metrics and plot: what they take from a server and how they show it."""
 import contextlib
 import re
+import socket
+import subprocess
+import sys
 import threading
 import unittest
 import xml.etree.ElementTree
@@ -8,8 +11,9 @@ from typing import Iterator
 
 import kit
 from kit import ANN
+from test_service import SERVICE
 
-from mi_client import Database, Server, process
+from mi_client import Database, Server, process, sockets
 from mi_client.plot import bars_as_svg, bars_as_text, drawn, line_as_svg, line_as_text
 from mi_client.sampling import Bars, Line, along, distribution, edges_of, spread
 from mi_client.top import Sample, Usage, Watcher, amount, prometheus, screen
@@ -76,6 +80,49 @@ class Top(unittest.TestCase):
                 self.assertEqual(working.size(), 20)
                 working.close()
             watching.close()
+
+    def test_bytes_of_connections(self) -> None:
+        """Those of other processes are counted, to the byte, of a connection that was there before and of one that comes later."""
+        if sockets.connections() is None:
+            self.skipTest("the system tells no bytes of connections")
+        code = "import socket, sys\ns = socket.create_connection(('127.0.0.1', int(sys.argv[1])))\ns.sendall(b'x' * 70_000)\ns.recv(1)\ninput()"
+        with socket.create_server(("127.0.0.1", 0)) as listener, contextlib.ExitStack() as ends:
+            port = listener.getsockname()[1]
+            traffic = None
+            for _ in range(2):
+                ran = ends.enter_context(subprocess.Popen([sys.executable, "-c", code, str(port)], stdin=subprocess.PIPE))
+                ends.callback(ran.kill)
+                there = ends.enter_context(listener.accept()[0])
+                self.assertEqual(len(there.recv(70_000, socket.MSG_WAITALL)), 70_000)
+                traffic = traffic or sockets.Traffic(port)
+                there.sendall(b"yes")
+            own = ends.enter_context(socket.create_connection(("127.0.0.1", port)))
+            own.sendall(b"of the tool itself")
+            self.assertEqual(ends.enter_context(listener.accept()[0]).recv(18, socket.MSG_WAITALL), b"of the tool itself")
+            self.assertEqual(traffic.moved(), (70_000, 6))
+            self.assertEqual(traffic.moved(), (70_000, 6))
+
+    def test_a_server_that_is_asked_by_another(self) -> None:
+        if sockets.connections() is None:
+            self.skipTest("the system tells no bytes of connections")
+        for tool, wanted in [("top", r"read      [1-9][0-9.]* k?B/s   written [1-9][0-9.]* k?B/s"),
+                             ("metrics", r"read_bytes_total [1-9][0-9]*\n(?:#.*\n)*weltiyo_written_bytes_total [1-9]")]:
+            with Server(kit.program(), clients=2) as server:
+                working, found = server.connect(60), []
+                words = [tool, "--connect", str(server.port), "--every", "0.2", "--count", "2", "--timeout", "60"]
+                looking = threading.Thread(target=lambda: found.append(kit.ran(*words)))
+                looking.start()
+                while looking.is_alive():
+                    working.insert({**ANN, "owner": str(working.size())})
+                looking.join()
+                working.close()
+            self.assertEqual((found[0].returncode, found[0].stderr), (0, ""))
+            self.assertEqual(len(re.findall(wanted, found[0].stdout)), 2, found[0].stdout)
+        service = Server(service=SERVICE)
+        self.addCleanup(service.close)
+        once = kit.ran("metrics", "--connect", str(service.port)).stdout
+        self.assertNotIn("bytes_total", once)
+        self.assertTrue(once.endswith("so --every SECONDS has them.\n"), once)
 
     def test_what_is_shown(self) -> None:
         before = Sample(0.0, [("a", 10), ("b", 0)], 0, 0, "nobody", 100, Usage(1_000_000, 0, 0, 1.0))

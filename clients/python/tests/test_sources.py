@@ -1,6 +1,8 @@
 """Where the tools get their rows from: a server, a service's journal, and never an empty server that takes the place of a backup."""
+import argparse
 import json
 import os
+import socket
 import unittest
 
 import kit
@@ -8,6 +10,7 @@ from kit import ANN, BOB
 from test_service import SERVICE
 
 from mi_client import Server, rowfiles
+from mi_client.opening import add_server
 
 HEADER = '{"journal":1,"revision":0,"schema":"00"}'
 
@@ -103,6 +106,21 @@ class Sources(unittest.TestCase):
             db.undo()
             db.insert(BOB)
             self.assertEqual(kit.ran("dump", "--journal", path).stderr, "2 rows written\n")
+
+    def test_a_server_that_gives_no_reply(self) -> None:
+        with socket.create_server(("127.0.0.1", 0), backlog=64) as silent:
+            port = silent.getsockname()[1]
+            for words in ([], ["dump", "--table", "t"], ["export"], ["load", self.backup], ["import", self.backup], ["top"], ["metrics"], ["plot", "id"],
+                          ["web"]):
+                self.write(self.backup, "{}\n")
+                ran = kit.ran(*words, "--connect", str(port), "--timeout", "0.1", "--schema", f"{kit.TOP}/examples/shop.toml", typed="size\n")
+                self.assertEqual((ran.returncode, ran.stdout), (1, ""), (words, ran.stderr))
+                self.assertIn(f"port {port} gave no reply for 0.1 seconds. It may be busy, all its places may be taken", ran.stderr)
+                self.assertEqual(self.read(self.backup), "{}\n")
+        parser = argparse.ArgumentParser()
+        add_server(parser)
+        self.assertEqual(parser.parse_args([]).timeout, 5)
+        self.assertEqual(kit.ran("dump", "--timeout", "-1").returncode, 2)
 
     def test_no_program(self) -> None:
         for words in ([], ["dump", "--program", "/no/such/program"], ["load", os.devnull]):
