@@ -12,8 +12,8 @@ _weltiyo_options() {
     case $1 in
         dump) echo "$all --journal --table --order --hold --force --resume" ;;
         export) echo "$all --journal --table --order --hold --force --format" ;;
-        load) echo "$all --table --keep-going --resume --dump --force" ;;
-        import) echo "$all --table --keep-going --resume --dump --force --format" ;;
+        load) echo "$all --table --keep-going --resume --renumber --references --dump --force" ;;
+        import) echo "$all --table --keep-going --resume --renumber --references --dump --force --format" ;;
         top) echo "$all --journal --pid --every --count" ;;
         metrics) echo "$all --journal --pid --every --count --file" ;;
         plot) echo "$all --journal --table --column --points --bins --svg --load" ;;

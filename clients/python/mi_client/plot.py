@@ -8,11 +8,11 @@ from typing import List, Optional, Sequence, Tuple, Union
 from xml.sax.saxutils import escape
 
 from mi_client.errors import Ended, Refused, TooManyEqual
+from mi_client.loading import load_rows
 from mi_client.opening import add_source, opened, source_words, why
 from mi_client.rowfiles import read_json_lines, reading
 from mi_client.sampling import Bars, Line, along, distribution
 from mi_client.show import width_of
-from mi_client.transfer import load_rows
 
 HIGH = 16
 """The lines of a drawing in the terminal."""

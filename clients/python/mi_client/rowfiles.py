@@ -8,7 +8,9 @@ import itertools
 import json
 import os
 import re
+import shutil
 import sys
+import tempfile
 from typing import IO, Any, Callable, Dict, Iterator, List, NamedTuple, Optional, Sequence
 
 from mi_client.schema import Table
@@ -36,12 +38,16 @@ class Faulty(ValueError):
 
 
 @contextlib.contextmanager
-def reading(path: str) -> Iterator[IO[bytes]]:
-    if path == "-":
-        yield sys.stdin.buffer
-    else:
-        with open(path, "rb") as file:
-            yield file
+def reading(path: str, again: bool = False) -> Iterator[IO[bytes]]:
+    """A file; where it is read `again`, as from a pipe, what has come of it is kept meanwhile."""
+    with contextlib.ExitStack() as opened:
+        file: IO[bytes] = sys.stdin.buffer if path == "-" else opened.enter_context(open(path, "rb"))
+        if again and not file.seekable():
+            kept = opened.enter_context(tempfile.TemporaryFile())
+            shutil.copyfileobj(file, kept)
+            kept.seek(0)
+            file = kept
+        yield file
 
 
 @contextlib.contextmanager

@@ -5,36 +5,24 @@ from __future__ import annotations
 import argparse
 import contextlib
 import itertools
-import json
 import sys
-from typing import Callable, Dict, Iterable, Iterator, List, NamedTuple, Optional, TypeVar
+from typing import IO, Callable, Iterator, List, Optional, TypeVar
 
-from mi_client.calls import MOST_ROWS, Bound, Row, columns_of
+from mi_client.calls import Bound, Row
 from mi_client.database import Database
 from mi_client.errors import Ended, NeedsSchema, Refused, TooManyEqual
+from mi_client.loading import Loaded, Reference, References, Stopped, behind_loaded, check_ids, load_rows
 from mi_client.opening import add_server, add_source, opened, source_words, why
 from mi_client.progress import Progress
 from mi_client.rowfiles import (
-    CsvWriter, Faulty, Item, format_of, has_rows, json_line, length_of, read_csv, read_json_lines, reading, whole_lines, writing,
+    CsvWriter, Item, format_of, has_rows, json_line, length_of, read_csv, read_json_lines, reading, whole_lines, writing,
 )
 from mi_client.schema import Table
 
 T = TypeVar("T")
-KEEPS = """A load gives the rows back, and what follows from them. It can't keep ids (they are counted from the first id again),
-nor the places of records among equals, nor the orders of sequenced indexes beside the one that was dumped by --order. For an
+KEEPS = """A load gives the rows back, and what follows from them. It keeps ids where they are those that the server counts; else it loads
+nothing, unless --renumber or --references is given. It can't keep the places of records among equals, nor the orders of sequenced indexes beside the one that was dumped by --order. For an
 exact copy keep the lines of the changes themselves, as a journal: sent again in their order they make the same tables."""
-
-
-class Stopped(Exception):
-    """A load came upon a row that is refused. The pages before are in, and of its own page nothing."""
-
-
-class Loaded(NamedTuple):
-    """What a load did: rows that came in, those among them that got another id, and refusals that were passed over."""
-
-    rows: int
-    other_ids: int
-    refused: List[str]
 
 
 def rows_in_order(db: Database, table: Optional[str], index: str, lower: Optional[Bound] = None) -> Iterator[Row]:
@@ -50,73 +38,6 @@ def rows_in_order(db: Database, table: Optional[str], index: str, lower: Optiona
     if found and found.kind == "sequenced":
         return db.walk_list(index, table=table)
     return db.walk_range(index, ["id"] if index == "id" else None, lower, table=table)
-
-
-def load_rows(
-    db: Database,
-    items: Iterable[Item],
-    keep_going: bool = False,
-    told: Optional[Callable[[int, int], None]] = None,
-    size: int = MOST_ROWS,
-) -> Loaded:
-    """Inserts rows in pages of this size, each in a session of its own and sent ahead. `told` hears of each page: its rows, and the bytes
-    that are read. Raises Stopped, and Refused where another connection holds sessions; where `keep_going` is, refused rows are
-    left out."""
-    rows = other_ids = 0
-    refused: List[str] = []
-    source = iter(items)
-    while True:
-        page = list(itertools.islice(source, size))
-        if not page:
-            return Loaded(rows, other_ids, refused)
-        with db.session():
-            with db.pipeline() as ahead:
-                answers = [ahead.insert(it.row, it.table) for it in page]
-                ahead.flush()
-                ahead.refused()
-            for it, answer in zip(page, answers):
-                try:
-                    id = answer.result()
-                    rows += 1
-                    other_ids += it.id is not None and it.id != id
-                except Refused as refusal:
-                    if not keep_going:
-                        raise Stopped(f"{it.place}: {refusal}") from None
-                    refused.append(f"{it.place}: {refusal}")
-        if told:
-            told(len(page), page[-1].done)
-
-
-def behind_loaded(db: Database, items: Iterable[Item]) -> Iterator[Item]:
-    """The rows of the file behind those that are in, where the tables have the first ones of the file, in their order, but for
-    some that were left out. Raises ValueError, at the end of the file, where a table has another record."""
-    there: Dict[Optional[str], Iterator[Row]] = {}
-    next_ones: Dict[Optional[str], Optional[Row]] = {}
-    for it in items:
-        if it.table is None and db.schema:
-            it = it._replace(table=db.schema.tables[0].name)  # (so that it is one table, named or not)
-        if it.table not in there:
-            there[it.table] = rows_by_now(db, it.table)
-            next_ones[it.table] = next(there[it.table], None)
-        row = next_ones[it.table]
-        if row is None:
-            yield it
-        elif text_of(columns_of(row)) == text_of(it.row):
-            next_ones[it.table] = next(there[it.table], None)
-    for table, row in next_ones.items():
-        if row is not None:
-            where = f" of {table}" if table else ""
-            raise ValueError(f"record {row['id']}{where} isn't among the rows of the file, in their order: there is nothing to go on with")
-
-
-def rows_by_now(db: Database, table: Optional[str]) -> Iterator[Row]:
-    """The rows that a table has by now, in the order in which they came."""
-    return itertools.islice(rows_in_order(db, table, "id"), db.size(table))
-
-
-def text_of(row: Row) -> str:
-    """Alike for equal rows alone (to Python 1 is True, and 1.0)."""
-    return json.dumps(row, sort_keys=True)
 
 
 def dumped_tables(db: Database, named: Optional[str]) -> List[Optional[str]]:
@@ -185,12 +106,23 @@ def home_of(db: Database, table: Optional[str]) -> Table:
 
 
 def load(db: Database, options: argparse.Namespace) -> Loaded:
-    with reading(options.file) as file, Progress(length_of(options.file)) as progress:
-        if format_of(options.file, options.format) == "csv":
-            items = read_csv(file, options.file, home_of(db, options.table))
-        else:
-            items = read_json_lines(file, options.file, options.table)
-        return load_rows(db, behind_loaded(db, items) if options.resume else items, options.keep_going, progress.step)
+    columns = getattr(options, "references", ())
+    keeps_ids, references = not columns and not getattr(options, "renumber", False), References(columns, db.schema)
+    with reading(options.file, again=keeps_ids) as file, Progress(length_of(options.file)) as progress:
+        if keeps_ids:
+            start = file.tell()
+            check_ids(db, items_of(db, file, options), options.resume)
+            file.seek(start)
+        items = items_of(db, file, options)
+        if options.resume:
+            items = behind_loaded(db, items, references)
+        return load_rows(db, items, options.keep_going, progress.step, references=references, keeps_ids=keeps_ids)
+
+
+def items_of(db: Database, file: IO[bytes], options: argparse.Namespace) -> Iterator[Item]:
+    if format_of(options.file, options.format) == "csv":
+        return read_csv(file, options.file, home_of(db, options.table))
+    return read_json_lines(file, options.file, options.table)
 
 
 # The command lines
@@ -211,6 +143,9 @@ def reader_options(name: str, about: str) -> argparse.ArgumentParser:
     add_server(parser)
     parser.add_argument("--table", help="loads all rows into this table; else into the one that each names, or the first")
     parser.add_argument("--keep-going", action="store_true", help="leaves refused rows out and tells them, in place of stopping")
+    parser.add_argument("--renumber", action="store_true", help="loads rows that get other ids than they have in the file")
+    parser.add_argument("--references", type=Reference.of, action="append", default=[], metavar="TABLE.COLUMN=TABLE",
+                        help="the same, and lets a column that holds ids of a table follow, as payment.from=account; may stand more than once")
     parser.add_argument("--resume", action="store_true", help="goes on behind the rows of the file that the tables have; those left out among them stay out")
     parser.add_argument("--dump", metavar="FILE", dest="then", help="dumps the tables to this file behind it")
     parser.add_argument("--force", action="store_true", help="lets --dump empty a file that has rows, where there is none to write")

@@ -137,7 +137,7 @@ class Files(unittest.TestCase):
         ]:
             with open(path, "w", encoding="utf-8") as file:
                 file.write(text)
-            self.run_tool("import", path, status=1, said=f"weltiyo import: {path}{words}\n")
+            self.run_tool("import", "--renumber", path, status=1, said=f"weltiyo import: {path}{words}\n")
 
     def test_every_text_comes_back_from_csv(self) -> None:
         texts = ["", "\r", "a\rb", "\r\n", "\n", "c\n", '"', ',"\r', ",", "'", " d ", ODD]
@@ -200,7 +200,7 @@ class Ports(unittest.TestCase):
         words = ["--connect", "0", "--program", kit.program(), f"{kit.folder(self)}/none"]
         self.assertEqual(transfer.main_load(words), 1)
         with self.assertRaises(OSError):
-            opened(Namespace(connect=0, program=kit.program(), schema=None))
+            opened(Namespace(connect=0, program=kit.program(), schema=None, timeout=5))
 
 
 if __name__ == "__main__":
