@@ -39,6 +39,8 @@ def why(schema: Optional[Schema], members: Mapping[str, Any], word: str) -> str:
 
 def _by_schema(schema: Schema, members: Mapping[str, Any], word: str) -> str:
     table = schema.table(members.get("table"))
+    if word == "table" and table:
+        return f"the server has no table {table.name}, and this schema does: it isn't the server's"
     if word == "table" or table is None:
         return f"there is no table {members.get('table')}; tables are {_listed([it.name for it in schema.tables])}"
     if word == "row":

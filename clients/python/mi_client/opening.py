@@ -6,6 +6,7 @@ import os
 from typing import Callable, List, Optional
 
 from mi_client.database import AnySchema, Database
+from mi_client.fitting import misfit
 from mi_client.journals import replay
 
 NO_SOURCE = """a server that starts here is empty, so there is nothing to read: name the one that runs by --connect PORT, a service's journal by \
@@ -66,10 +67,23 @@ def why(error: BaseException, options: argparse.Namespace) -> str:
             "another client. --timeout SECONDS waits longer")
 
 
+def fitting_one(db: Database) -> Database:
+    """A connection whose schema, where it has one, is the server's. Raises ValueError."""
+    try:
+        fault = misfit(db, db.schema) if db.schema else ""
+        if fault:
+            raise ValueError(fault)
+    except BaseException:
+        db.close()
+        raise
+    return db
+
+
 def opened(options: argparse.Namespace) -> Database:
-    """The connection. Raises OSError and Ended; ValueError where the schema is none, or the journal isn't one of this program."""
+    """The connection. Raises OSError and Ended; ValueError where the schema is none or not the server's, or the journal isn't one of this
+    program."""
     if options.connect is not None:
-        return connected(options, options.schema)
+        return fitting_one(connected(options, options.schema))
     program, journal = program_of(options), getattr(options, "journal", None)
     try:
         db = Database.start(program, options.schema)

@@ -201,7 +201,7 @@ def main(words: Optional[List[str]] = None) -> int:
     except KeyboardInterrupt:
         print("\nweltiyo: interrupted while a reply was awaited, so the connection is closed", file=sys.stderr)
         return 130
-    except (Ended, OSError) as error:
+    except (Ended, OSError, ValueError) as error:
         print(f"weltiyo: {why(error, options)}", file=sys.stderr)
         return 1
     return 0

@@ -7,13 +7,13 @@ import json
 import statistics
 import threading
 import time
-from typing import Any, Callable, Deque, Dict, Iterator, List, NamedTuple, Optional, Sequence, Tuple
+from typing import Any, Callable, Deque, Dict, List, NamedTuple, Optional, Sequence, Tuple
 
-from mi_client import process
+from mi_client import fitting, process
 from mi_client.commands import LOOK_UPS
 from mi_client.database import Database
 from mi_client.errors import Ended
-from mi_client.schema import Index, Schema, Table
+from mi_client.schema import Schema
 from mi_client.web_desk import Line, Stack
 
 EVERY = 2.0
@@ -113,7 +113,7 @@ class Source:
     def _come(self) -> None:
         db = self._connect()
         try:
-            fault = misfit(db, self.schema)
+            fault = fitting.misfit(db, self.schema)
             if fault:
                 raise ValueError(fault)
             self.has_status = bool(json.loads(db.ask_line(STATUS_LINE)).get("ok"))
@@ -208,37 +208,5 @@ def name_of(number: Optional[int]) -> Optional[str]:
         return None
 
 
-# Whether a schema is the server's
-
-
 def line_of(cmd: str, **members: Any) -> Line:
-    return Line(cmd, json.dumps({"cmd": cmd, **members}, separators=(",", ":")))
-
-
-def probes(schema: Schema) -> Iterator[Tuple[str, Line]]:
-    """Look-ups that a server over this schema answers, each with what it is about."""
-    for table in schema.tables:
-        yield f"the table {table.name}", line_of("size", table=table.name)
-        for index in table.indexes:
-            yield f"the index {index.name} of {table.name}", _probe(table, index)
-
-
-def _probe(table: Table, index: Index) -> Line:
-    if index.kind in ("sequenced", "ordered"):
-        return line_of("list" if index.kind == "sequenced" else "range", table=table.name, index=index.name, limit=1)
-    plain: Dict[str, Any] = {"int": 0, "text": "", "flag": False}
-    key = [0] if index.name == "id" else [plain[table.type_of(it)] for it in index.columns]
-    return line_of("lower_rank" if index.kind == "ranked" else "count", table=table.name, index=index.name, key=key)
-
-
-def misfit(db: Database, schema: Schema) -> str:
-    """In words what the server refuses that one over this schema answers; empty where it answers all. Raises Ended."""
-    asked = list(probes(schema))
-    for (about, _), reply in zip(asked, list(db.ask_lines(line.text for _, line in asked))):
-        try:
-            found = json.loads(reply)
-        except ValueError:
-            return "what answers isn't a table server"
-        if not found.get("ok") and found.get("error") != "memory":
-            return f"the server refuses {about} as {found.get('error')}: this schema isn't its own; name it by --schema FILE"
-    return ""
+    return Line(cmd, fitting.line_of(cmd, **members))

@@ -9,7 +9,7 @@ import kit
 from kit import ANN, BOB
 from test_service import SERVICE
 
-from mi_client import Server, rowfiles
+from mi_client import Schema, Server, explain, rowfiles
 from mi_client.opening import add_server
 
 HEADER = '{"journal":1,"revision":0,"schema":"00"}'
@@ -106,6 +106,25 @@ class Sources(unittest.TestCase):
             db.undo()
             db.insert(BOB)
             self.assertEqual(kit.ran("dump", "--journal", path).stderr, "2 rows written\n")
+
+    def test_another_schema(self) -> None:
+        """It is told as that, whatever of it the server lacks, and the file stays."""
+        shop, other = f"{kit.TOP}/examples/shop.toml", 'table = "accounts"\ncolumn = [{ name = "owner", type = "text" }]'
+        with Server(service=SERVICE) as server:
+            with server.connect(20) as db:
+                db.insert(ANN)
+            for path, words in [
+                (shop, "the server refuses the table item as table: this schema isn't its own; name it by --schema FILE"),
+                (kit.written(self, other), "the server's rows of accounts have balance, id, owner, vip, and not id, owner: this schema isn't"),
+                (kit.written(self, 'table = "accounts"\nindex = 5'), "this is no schema"),
+            ]:
+                for tool in (["dump", self.backup], ["export", "--format", "csv", self.backup], ["load", self.backup], ["plot", "id"], []):
+                    ran = kit.ran(*tool, "--connect", str(server.port), "--schema", path)
+                    self.assertEqual(ran.returncode, 1, (tool, ran.stderr))
+                    self.assertRegex(ran.stderr, f"^weltiyo( [a-z]+)?: {words}")
+        self.assertEqual(self.read(self.backup), "a backup\n")
+        said = explain.why(Schema.read(shop), {"cmd": "size", "table": "item"}, "table")
+        self.assertEqual(said, "the server has no table item, and this schema does: it isn't the server's")
 
     def test_a_server_that_gives_no_reply(self) -> None:
         with socket.create_server(("127.0.0.1", 0), backlog=64) as silent:
