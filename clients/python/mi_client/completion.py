@@ -9,7 +9,7 @@ from mi_client.explain import KINDS
 from mi_client.schema import Schema, Table
 from mi_client.shorthand import names_of
 
-EXTRAS = ["help", "quit", "\\d", "\\i", "\\t", "\\x"]
+EXTRAS = ["help", "quit", "\\c", "\\d", "\\i", "\\n", "\\t", "\\x"]
 IN_OBJECT = re.compile(r'(.*[{,]\s*)"([a-z0-9_]*)$')
 """A column's name that has begun within an object."""
 

@@ -2,6 +2,8 @@
 this only looks for the place, after the refusal, so that accepted commands cost nothing more."""
 from __future__ import annotations
 
+import json
+
 from typing import Any, Callable, Dict, Iterator, List, Mapping, Optional, Sequence, Tuple
 
 from mi_client.commands import COMMANDS, REFUSALS
@@ -54,7 +56,7 @@ def _missing(members: Mapping[str, Any]) -> str:
     """Which record isn't there."""
     cmd, before = members["cmd"], members.get("before")
     if cmd == "find":
-        return f"no record has the key {members['key']} in {members['index']}"
+        return f"no record has the key {json.dumps(members['key'], ensure_ascii=False)} in {members['index']}"
     if cmd == "nth":
         return f"no record stands at place {members['n']} of {members['index']}"
     if cmd == "insert":

@@ -2,26 +2,31 @@
 from __future__ import annotations
 
 import argparse
+import contextlib
 import json
 import os
 import sys
 import time
-from typing import List, Optional
+from typing import Callable, List, Optional
 
 from mi_client import explain, show
 from mi_client.commands import COMMANDS, REFUSALS
 from mi_client.completion import completions
 from mi_client.database import Database
-from mi_client.errors import Ended
+from mi_client.errors import Ended, NeedsSchema, Refused, TooManyEqual
 from mi_client.opening import add_server, opened, why
+from mi_client.paging import Behind, is_longer_than_screen, through_pager
 from mi_client.shorthand import FORMS, line_of
 
 HISTORY = os.path.expanduser("~/.mi_client_history")
 
+NEXT = " (Enter shows them)"
 WELCOME = "help lists the commands, help COMMAND shows one, Tab completes, Ctrl-D ends"
 
-KEYS = """    \\d         the tables, their columns and indexes
+KEYS = """    \\c         connects again
+    \\d         the tables, their columns and indexes
     \\i FILE    runs the lines of a file
+    \\n         the next page of a range or a list; at a terminal Enter alone does so too
     \\t         tells or hides how long commands take
     \\x         shows replies as tables, or as the lines that came
     quit       ends"""
@@ -44,7 +49,7 @@ def help_of(word: str) -> str:
     return "\n".join(said) or f"there is no command and no refusal {word}"
 
 
-def with_readline(db: Database) -> None:
+def with_readline(prompt: Prompt) -> None:
     """History and completion, where this Python has them."""
     try:
         import readline
@@ -52,7 +57,7 @@ def with_readline(db: Database) -> None:
         return
 
     def complete(word: str, n: int) -> Optional[str]:
-        found = completions(readline.get_line_buffer()[: readline.get_endidx()], word, db.schema)
+        found = completions(readline.get_line_buffer()[: readline.get_endidx()], word, prompt.db.schema)
         return found[n] if n < len(found) else None
 
     readline.set_completer(complete)
@@ -75,16 +80,21 @@ def with_readline(db: Database) -> None:
 
 
 class Prompt:
-    """What one asks and sees on a connection."""
+    """What one asks and sees on a connection, and on the next one where that has ended."""
 
-    def __init__(self, db: Database, typed: bool, tables: bool, times: bool) -> None:
+    def __init__(
+        self, db: Database, typed: bool, tables: bool, times: bool, again: Optional[Callable[[], Database]] = None, why: Callable[[BaseException], str] = str
+    ) -> None:
+        """`again` gives another connection; `why` says what of an error is shown."""
         self.db, self.typed, self.tables, self.times = db, typed, tables, times
+        self._again, self._why = again, why
+        self._behind: Optional[Behind] = None
 
     def answer(self, text: str) -> Optional[str]:
         """What is printed for a line, or None at `quit`. Raises Ended."""
         words = text.split()
         if not words:
-            return ""
+            return self.next_page() if self.typed and self._behind else ""
         if words[0] in ("quit", "exit"):
             return None
         if words[0] == "help":
@@ -95,10 +105,11 @@ class Prompt:
             line = self.line(text)
         except ValueError as error:
             return f"not sent: {error}"
+        self._behind = None
         began = time.perf_counter()
         reply = self.db.ask_line(line)
         took = time.perf_counter() - began
-        return self.shown(line, reply) + (f"\n({took * 1000:.1f} ms)" if self.times else "")
+        return self.shown(line, reply) + self.page_note(line, reply) + (f"\n({took * 1000:.1f} ms)" if self.times else "")
 
     def line(self, text: str) -> str:
         """The line to send; keys by columns are put in the order of their index where the schema is known."""
@@ -131,6 +142,33 @@ class Prompt:
             return f"{reply}\n{why or about[0]} (help {word})" if about else reply
         return show.reply(reply, self.db.schema, asked.get("table"))
 
+    def page_note(self, line: str, reply: str) -> str:
+        """Keeps what stands behind a page, and says how that is shown."""
+        found = json.loads(reply)
+        if not (found.get("more") and found.get("rows")):
+            return ""
+        try:
+            self._behind = Behind(self.db, json.loads(line), found["rows"])
+        except NeedsSchema as error:
+            return f" ({error})" if self.tables else ""
+        return self.next_note()
+
+    def next_note(self) -> str:
+        return NEXT if self._behind and self.typed and self.tables else ""
+
+    def next_page(self) -> str:
+        if not self._behind:
+            return "there is no page behind"
+        try:
+            reply = self._behind.reply()
+        except (NeedsSchema, Refused, TooManyEqual) as error:
+            self._behind = None
+            return f"not shown: {error}"
+        shown = show.reply(reply, self.db.schema, self._behind.table) if self.tables else reply
+        if not json.loads(reply)["more"]:
+            self._behind = None
+        return shown + self.next_note()
+
     def setting(self, words: List[str]) -> str:
         if words[0] == "\\x":
             self.tables = not self.tables
@@ -138,6 +176,10 @@ class Prompt:
         if words[0] == "\\t":
             self.times = not self.times
             return f"times are {'told' if self.times else 'hidden'}"
+        if words[0] == "\\n":
+            return self.next_page()
+        if words[0] == "\\c":
+            return self.connect_again()
         if words[0] == "\\d":
             return show.tables(self.db.schema) if self.db.schema else "the schema isn't known: start the prompt with --schema FILE"
         if words[0] == "\\i" and len(words) == 2:
@@ -145,36 +187,88 @@ class Prompt:
         return f"not sent: there is no {words[0]}; help lists what is there"
 
     def run_file(self, path: str) -> str:
-        """Runs a file's lines, up to a `quit`. What is printed goes out line by line."""
+        """Runs a file's lines, up to a `quit`. What is printed goes out line by line; the time is told of all of them together."""
+        times, self.times, count, began = self.times, False, 0, time.perf_counter()
         try:
             with open(path, encoding="utf-8") as file:
-                for line in file:
+                for line in filter(str.strip, file):
                     said = self.answer(line)
                     if said is None:
                         break
+                    count += 1
                     if said:
                         print(said, flush=True)
+        except Ended:
+            raise
         except (OSError, UnicodeDecodeError) as error:
             return f"not run: {error}"
+        finally:
+            self.times = times
+        if times:
+            print(f"({count} lines in {(time.perf_counter() - began) * 1000:.1f} ms)", flush=True)
         return ""
 
+    def connect_again(self) -> str:
+        if not self._again:
+            return "not connected: there is nothing to connect to"
+        self.db.close()
+        self._behind = None
+        try:
+            self.db = self._again()
+        except (OSError, ValueError) as error:
+            return f"not connected: {self._why(error)}"
+        return "connected; what the connection before held is undone"
+
+    def gone(self, error: BaseException) -> str:
+        """What is said where the connection has ended."""
+        self._behind = None
+        said = "interrupted while a reply was awaited" if isinstance(error, KeyboardInterrupt) else self._why(error)
+        return f"{said}. The connection is closed, and what it held is undone; \\c connects again"
+
+    def mark(self) -> str:
+        """What stands before the line that is typed: how many sessions are open."""
+        if not self.db.is_open():
+            return "weltiyo (not connected)> "
+        depth = self.db.revision().depth
+        return f"weltiyo [{depth}]> " if depth else "weltiyo> "
+
+    def show(self, text: str) -> None:
+        if not (self.typed and sys.stdout.isatty() and is_longer_than_screen(text) and through_pager(text)):
+            print(text, flush=True)
+
+    def leave(self) -> None:
+        """Says what is undone at the end."""
+        held = 0
+        with contextlib.suppress(Ended):
+            held = self.db.revision().held
+        if held:
+            print(f"undone: {held} session{'s' if held > 1 else ''} that this connection held, with all that changed since the first", file=sys.stderr)
+
     def run(self) -> None:
-        """Asks what is typed or piped in, until its end."""
+        """Asks what is typed or piped in, until its end. At a terminal the end of the connection isn't the end."""
         while True:
             try:
-                text = input("> " if self.typed else "")
-            except EOFError:
-                if self.typed:
-                    print()
-                return
-            except KeyboardInterrupt:
+                said = self.step()
+            except (Ended, KeyboardInterrupt) as error:
+                if not self.typed:
+                    raise
                 print()
-                continue
-            said = self.answer(text)
+                said = "" if self.db.is_open() else self.gone(error)
             if said is None:
-                return
+                return self.leave()
             if said:
-                print(said, flush=True)
+                self.show(said)
+
+    def step(self) -> Optional[str]:
+        """What is said to the next line, or None at the end. Raises Ended."""
+        mark = self.mark() if self.typed else ""
+        try:
+            text = input(mark)
+        except EOFError:
+            if self.typed:
+                print()
+            return None
+        return self.answer(text)
 
 
 def main(words: Optional[List[str]] = None) -> int:
@@ -186,13 +280,15 @@ def main(words: Optional[List[str]] = None) -> int:
     options = parser.parse_args(words)
     typed = sys.stdin.isatty() and not options.run
     try:
-        with opened(options) as db:
-            prompt = Prompt(db, typed, typed or options.tables, typed or options.times)
+        with contextlib.ExitStack() as ends:
+            prompt = Prompt(opened(options), typed, typed or options.tables, typed or options.times, lambda: opened(options), lambda it: why(it, options))
+            ends.callback(lambda: prompt.db.close())
             if typed:
-                with_readline(db)
+                with_readline(prompt)
                 print(WELCOME)
             if options.run:
                 said = prompt.run_file(options.run)
+                prompt.leave()
                 if said:
                     print(f"weltiyo: {said}", file=sys.stderr)
                     return 1

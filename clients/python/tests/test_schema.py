@@ -80,7 +80,7 @@ class Explaining(unittest.TestCase):
         db._dialect.schema = None
         for call, words in [
             (lambda: db.get(7), "id: there is no record 7"),
-            (lambda: db.find("by_name", ["b", True]), r"id: no record has the key \['b', True\] in by_name"),
+            (lambda: db.find("by_name", ["b", True]), r'id: no record has the key \["b", true\] in by_name'),
             (lambda: db.nth("by_stock", 5), "id: no record stands at place 5 of by_stock"),
             (lambda: db.list("line", after=9), "id: there is no record 9"),
             (lambda: db.relocate("line", 0, before=8), "id: there is no record 0, or none 8"),
