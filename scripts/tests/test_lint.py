@@ -104,6 +104,14 @@ class Lint(unittest.TestCase):
             found = schema_lint.places(text.encode())
             self.assertEqual(found[0][0] if found else "ok", word_of(self.path, text, self.folder), text)
 
+    def test_a_byte_that_is_no_utf8(self):
+        said = "the byte 0xE9, number 6 of the line, isn't UTF-8"
+        self.assertEqual(schema_lint.places(COLUMN.encode() + b"# caf\xe9\n"), [("toml", 3, "the document", said)])
+        with open(f"{self.folder}/s.toml", "wb") as file:
+            file.write(COLUMN.encode() + b"# caf\xe9\n")
+        ran = subprocess.run([sys.executable, f"{TOP}/scripts/schema_lint.py", "--program", self.path, f"{self.folder}/s.toml"], capture_output=True, text=True)
+        self.assertEqual((ran.returncode, ran.stdout.splitlines()[1]), (3, f"{self.folder}/s.toml:3: the document: {said}"))
+
     def test_the_script_names_member_and_line(self):
         with open(f"{self.folder}/s.toml", "w", encoding="utf-8") as file:
             file.write(COLUMN + '\n[[index]]\nname = "by_a"\nkind = "btree"\nkey = ["b"]\n')

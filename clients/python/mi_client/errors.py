@@ -6,9 +6,9 @@ from typing import Any, Dict, Optional, Tuple
 
 class Refused(Exception):
     """The server refused a command. `word` is the reason; where it is `unique`, `id` and `index` say which record stands in
-    the way, and of a modify `lost` says whether the modified record was erased. `why` is what the client can tell beyond the
-    word, where it knows the schema: `balance is a float; int wanted`. Of `atomically`, `change` is the place of the refused change
-    among the changes, from 0."""
+    the way, and of a modify `lost` says whether the modified record was erased; where it is `leader`, `leader` is the address of
+    the member that leads, if that is known. `why` is what the client can tell beyond the word, where it knows the schema:
+    `balance is a float; int wanted`. Of `atomically`, `change` is the place of the refused change among the changes, from 0."""
 
     def __init__(self, reply: Dict[str, Any], why: str = "", change: Optional[int] = None) -> None:
         self.reply = reply
@@ -16,9 +16,14 @@ class Refused(Exception):
         self.id: Optional[int] = reply.get("id")
         self.index: Optional[str] = reply.get("index")
         self.lost: Optional[bool] = reply.get("lost")
-        self.why, self.change = why or self._stands_in_the_way(), change
+        self.leader: Optional[str] = reply.get("leader") or None
+        self.why = self._who_leads() or why or self._stands_in_the_way()
+        self.change = change
         said = f"{self.word}: {self.why}" if self.why else self.word
         super().__init__(said if change is None else f"change {change}: {said}")
+
+    def _who_leads(self) -> str:
+        return f"this member follows {self.leader}, which takes changes" if self.leader else ""
 
     def _stands_in_the_way(self) -> str:
         if self.index is None:

@@ -268,7 +268,7 @@ def lint_file(path: str, file: str) -> bool:
         return False
     first = [it for it in found if it[0] == word]
     for _, line, member, what in first:
-        print(f"{file}:{line}: {member} {what}" if not what.startswith("`") else f"{file}:{line}: {member}: {what}")
+        print(f"{file}:{line}: {member} {what}" if not what.startswith(("`", "the byte")) else f"{file}:{line}: {member}: {what}")
     if not first:
         print(f"{file}: no place was found for this word")
     for other, line, member, what in found:

@@ -16,9 +16,11 @@ from mi_client.show import width_of
 
 HIGH = 16
 """The lines of a drawing in the terminal."""
-LEFT, TOP, RIGHT, BOTTOM = 70, 40, 20, 40
+LEFT, TOP, RIGHT, BOTTOM = 70, 72, 20, 48
 """The room around a drawing as SVG."""
 INK = "#1f6feb"
+COUNTED = "records"
+"""The name of the axis along which bars are long."""
 
 
 def number(value: float) -> str:
@@ -28,19 +30,25 @@ def number(value: float) -> str:
 def bars_as_text(it: Bars, width: int) -> str:
     if not it.bars:
         return f"{it.title}\nno records"
-    widest = max(width_of(name) for name, _ in it.bars)
-    most = max(count for _, count in it.bars)
-    room = max(10, width - widest - len(number(most)) - 3)
-    lines = [f"{' ' * (widest - width_of(name))}{name} {number(count):>{len(number(most))}} {'#' * round(room * count / (most or 1))}".rstrip()
-             for name, count in it.bars]
-    return "\n".join([it.title, *lines])
+    head = [(it.key, COUNTED)] if it.key else []
+    rows = head + [(name, number(count)) for name, count in it.bars]
+    widest, longest = max(width_of(name) for name, _ in rows), max(len(count) for _, count in rows)
+    room, most = max(10, width - widest - longest - 3), max(count for _, count in it.bars) or 1
+    drawn_bars = [""] * len(head) + ["#" * round(room * count / most) for _, count in it.bars]
+    lines = [f"{' ' * (widest - width_of(name))}{name} {count:>{longest}} {bar}".rstrip() for (name, count), bar in zip(rows, drawn_bars)]
+    return "\n".join([*headings(it), *lines])
+
+
+def headings(it: Union[Bars, Line]) -> List[str]:
+    """The title, and what was looked at."""
+    return [it.title, it.sampled] if it.sampled else [it.title]
 
 
 def line_as_text(it: Line, width: int) -> str:
     if not it.points:
         return f"{it.title}\nno records"
     low, high = min(y for _, y in it.points), max(y for _, y in it.points)
-    margin = max(len(number(low)), len(number(high))) + 1
+    margin = max(len(number(low)), len(number(high)), len(it.up)) + 1
     room = max(10, width - margin - 1)
     last = it.points[-1][0] or 1
     dots = {(round(x / last * (room - 1)), round((y - low) / ((high - low) or 1) * (HIGH - 1))) for x, y in it.points}
@@ -49,15 +57,17 @@ def line_as_text(it: Line, width: int) -> str:
         label = number(high) if row == HIGH - 1 else number(low) if row == 0 else ""
         lines.append(f"{label:>{margin}}|{''.join('*' if (x, row) in dots else ' ' for x in range(room))}".rstrip())
     foot = f"{'':>{margin}}+{'-' * room}"
-    ends = f"{'':>{margin}} 0{number(it.points[-1][0]):>{room - 1}}"
-    return "\n".join([it.title, *lines, foot, ends])
+    end = number(it.points[-1][0])
+    ends = f"{'':>{margin}} 0{it.across:^{max(0, room - 1 - len(end))}}{end}"
+    return "\n".join([*headings(it), *([f"{it.up:>{margin}}"] if it.up else []), *lines, foot, ends])
 
 
-def svg(title: str, inner: Sequence[str], width: int, height: int) -> str:
+def svg(it: Union[Bars, Line], inner: Sequence[str], width: int, height: int) -> str:
     return "\n".join([
         f'<svg xmlns="http://www.w3.org/2000/svg" viewBox="0 0 {width} {height}" font-family="sans-serif" font-size="12">',
         f'<rect width="{width}" height="{height}" fill="white"/>',
-        f'<text x="{LEFT}" y="24" font-size="15">{escape(title)}</text>',
+        f'<text x="{LEFT}" y="24" font-size="15">{escape(it.title)}</text>',
+        f'<text x="{LEFT}" y="42" fill="#555">{escape(it.sampled)}</text>',
         *inner,
         "</svg>",
         "",
@@ -66,16 +76,17 @@ def svg(title: str, inner: Sequence[str], width: int, height: int) -> str:
 
 def bars_as_svg(it: Bars, width: int = 800) -> str:
     step = 22
-    left = min(300, 20 + 7 * max([width_of(name) for name, _ in it.bars], default=0))
+    left = min(300, 20 + 7 * max(width_of(name) for name in [it.key, *(name for name, _ in it.bars)]))
     most = max([count for _, count in it.bars], default=1) or 1
-    parts: List[str] = []
+    parts = [f'<text x="{left - 6}" y="{TOP - 6}" text-anchor="end" font-style="italic">{escape(it.key)}</text>',
+             f'<text x="{left}" y="{TOP - 6}" font-style="italic">{COUNTED}</text>']
     for n, (name, count) in enumerate(it.bars):
         y = TOP + n * step
         long = (width - left - 90) * count / most
         parts.append(f'<text x="{left - 6}" y="{y + 14}" text-anchor="end">{escape(name)}</text>')
         parts.append(f'<rect x="{left}" y="{y + 3}" width="{long:.1f}" height="{step - 6}" fill="{INK}"/>')
         parts.append(f'<text x="{left + long + 6:.1f}" y="{y + 14}">{number(count)}</text>')
-    return svg(it.title, parts, width, TOP + step * len(it.bars) + 20)
+    return svg(it, parts, width, TOP + step * len(it.bars) + 20)
 
 
 def line_as_svg(it: Line, width: int = 800, height: int = 420) -> str:
@@ -88,7 +99,9 @@ def line_as_svg(it: Line, width: int = 800, height: int = 420) -> str:
         x, y = point
         return f"{LEFT + wide * x / last:.1f},{TOP + tall * (1 - (y - low) / ((high - low) or 1)):.1f}"
 
-    parts = [f'<path d="M{LEFT},{TOP}V{TOP + tall}H{LEFT + wide}" fill="none" stroke="#888"/>']
+    parts = [f'<text x="{LEFT}" y="{TOP - 8}" text-anchor="middle" font-style="italic">{escape(it.up)}</text>',
+             f'<text x="{LEFT + wide / 2:.1f}" y="{TOP + tall + 38}" text-anchor="middle" font-style="italic">{escape(it.across)}</text>',
+             f'<path d="M{LEFT},{TOP}V{TOP + tall}H{LEFT + wide}" fill="none" stroke="#888"/>']
     for value in (low, (low + high) / 2, high):
         y = TOP + tall * (1 - (value - low) / ((high - low) or 1))
         parts.append(f'<text x="{LEFT - 6}" y="{y + 4:.1f}" text-anchor="end">{number(value)}</text>')
@@ -96,7 +109,7 @@ def line_as_svg(it: Line, width: int = 800, height: int = 420) -> str:
         parts.append(f'<text x="{LEFT + wide * part:.1f}" y="{TOP + tall + 18}" text-anchor="middle">{number(int(last * part))}</text>')
     if it.points:
         parts.append(f'<polyline points="{" ".join(map(place, it.points))}" fill="none" stroke="{INK}" stroke-width="2"/>')
-    return svg(it.title, parts, width, height)
+    return svg(it, parts, width, height)
 
 
 def drawn(it: Union[Bars, Line], as_svg: bool, width: int) -> str:

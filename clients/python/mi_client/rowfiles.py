@@ -14,6 +14,7 @@ import tempfile
 from typing import IO, Any, Callable, Dict, Iterator, List, NamedTuple, Optional, Sequence
 
 from mi_client.schema import Table
+from mi_client.utf8 import text_of
 
 Row = Dict[str, Any]
 WHOLE = re.compile(r"[+-]?[0-9]+")
@@ -95,7 +96,11 @@ def read_json_lines(file: IO[bytes], name: str, table: Optional[str]) -> Iterato
         if not line.strip():
             continue
         try:
-            found = json.loads(line)
+            text = text_of(line)
+        except ValueError as error:
+            raise Faulty(f"{name}:{n}: {error}") from None
+        try:
+            found = json.loads(text.removeprefix("\ufeff") if n == 1 else text)
         except (ValueError, RecursionError) as error:
             raise Faulty(f"{name}:{n}: no JSON: {error}") from None
         if not isinstance(found, dict):
@@ -163,8 +168,7 @@ class CsvWriter:
 def read_csv(file: IO[bytes], name: str, table: Table) -> Iterator[Item]:
     """The rows of a CSV file below a line of names, by the types of the table's columns; a column `id` is passed over where
     the table has the others. Raises Faulty."""
-    text = io.TextIOWrapper(file, encoding="utf-8-sig", newline="")
-    lines = csv.reader(text, strict=True)
+    lines = csv.reader(text_lines(file, name), strict=True)
     try:
         names: List[str] = next(lines, [])
         strange = [it for it in names if it != "id" and table.column(it) is None]
@@ -188,10 +192,19 @@ def read_csv(file: IO[bytes], name: str, table: Table) -> Iterator[Item]:
             yield Item(place, table.name, row.pop("id", None), row, done)
     except csv.Error as error:
         raise Faulty(f"{name}:{lines.line_num}: {error}") from None
-    except UnicodeDecodeError as error:
-        raise Faulty(f"{name}:{lines.line_num + 1}: {error}") from None
-    finally:
-        text.detach()
+
+
+def text_lines(file: IO[bytes], name: str) -> Iterator[str]:
+    """The lines as CSV has them, which end by a newline, a carriage return, or both. Raises Faulty."""
+    count = 0
+    for n, data in enumerate(file, 1):
+        try:
+            text = text_of(data)
+        except ValueError as error:
+            raise Faulty(f"{name}:{count + 1}: {error}") from None
+        for line in io.StringIO(text.removeprefix("\ufeff") if n == 1 else text, newline=""):
+            count += 1
+            yield line
 
 
 def _taking(table: Table, name: str) -> Callable[[str], Any]:

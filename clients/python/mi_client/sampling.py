@@ -17,6 +17,10 @@ class Bars(NamedTuple):
 
     title: str
     bars: List[Tuple[str, int]]
+    key: str = ""
+    """What the names of the bars are."""
+    sampled: str = ""
+    """Which records were looked at."""
 
 
 class Line(NamedTuple):
@@ -24,6 +28,11 @@ class Line(NamedTuple):
 
     title: str
     points: List[Tuple[int, float]]
+    across: str = ""
+    """What the first number of a point is."""
+    up: str = ""
+    sampled: str = ""
+    """Which records were looked at."""
 
 
 def index_of(db: Database, table: Optional[str], name: str) -> Tuple[Table, Index]:
@@ -44,14 +53,16 @@ def along(db: Database, table: Optional[str], name: str, column: str, points: in
     home, index = index_of(db, table, name)
     if column != "id" and (home.column(column) is None or home.type_of(column) == "text"):
         raise ValueError(f"{column} is no column of numbers or flags of {home.name}")
-    places = spread(db.size(table), points)
+    size = db.size(table)
+    places = spread(size, points)
     if index.kind == "ranked":
         with db.pipeline() as ahead:
             rows = [it.result() for it in [ahead.nth(name, place, table) for place in places]]
     else:
         wanted = set(places)
         rows = [row for place, row in enumerate(db.walk_range(name, table=table)) if place in wanted]
-    return Line(f"{column} along {name} of {home.name}", [(place, float(row[column])) for place, row in zip(places, rows)])
+    found = [(place, float(row[column])) for place, row in zip(places, rows)]
+    return Line(f"{column} along {name} of {home.name}", found, f"place in {name}", column, f"{len(found):,} of {size:,} records, evenly spread")
 
 
 def spread(size: int, points: int) -> List[int]:
@@ -67,16 +78,18 @@ def distribution(db: Database, table: Optional[str], name: str, bins: int) -> Ba
     column = index.columns[0]
     title = f"records of {home.name} by {column} ({name})"
     size = db.size(table)
+    all_of = f"all {size:,} records"
     if size == 0:
         return Bars(title, [])
     if index.kind == "ordered":
-        return Bars(title, in_ranges([row[column] for row in db.walk_range(name, table=table)], bins))
+        return Bars(title, in_ranges([row[column] for row in db.walk_range(name, table=table)], bins), column, f"{all_of}, walked")
     first, last = db.nth(name, 0, table)[column], db.nth(name, size - 1, table)[column]
     values = by_values(db, table, index, first, size)
     if values is not None:
-        return Bars(title, values)
+        return Bars(title, values, column, f"{all_of}, counted by ranks")
     if not isinstance(first, int):
-        return Bars(title, by_quantiles(db, table, index, size, bins))
+        quantiles = by_quantiles(db, table, index, size, bins)
+        return Bars(title, quantiles, column, f"{len(quantiles):,} of {size:,} records, evenly spread; a bar goes from one to the next")
     low, high = min(first, last), max(first, last)
     edges = edges_of(low, high, bins)
     with db.pipeline() as ahead:
@@ -85,7 +98,8 @@ def distribution(db: Database, table: Optional[str], name: str, bins: int) -> Ba
                    for it in edges[1:-1]]
         ranks = [it.result() for it in answers]
     below = [0, *(size - it if index.parts[0].descends else it for it in ranks), size]
-    return Bars(title, [(range_name(low, high), after - before) for low, high, before, after in zip(edges, edges[1:], below, below[1:])])
+    found = [(range_name(low, high), after - before) for low, high, before, after in zip(edges, edges[1:], below, below[1:])]
+    return Bars(title, found, column, f"{all_of}, counted by ranks")
 
 
 def by_values(db: Database, table: Optional[str], index: Index, first: Any, size: int) -> Optional[List[Tuple[str, int]]]:

@@ -5,6 +5,8 @@ from __future__ import annotations
 import re
 from typing import Any, List, NoReturn, Optional
 
+from mi_client.utf8 import fault_of
+
 BARE = re.compile(r"[A-Za-z0-9_-]+")
 NUMBER = re.compile(r"[+-]?(0x[0-9A-Fa-f_]+|0o[0-7_]+|0b[01_]+|[0-9][0-9_]*)(?![0-9A-Za-z_.:+-])")
 OTHER = re.compile(r"[0-9A-Za-z_.:+-]+(?: [0-9]{2}:[0-9A-Za-z_.:+-]+)?")
@@ -245,7 +247,8 @@ def read(data: bytes) -> Node:
     try:
         text = data.decode("utf-8")
     except UnicodeDecodeError as error:
-        raise Fault(data.count(b"\n", 0, error.start) + 1, "bytes that are no UTF-8") from None
+        begin = data.rfind(b"\n", 0, error.start) + 1
+        raise Fault(data.count(b"\n", 0, error.start) + 1, fault_of(data[begin:error.start + 1], error.start - begin)) from None
     reader = Reader(text[1:] if text.startswith("\ufeff") else text)
     for n, line in enumerate(reader.text.split("\n"), 1):
         line = line[:-1] if line.endswith("\r") else line

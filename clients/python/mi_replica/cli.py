@@ -3,6 +3,7 @@ from __future__ import annotations
 
 import argparse
 import asyncio
+import json
 import os
 import re
 import signal
@@ -10,11 +11,14 @@ import sys
 from typing import Any, Dict, List, Optional, Tuple
 
 from mi_replica.etcd import Rejected, Unreachable, place
-from mi_replica.log import Log, OtherLedger, Snapshot
+from mi_replica.log import Leader, Log, OtherLedger, Snapshot
 from mi_replica.member import Member, OtherSchema, Settings
 from mi_replica.own import Gone
 
 ENDS = (signal.SIGTERM, signal.SIGINT)
+MEMBER = b'{"cmd":"member"}\n'
+ANSWER_SECONDS = 2.0
+"""So long --status waits for a member to say how it stands."""
 
 
 def parser() -> argparse.ArgumentParser:
@@ -86,14 +90,43 @@ async def status(options: argparse.Namespace) -> int:
         found, members = await asked(log, len(options.etcd.split(",")))
     finally:
         log.close()
-    print(f"{options.name}: " + (f"{found.leader.said['address']} leads in term {found.leader.term}" if found.leader else "nobody leads"))
+    leads = found.leader is not None and await role_of(found.leader.said["address"], found.leader.term) == "leader"
+    print(f"{options.name}: {who_leads(found.leader, leads)}")
     last = found.front.number
     none = f"the log has none of its {last} entries any more" if last else "the log is empty"
     print(f"  the log has the entries {found.first} to {last}" if found.first <= last else f"  {none}")
     for name in sorted(members):
         it = members[name]
-        print(f"  {name:<24} {it['role']:<9} applied {it['applied']:<10} checkpoint {it['checkpoint']}")
-    return 0 if found.leader else 1
+        is_leader = leads and found.leader is not None and found.leader.said["address"] == it["address"]
+        role = "no leader" if it["role"] == "leader" and not is_leader else it["role"]
+        print(f"  {name:<24} {role:<9} applied {it['applied']:<10} checkpoint {it['checkpoint']}")
+    return 0 if leads else 1
+
+
+def who_leads(leader: Optional[Leader], leads: bool) -> str:
+    """A leader's key outlasts it until its lease ends, so the member itself is asked."""
+    if leader is None:
+        return "nobody leads"
+    if leads:
+        return f"{leader.said['address']} leads in term {leader.term}"
+    return f"nobody leads: {leader.said['address']} has term {leader.term}, and doesn't answer as its leader"
+
+
+async def role_of(address: str, term: int) -> str:
+    """What a member says that it is in this term; empty where it says nothing, or is in another one."""
+    host, _, port = address.rpartition(":")
+    try:
+        reader, writer = await asyncio.wait_for(asyncio.open_connection(host.strip("[]"), int(port)), ANSWER_SECONDS)
+    except (OSError, ValueError, asyncio.TimeoutError):
+        return ""
+    try:
+        writer.write(MEMBER)
+        found = json.loads(await asyncio.wait_for(reader.readline(), ANSWER_SECONDS))
+        return str(found.get("role", "")) if found.get("term") == term else ""
+    except (OSError, ValueError, AttributeError, asyncio.TimeoutError):
+        return ""
+    finally:
+        writer.close()
 
 
 async def asked(log: Log, tries: int) -> Tuple[Snapshot, Dict[str, Dict[str, Any]]]:

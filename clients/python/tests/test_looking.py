@@ -205,6 +205,24 @@ class Plots(unittest.TestCase):
             with self.assertRaisesRegex(ValueError, words):
                 along(db, None, index, column, 4)
 
+    def test_axes_and_what_was_looked_at(self) -> None:
+        db = self.fill([n * n for n in range(60)])
+        for index, column, want in [
+            ("by_score", "score", "all 60 records, counted by ranks"), ("in_order", "score", "all 60 records, walked"),
+            ("by_vip", "vip", "all 60 records, counted by ranks"), ("by_name", "name", "4 of 60 records, evenly spread; a bar goes from one to the next"),
+        ]:
+            bars = distribution(db, None, index, 4)
+            self.assertEqual((bars.key, bars.sampled), (column, want))
+            self.assertRegex(bars_as_text(bars, 60), f"\n{want}\n *{column} +records\n")
+            texts = [it.text for it in xml.etree.ElementTree.fromstring(bars_as_svg(bars)).iter() if it.text]
+            self.assertEqual([it in texts for it in (column, "records", want)], [True] * 3)
+        line = along(db, None, "best", "score", 7)
+        self.assertEqual((line.across, line.up, line.sampled), ("place in best", "score", "7 of 60 records, evenly spread"))
+        text = line_as_text(line, 60).splitlines()
+        self.assertEqual((text[1], text[2].strip(), text[-1].split()), (line.sampled, "score", ["0", "place", "in", "best", "59"]))
+        texts = [it.text for it in xml.etree.ElementTree.fromstring(line_as_svg(line)).iter() if it.text]
+        self.assertEqual([it in texts for it in (line.across, line.up, line.sampled)], [True] * 3)
+
     def test_drawings(self) -> None:
         bars, line = Bars("a <b>", [("x", 1), ("yy", 1000)]), Line("c", [(0, 0.0), (5, 5.0), (10, 10.0)])
         self.assertEqual(bars_as_text(bars, 30), "a <b>\n x     1\nyy 1,000 " + "#" * 20)
@@ -218,7 +236,8 @@ class Plots(unittest.TestCase):
     def test_program(self) -> None:
         path = kit.written(self, '{"row":{"owner":"a","balance":5,"vip":true}}\n{"row":{"owner":"b","balance":5,"vip":false}}\n', "d.jsonl")
         ran = kit.ran("plot", "--load", path, "by_balance")
-        self.assertTrue(ran.stdout.startswith("records of accounts by balance (by_balance)\n5 2 ##"))
+        self.assertTrue(ran.stdout.startswith(
+            "records of accounts by balance (by_balance)\nall 2 records, counted by ranks\nbalance records\n      5       2 ##"))
         picture = f"{kit.folder(self)}/out.svg"
         self.assertEqual(kit.ran("plot", "--load", path, "--svg", picture, "--column", "balance", "by_balance").stdout, "")
         xml.etree.ElementTree.parse(picture)

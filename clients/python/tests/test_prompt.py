@@ -1,11 +1,12 @@
 """The prompt: short forms, completion, help, what it shows, and what it runs."""
 import json
+import pickle
 import unittest
 
 import kit
 from kit import ANN, program
 
-from mi_client import Database, Schema, show
+from mi_client import Database, Refused, Schema, show
 from mi_client.commands import COMMANDS, REFUSALS
 from mi_client.completion import completions
 from mi_client.prompt import Prompt, help_of
@@ -125,6 +126,13 @@ class Showing(unittest.TestCase):
         self.assertEqual(prompt.shown('{"cmd":"undo"}', follows), f"{follows}\n{REFUSALS['leader'][0]} (help leader)")
         for line in ('{"cmd":"checkpoint"}', "[]"):
             self.assertEqual(prompt.shown(line, '{"error":"checkpoint","ok":false}'), '{"error":"checkpoint","ok":false}')
+
+    def test_a_refusal_says_who_leads(self) -> None:
+        follows = Refused({"error": "leader", "leader": "10.0.0.3:8002", "ok": False}, REFUSALS["leader"][0])
+        self.assertEqual((str(follows), follows.leader), ("leader: this member follows 10.0.0.3:8002, which takes changes", "10.0.0.3:8002"))
+        self.assertEqual(pickle.loads(pickle.dumps(follows)).leader, "10.0.0.3:8002")
+        unknown = Refused({"error": "leader", "leader": "", "ok": False}, REFUSALS["leader"][0])
+        self.assertEqual((unknown.why, unknown.leader), (REFUSALS["leader"][0], None))
 
     def test_program(self) -> None:
         typed = "insert row={\"owner\":\"ann\",\"balance\":50,\"vip\":false}\nget id=0\nhelp size\nget 0\nundo 1\nquit\nsize\n"

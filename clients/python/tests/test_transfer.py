@@ -165,6 +165,26 @@ class Files(unittest.TestCase):
             self.assertIn(path + words, ran.stderr)
         self.run_tool("load", f"{self.folder}/none", status=1, said=f"weltiyo load: [Errno 2] No such file or directory: '{self.folder}/none'\n")
 
+    def test_bytes_that_are_no_utf8(self) -> None:
+        """The byte is told, and its line, however far that is behind what is read at once."""
+        for tool, name, before, line in [
+            ("load", "rows.jsonl", b"", b'{"name":"caf\xe9","stock":1,"sold":true}\n'),
+            ("import", "rows.csv", b"name,stock,sold\n", b"caf\xe9,1,true\n"),
+            ("import", "rows.csv", b"name,stock,sold\n" + b'"a\nb",1,true\rc,2,true\r\n' * 2 + b"\n" * 30_000, b"caf\xe9,1,true\n"),
+        ]:
+            path = f"{self.folder}/{name}"
+            with open(path, "wb") as file:
+                file.write(before + line + line)
+            number = len((before.decode().replace("\r\n", "\n").replace("\r", "\n")).split("\n"))
+            said = f"{path}:{number}: the byte 0xE9, number {line.index(0xe9) + 1} of the line, isn't UTF-8"
+            self.run_tool(tool, "--table", "item", path, status=1, said=f"weltiyo {tool}: {said}\n")
+        with open(path, "wb") as file:
+            file.write(b"\xef\xbb\xbfname,stock,sold\na,1,true\n")
+        self.run_tool("import", "--table", "item", path, said="1 rows loaded\n")
+        with open(f"{self.folder}/rows.jsonl", "wb") as file:
+            file.write(b'\xef\xbb\xbf{"name":"a","stock":1,"sold":true}\n')
+        self.run_tool("load", f"{self.folder}/rows.jsonl", said="1 rows loaded\n")
+
     def test_keep_going(self) -> None:
         path = f"{self.folder}/rows.jsonl"
         self.lines(path, [self.row(0), self.row(0), self.row(1)])
