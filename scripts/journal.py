@@ -1,7 +1,7 @@
 #!/usr/bin/env python3
 """Reads journals: files of the lines that changed a database, in the order in which they were executed.
 
-    journal.py check FILE [--replay PROGRAM [--schema FILE]]    whether each line is whole and a command; with --replay, whether its reply is one of a change
+    journal.py check FILE [--replay PROGRAM [--schema FILE]]    whether each line is whole and a change's; with --replay, whether its reply is one of a change
     journal.py stat FILE                                        lines by command, sessions, sizes
     journal.py compact FILE [--to NEW]                          a shorter journal of the same database, in a new file that is then renamed
 
@@ -33,7 +33,7 @@ import tempfile
 import threading
 import time
 
-from reference import CHANGES, LONGEST_LINE, MOST_SESSIONS, Refusal, form, is_count, is_text, read
+from reference import CHANGES, LONGEST_LINE, MOST_SESSIONS, STEPS, Refusal, form, is_count, is_text, read
 
 FORMAT = 1
 DIGITS = re.compile("[0-9a-f]+")
@@ -209,11 +209,19 @@ def torn_note(journal):
     return f"; the last {journal.torn} bytes are torn, and no line" if journal.torn else ""
 
 
+def may_be_kept(line):
+    """Whether a journal may have a line of this command; else it is damaged. What a server answers to the line isn't known here."""
+    if line.name in CHANGES or line.name in STEPS:
+        return True
+    raise Damaged(line.number, f"a look-up, {line.name}, which no journal has")
+
+
 def check(path, replay, schema):
     with open(path, "rb") as file:
         journal = Journal(file, "checking")
-        count = sum(1 for _ in journal.lines())
-    print(f"{path}: {count} lines, schema {journal.schema}, ok{torn_note(journal)}")
+        count = sum(1 for it in journal.lines() if may_be_kept(it))
+    asked = "" if replay else "; its lines weren't asked (--replay PROGRAM asks them)"
+    print(f"{path}: {count} lines, schema {journal.schema}, ok as a file{torn_note(journal)}{asked}", flush=True)
     if replay:
         replay_check(path, replay, schema, count + 1)
 
@@ -348,7 +356,7 @@ def compact(path, new):
 def words():
     parser = argparse.ArgumentParser(prog="journal.py", description=__doc__, formatter_class=argparse.RawDescriptionHelpFormatter)
     steps = parser.add_subparsers(dest="step", required=True)
-    checking = steps.add_parser("check", help="whether each line is whole and a command")
+    checking = steps.add_parser("check", help="whether each line is whole and a change's")
     checking.add_argument("file")
     checking.add_argument("--replay", metavar="PROGRAM", help="asks this mi_server the lines, each of which is to be done")
     checking.add_argument("--schema", metavar="FILE", help="the schema that it is asked with; the hash in the header isn't compared with it")

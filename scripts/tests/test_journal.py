@@ -25,6 +25,7 @@ from reference import Reference  # noqa: E402
 
 HASH = "a" * 64
 UNDO = b'{"cmd":"undo"}'
+NOT_ASKED = "; its lines weren't asked (--replay PROGRAM asks them)"
 
 
 def first_line(revision=0, schema=HASH):
@@ -266,7 +267,22 @@ class Compact(Files):
 class Check(Files):
     def test_a_sound_one(self):
         self.write([START, insert("a"), UNDO])
-        self.assertEqual(self.ran("check", self.path), (0, f"{self.path}: 3 lines, schema {HASH}, ok\n"))
+        self.assertEqual(self.ran("check", self.path), (0, f"{self.path}: 3 lines, schema {HASH}, ok as a file{NOT_ASKED}\n"))
+
+    def test_a_look_up(self):
+        """No journal has one, and a service refuses it."""
+        for name in ("size", "revision", "get"):
+            self.write([START, line(name, **({"id": 0} if name == "get" else {})), UNDO])
+            self.assertEqual(self.ran("check", self.path), (3, f"{self.path}: line 3: a look-up, {name}, which no journal has\n"))
+        self.write([line("reserve", changes=1, sessions=1)])
+        self.assertEqual(self.ran("check", self.path)[0], 0)
+
+    def test_the_verdict_says_what_was_looked_at(self):
+        self.write([START, insert("a"), line("erase", id=7), UNDO])
+        self.assertEqual(self.ran("check", self.path), (0, f"{self.path}: 4 lines, schema {HASH}, ok as a file{NOT_ASKED}\n"))
+        status, said = self.ran("check", self.path, "--replay", program.program())
+        self.assertEqual((status, said.splitlines()[0]), (3, f"{self.path}: 4 lines, schema {HASH}, ok as a file"))
+        self.assertIn(f'{self.path}: line 4: no change: {{"error":"id"', said)
 
     def test_torn_at_each_byte(self):
         last = insert("b")
@@ -274,7 +290,7 @@ class Check(Files):
             self.write([START], torn=last[:length])
             status, said = self.ran("check", self.path)
             torn = f"; the last {length} bytes are torn, and no line" if length else ""
-            self.assertEqual((status, said), (0, f"{self.path}: 1 lines, schema {HASH}, ok{torn}\n"))
+            self.assertEqual((status, said), (0, f"{self.path}: 1 lines, schema {HASH}, ok as a file{torn}{NOT_ASKED}\n"))
 
     def test_damaged_lines(self):
         for bad, why in [
@@ -395,7 +411,7 @@ class OverTheProgram(Files):
         self.write(lost)
         self.assertEqual(self.ran(*words)[0], 0)
         self.write([*lost, line("size")])
-        self.assertIn("line 6: no change: ", self.ran(*words)[1])
+        self.assertIn("line 6: a look-up, size, which no journal has\n", self.ran(*words)[1])
 
 
 class OverTheService(Files):
