@@ -109,7 +109,8 @@ class Lint(unittest.TestCase):
         self.assertEqual(schema_lint.places(COLUMN.encode() + b"# caf\xe9\n"), [("toml", 3, "the document", said)])
         with open(f"{self.folder}/s.toml", "wb") as file:
             file.write(COLUMN.encode() + b"# caf\xe9\n")
-        ran = subprocess.run([sys.executable, f"{TOP}/scripts/schema_lint.py", "--program", self.path, f"{self.folder}/s.toml"], capture_output=True, text=True)
+        words = [sys.executable, f"{TOP}/scripts/schema_lint.py", "--program", self.path, f"{self.folder}/s.toml"]
+        ran = subprocess.run(words, capture_output=True, text=True)
         self.assertEqual((ran.returncode, ran.stdout.splitlines()[1]), (3, f"{self.folder}/s.toml:3: the document: {said}"))
 
     def test_the_script_names_member_and_line(self):

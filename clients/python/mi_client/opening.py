@@ -34,16 +34,18 @@ def add_server(parser: argparse.ArgumentParser) -> None:
     parser.add_argument("--connect", type=int, metavar="PORT", help="asks the server that listens on this port of 127.0.0.1")
     parser.add_argument("--program", metavar="FILE", help="the server to start, where --connect isn't given: else MI_SERVER's, else mi_server")
     parser.add_argument("--schema", metavar="FILE", help="the schema that this server is started with, or was, with --connect")
-    parser.add_argument("--timeout", type=seconds, default=5.0, metavar="SECONDS", help="how long --connect waits for a reply; 0 waits without an end (%(default)g)")
+    parser.add_argument("--timeout", type=seconds, default=5.0, metavar="SECONDS", help="how long a reply is waited for; 0 is without an end (%(default)g)")
 
 
 def add_source(parser: argparse.ArgumentParser) -> None:
     """The same for a tool that reads. Its words are parsed by `source_words`."""
     add_server(parser)
-    parser.add_argument("--journal", metavar="FILE", help="reads a service's journal: the server to start is asked its lines. The file stays as it is")
+    parser.add_argument("--journal", metavar="FILE", help="reads a service's journal: the server to start is asked its lines")
 
 
-def source_words(parser: argparse.ArgumentParser, words: Optional[List[str]], has_rows: Callable[[argparse.Namespace], object] = lambda _: False) -> argparse.Namespace:
+def source_words(
+    parser: argparse.ArgumentParser, words: Optional[List[str]], has_rows: Callable[[argparse.Namespace], object] = lambda _: False
+) -> argparse.Namespace:
     """The options of a tool that reads. Ends with status 2 where they name no rows: a server that starts here has none, unless an option
     that the tool knows by `has_rows` gives it some."""
     options = parser.parse_args(words)
@@ -51,7 +53,13 @@ def source_words(parser: argparse.ArgumentParser, words: Optional[List[str]], ha
         parser.error("--connect and --journal are two sources; one is wanted")
     if options.connect is None and options.journal is None and options.program is None and not has_rows(options):
         parser.error(NO_SOURCE)
+    if options.journal is not None and any(is_same(options.journal, getattr(options, it, None)) for it in ("file", "svg")):
+        parser.error("the journal is read, and isn't the file to write")
     return options
+
+
+def is_same(path: str, other: Optional[str]) -> bool:
+    return other is not None and os.path.exists(path) and os.path.exists(other) and os.path.samefile(path, other)
 
 
 def connected(options: argparse.Namespace, schema: AnySchema) -> Database:

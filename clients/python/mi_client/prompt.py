@@ -83,7 +83,8 @@ class Prompt:
     """What one asks and sees on a connection, and on the next one where that has ended."""
 
     def __init__(
-        self, db: Database, typed: bool, tables: bool, times: bool, again: Optional[Callable[[], Database]] = None, why: Callable[[BaseException], str] = str
+        self, db: Database, typed: bool, tables: bool, times: bool,
+        again: Optional[Callable[[], Database]] = None, why: Callable[[BaseException], str] = str,
     ) -> None:
         """`again` gives another connection; `why` says what of an error is shown."""
         self.db, self.typed, self.tables, self.times = db, typed, tables, times
@@ -242,7 +243,8 @@ class Prompt:
         with contextlib.suppress(Ended):
             held = self.db.revision().held
         if held:
-            print(f"undone: {held} session{'s' if held > 1 else ''} that this connection held, with all that changed since the first", file=sys.stderr)
+            sessions = "1 session" if held == 1 else f"{held} sessions"
+            print(f"undone: {sessions} that this connection held, with all that changed since the first", file=sys.stderr)
 
     def run(self) -> None:
         """Asks what is typed or piped in, until its end. At a terminal the end of the connection isn't the end."""
@@ -281,7 +283,8 @@ def main(words: Optional[List[str]] = None) -> int:
     typed = sys.stdin.isatty() and not options.run
     try:
         with contextlib.ExitStack() as ends:
-            prompt = Prompt(opened(options), typed, typed or options.tables, typed or options.times, lambda: opened(options), lambda it: why(it, options))
+            again: Callable[[], Database] = lambda: opened(options)
+            prompt = Prompt(again(), typed, typed or options.tables, typed or options.times, again, lambda it: why(it, options))
             ends.callback(lambda: prompt.db.close())
             if typed:
                 with_readline(prompt)

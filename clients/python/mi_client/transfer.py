@@ -20,9 +20,10 @@ from mi_client.rowfiles import (
 from mi_client.schema import Table
 
 T = TypeVar("T")
-KEEPS = """A load gives the rows back, and what follows from them. It keeps ids where they are those that the server counts; else it loads
-nothing, unless --renumber or --references is given. It can't keep the places of records among equals, nor the orders of sequenced indexes beside the one that was dumped by --order. For an
-exact copy keep the lines of the changes themselves, as a journal: sent again in their order they make the same tables."""
+KEEPS = """A load gives the rows back, and what follows from them. It keeps ids where they are those that the server counts; else it
+loads nothing, unless --renumber or --references is given. It can't keep the places of records among equals, nor the orders of
+sequenced indexes beside the one that was dumped by --order. For an exact copy keep the lines of the changes themselves, as a
+journal: sent again in their order they make the same tables."""
 
 
 def rows_in_order(db: Database, table: Optional[str], index: str, lower: Optional[Bound] = None) -> Iterator[Row]:

@@ -209,7 +209,8 @@ class Plots(unittest.TestCase):
         db = self.fill([n * n for n in range(60)])
         for index, column, want in [
             ("by_score", "score", "all 60 records, counted by ranks"), ("in_order", "score", "all 60 records, walked"),
-            ("by_vip", "vip", "all 60 records, counted by ranks"), ("by_name", "name", "4 of 60 records, evenly spread; a bar goes from one to the next"),
+            ("by_vip", "vip", "all 60 records, counted by ranks"),
+            ("by_name", "name", "4 of 60 records, evenly spread; a bar goes from one to the next"),
         ]:
             bars = distribution(db, None, index, 4)
             self.assertEqual((bars.key, bars.sampled), (column, want))
