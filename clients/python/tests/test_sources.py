@@ -78,7 +78,7 @@ class Sources(unittest.TestCase):
         self.assertEqual(self.read(path), before)
         self.assertIn('weltiyo_rows{table="accounts"} 1', kit.ran("metrics", "--journal", path).stdout)
         self.assertIn("0,ann,50,false", kit.ran("export", "--format", "csv", "--journal", path).stdout)
-        self.assertIn("50 1 #", kit.ran("plot", "--journal", path, "by_balance").stdout)
+        self.assertRegex(kit.ran("plot", "--journal", path, "by_balance").stdout, "50 +1 #")
 
     def test_the_journal_is_no_file_to_write(self) -> None:
         path, other = self.journal(json.dumps({"cmd": "insert", "row": ANN})), f"{self.folder}/other"
