@@ -21,7 +21,7 @@ def offered_by_zsh(text, tool):
     """The options of a tool in the text of the completion: its own, or the prompt's where it has none, and those of the lists that it names."""
     whole = re.MULTILINE | re.DOTALL
     own = (re.search(rf"^ {{12}}{tool}\)(.*?);;", text, whole) or re.search(r"^ {12}\*\)(.*?);;", text, whole))[1]
-    lists = [re.search(rf"^{name}=\((.*?)\)$", text, whole)[1] for name in ("all", "rows") if f"${name}" in own]
+    lists = [re.search(rf"^{name}=\((.*?)\)$", text, whole)[1] for name in ("all", "rows", "source", "ids") if f"${name}" in own]
     return set(re.findall(r"(--[a-z-]+)[\[}]", "".join([own, *lists])))
 
 
