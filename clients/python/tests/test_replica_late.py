@@ -2,8 +2,6 @@
 import asyncio
 import contextlib
 import io
-import json
-import re
 import socket
 import unittest
 from typing import Any, Awaitable, Callable, List, Tuple
@@ -302,62 +300,6 @@ class Status(unittest.TestCase):
             self.assertEqual(await told(), "the log has the entries 1 to 2")
             await log.forget(2, term)
             self.assertEqual(await told(), "the log has none of its 2 entries any more")
-
-        asyncio.run(played())
-
-
-class WhoLeads(unittest.TestCase):
-    def test_a_member_that_is_gone_is_no_leader(self) -> None:
-        """Its key and what it said of itself last until their leases end. The one that has the key and answers as its leader leads."""
-        etcd = FakeEtcd()
-
-        def made(urls: List[str], name: str) -> Log:
-            log = Log(urls, name)
-            etcd.serve(*etcds(log))
-            return log
-
-        async def told() -> Tuple[int, str]:
-            out = io.StringIO()
-            with mock.patch("mi_replica.cli.Log", made), mock.patch("mi_replica.cli.ANSWER_SECONDS", 0.2), contextlib.redirect_stdout(out):
-                status = await cli.status(cli.parser().parse_args(["--etcd", NOWHERE, "--name", "led", "--status"]))
-            return status, out.getvalue()
-
-        async def played() -> None:
-            says = {"role": "leader", "term": 0}
-
-            async def answered(reader: asyncio.StreamReader, writer: asyncio.StreamWriter) -> None:
-                await reader.readline()
-                if says:
-                    writer.write(json.dumps(says).encode() + b"\n")
-                else:
-                    await reader.read()
-                writer.close()
-
-            log = made([NOWHERE], "led")
-            await log.agree("schema")
-            server = await asyncio.start_server(answered, "127.0.0.1", 0)
-            new = f"127.0.0.1:{server.sockets[0].getsockname()[1]}"
-            for it in ("127.0.0.1:1", new):
-                await log.say(it, {"address": it, "role": "leader", "applied": 7, "checkpoint": 0}, 0)
-            gone = await log.elect({"address": "127.0.0.1:1"}, 10, 0.5)
-            assert gone
-            nobody = f"led: nobody leads: 127.0.0.1:1 has term {gone.number}, and doesn't answer as its leader"
-            status, text = await told()
-            self.assertEqual((status, text.splitlines()[0], len(re.findall(" no leader ", text))), (1, nobody, 2), text)
-            await log.resign(gone)
-            term = await log.elect({"address": new}, 10, 0.5)
-            assert term
-            for said in ({"role": "leader", "term": term.number - 1}, {"role": "follower", "term": term.number}, {}):
-                says.clear()
-                says.update(said)
-                self.assertEqual((await told())[0], 1, said)
-            says.update({"role": "leader", "term": term.number})
-            status, text = await told()
-            self.assertEqual((status, text.splitlines()[0]), (0, f"led: {new} leads in term {term.number}"))
-            self.assertRegex(text, "  127.0.0.1:1 +no leader applied 7 ")
-            self.assertRegex(text, f"  {new} +leader    applied 7 ")
-            server.close()
-            await asyncio.sleep(0.02)
 
         asyncio.run(played())
 
