@@ -228,7 +228,7 @@ class Prompt:
 
     def mark(self) -> str:
         """What stands before the line that is typed: how many sessions are open."""
-        if not self.db.is_open():
+        if not self.db.is_open:
             return "weltiyo (not connected)> "
         depth = self.db.revision().depth
         return f"weltiyo [{depth}]> " if depth else "weltiyo> "
@@ -255,7 +255,7 @@ class Prompt:
                 if not self.typed:
                     raise
                 print()
-                said = "" if self.db.is_open() else self.gone(error)
+                said = "" if self.db.is_open else self.gone(error)
             if said is None:
                 return self.leave()
             if said:
