@@ -7,7 +7,7 @@ use Rattle.mi_hub.specs.Lines.{Rest, extended, lines_from, rest_from}
 use Rattle.mi_hub.specs.Connections.{rest_at, with_rest, others}
 use Rattle.mi_commands.specs.Answer.{MayGive}
 use Rattle.mi_hub.specs.Served.{Served}
-use Rattle.mi_hub.specs.Run.{HubState, Event, piece, close, cut, Done, Refused, DoneOrRefused, OneByOne, Run, AllDone, Unsent, DoneToFault}
+use Rattle.mi_hub.specs.Run.{HubState, Event, piece, close, cut, Done, Refused, DoneOrRefused, OneByOne, Run, AllDone, Unsent, Fault, DoneToFault}
 use Rattle.mi_hub.specs.RunLaws.{PiecesCutInTwo}
 use Rattle.mi_hub.proofs.LineLemmas.{cut_in_two, from_unended, ended_nil}
 use Rattle.mi_hub.proofs.ServedLemmas.{served_none, served_more, served_split}
@@ -181,9 +181,9 @@ piece_cut conn bytes first old mid new p q =
     subst (λ t. AllDone old (piece conn bytes ∷ cut conn ∷ []) t new) (append-nil first) (two Done (piece conn bytes) (cut conn) old mid new first [] p q)
 
 -- the replies of the last event don't go out
-pub piece_unsent : (e : Event) (conn : ℕ) (bytes first later : List ℕ) (old mid new : HubState) → Done old (piece conn bytes) first mid → Unsent mid e later new
-    → DoneToFault old (piece conn bytes ∷ []) e (first ++ later) new
-piece_unsent e conn bytes first later old mid new p q = (mid, first, later, one Done (piece conn bytes) old mid first p, q, refl)
+pub piece_unsent : (Ends : Fault) (e : Event) (conn : ℕ) (bytes first later : List ℕ) (old mid new : HubState) → Done old (piece conn bytes) first mid
+    → Ends mid e later new → DoneToFault Ends old (piece conn bytes ∷ []) e (first ++ later) new
+piece_unsent Ends e conn bytes first later old mid new p q = (mid, first, later, one Done (piece conn bytes) old mid first p, q, refl)
 
 -- a connection whose replies don't go out is gone, and the others stay
 pub unsent_piece_gone : (conn : ℕ) (bytes out : List ℕ) (old new : HubState) → Unsent old (piece conn bytes) out new → new.attached ≡ others conn old.attached

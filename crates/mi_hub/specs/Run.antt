@@ -49,7 +49,7 @@ Done old (close conn) out new =
     × Served (MayGive conn) old.held (option_to_list (last_line r)) out mid × (new ≡ gone conn (with_held mid old))
 Done old (cut conn) out new = IsSome (rest_at conn old.attached) × (out ≡ []) × (new ≡ gone conn old)
 
--- From old, the writer fails in the event: out is written, the connection is gone, and new is left.
+-- From old, a write of the event's replies fails: out is written, the connection is gone, and new is left.
 abbrev pub Failed : HubState → Event → List ℕ → HubState → Type 0
 Failed old (attach conn) out new = ⊥
 Failed old (piece conn bytes) out new =
@@ -101,8 +101,8 @@ Run = OneByOne DoneOrRefused
 abbrev pub AllDone : HubState → List Event → List ℕ → HubState → Type 0
 AllDone = OneByOne Done
 
--- From old, the event is done, and then the flush behind it fails: out is what the writer has taken, the connection is gone, and new is
--- left.
+-- From old, the event is done, and then the flush behind it fails: out is what the writer has taken, all of its replies. Which of them have
+-- gone out nobody knows. The connection is gone, and new is left.
 abbrev pub Unflushed : HubState → Event → List ℕ → HubState → Type 0
 Unflushed old (attach conn) out new = ⊥
 Unflushed old (piece conn bytes) out new = AllDone old (piece conn bytes ∷ cut conn ∷ []) out new
@@ -113,7 +113,17 @@ Unflushed old (cut conn) out new = ⊥
 abbrev pub Unsent : HubState → Event → List ℕ → HubState → Type 0
 Unsent old event out new = Failed old event out new ⊎ Unflushed old event out new
 
--- From old, these events are done, and then the replies of one more don't go out.
-abbrev pub DoneToFault : HubState → List Event → Event → List ℕ → HubState → Type 0
-DoneToFault old events event out new =
-    (mid : HubState) × (first : List ℕ) × (later : List ℕ) × AllDone old events first mid × Unsent mid event later new × (out ≡ first ++ later)
+-- how an event ends whose replies don't go out: `Failed` or `Unflushed`
+abbrev pub Fault : Type 1
+Fault = HubState → Event → List ℕ → HubState → Type 0
+
+-- From old, these events are done, and then one more ends so.
+abbrev pub DoneToFault : Fault → HubState → List Event → Event → List ℕ → HubState → Type 0
+DoneToFault Ends old events event out new =
+    (mid : HubState) × (first : List ℕ) × (later : List ℕ) × AllDone old events first mid × Ends mid event later new × (out ≡ first ++ later)
+
+-- From old, the first bytes of a connection are done, and then a piece ends so that was read last; or, at the end of the bytes, its close.
+abbrev pub FaultAtLast : Fault → Type 0 → HubState → ℕ → List ℕ → List ℕ → List ℕ → HubState → Type 0
+FaultAtLast Ends AtEnd old conn first last out new =
+    DoneToFault Ends old (piece conn first ∷ []) (piece conn last) out new
+    ⊎ (AtEnd × (last ≡ []) × DoneToFault Ends old (piece conn first ∷ []) (close conn) out new)

@@ -15,6 +15,10 @@ with_watched inner w = record w { inner = inner }
 abbrev pub has_failed : {T : Type 0} → Watched T → Bool
 has_failed w = w.failed
 
+-- whether what failed was a flush
+abbrev pub flush_failed : {T : Type 0} → Watched T → Bool
+flush_failed w = w.unflushed
+
 -- nothing was written since the last flush
 abbrev pub is_flushed : {T : Type 0} → Watched T → Bool
 is_flushed w = not w.waiting

@@ -3,9 +3,9 @@ ghost use Rattle.std.specs.Prelude.{◌≡◌, ◌≢◌, ◌⊎◌, ◌≤◌, 
 ghost use Rattle.std.specs.Io.KnownBytes.{IsAtEnd};
 ghost use Rattle.mi_value.specs.declared.limits.TheConstants.{PIECE as piece_size};
 ghost use Rattle.mi_hub.specs.Connections.{rest_at};
-ghost use Rattle.mi_hub.specs.Run.{piece, close, cut, Done, AllDone, Unsent, DoneToFault};
-ghost use Rattle.mi_hub.specs.ConnectionTurn.{ConnectionTurn, conn_of, outcome, given_in, Gave, Made};
-ghost use Rattle.mi_hub.specs.Watching.{watched, has_failed, is_flushed, Reads, Writes};
+ghost use Rattle.mi_hub.specs.Run.{piece, close, cut, Done, AllDone, Failed, Unflushed, FaultAtLast};
+ghost use Rattle.mi_hub.specs.ConnectionTurn.{ConnectionTurn, conn_of, outcome, given_in, Gave, TellsFlush, Made};
+ghost use Rattle.mi_hub.specs.Watching.{watched, has_failed, flush_failed, is_flushed, Reads, Writes};
 
 use crate::fault::ServeFault;
 use crate::hub::Hub;
@@ -26,7 +26,8 @@ fn read_turn<D: Sessions + Drop, R: Read, W: Write>(
     requires attached { IsSome (rest_at conn hub.old.attached) }
     requires room { length buffer.old ≡ piece_size }
     ensures turn { (turn : ConnectionTurn) × (out : List ℕ) × (conn_of turn ≡ conn) × (result ≡ outcome turn)
-        × Gave R.remaining reader.old reader.new (given_in turn) × Writes W.contents writer.old writer.new out × Made hub.old turn out hub.new }
+        × Gave R.remaining reader.old reader.new (given_in turn) × Writes W.contents writer.old writer.new out
+        × TellsFlush turn writer.old writer.new × Made hub.old turn out hub.new }
     ensures sound { OnOk result ((has_failed reader.new ≡ has_failed reader.old) × (has_failed writer.new ≡ has_failed writer.old)) }
     ensures flushed { OnOk result (is_flushed writer.new ≡ true) }
     ensures write { result ≡ Err ServeFault.Write → (has_failed writer.new ≡ true) × (has_failed reader.new ≡ has_failed reader.old) }
@@ -45,8 +46,8 @@ fn read_turn<D: Sessions + Drop, R: Read, W: Write>(
 /// after a fault.
 ///
 /// - `Read`: a read answered an error. What was read before it is answered.
-/// - `Write`: a write or a flush failed. The lines up to the one whose reply failed were executed and no other; where a flush
-///   failed, those are all lines of the pieces that were read.
+/// - `Write`: a write failed, and the lines up to the one whose reply failed were executed and no other. Or a flush failed, which
+///   `Watched::flush_failed` tells: all lines of the pieces that were read were executed, and which replies have gone out nobody knows.
 /// - `Turns`: 2^40 reads were made, each of one byte at least. What was read is answered.
 ///
 /// `Accept` and `Memory` are never answered here.
@@ -76,13 +77,14 @@ pub fn serve_stream<D: Sessions + Drop, R: Read, W: Write>(
         × Writes W.contents writer.old writer.new out
         × AllDone hub.old (piece conn bytes ∷ cut conn ∷ []) out hub.new }
 
-    // The replies to the first bytes went out, and those to the last piece don't, which was read last; or they are all answered, nothing is
-    // left to read, and what goes out at the close doesn't.
+    // The replies to the first bytes went out. A write of a reply to the last piece failed, which was read last; or all was read, and a write at
+    // the close failed. Or all replies were written there, and the flush behind them failed, which the writer tells.
     ensures write { result ≡ Err ServeFault.Write → (first : List ℕ) × (last : List ℕ) × (out : List ℕ)
         × Reads R.remaining reader.old reader.new (first ++ last) × (length last ≤ piece_size)
         × Writes W.contents writer.old writer.new out
-        × (DoneToFault hub.old (piece conn first ∷ []) (piece conn last) out hub.new
-        ⊎ (IsAtEnd (R.remaining (watched reader.new)) × (last ≡ []) × DoneToFault hub.old (piece conn first ∷ []) (close conn) out hub.new)) }
+        × (FaultAtLast Failed (IsAtEnd (R.remaining (watched reader.new))) hub.old conn first last out hub.new
+        ⊎ ((has_failed writer.old ≡ false → flush_failed writer.new ≡ true)
+        × FaultAtLast Unflushed (IsAtEnd (R.remaining (watched reader.new))) hub.old conn first last out hub.new)) }
 
     ensures read_failed { result ≡ Err ServeFault.Read → has_failed reader.new ≡ true }
     ensures write_failed { result ≡ Err ServeFault.Write → (has_failed writer.new ≡ true) × (has_failed reader.new ≡ has_failed reader.old) }

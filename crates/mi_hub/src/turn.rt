@@ -3,7 +3,7 @@
 ghost use Rattle.std.specs.Prelude.{◌≡◌, ◌↔◌, ◌⊎◌, ◌≤◌, ℕ, List, [], Err, None, Some, IsSome, IfSome, OnOk, OnErr, length, option_map, true};
 ghost use Rattle.mi_value.specs.declared.limits.TheConstants.{PIECE};
 ghost use Rattle.mi_hub.specs.Connections.{rest_at};
-ghost use Rattle.mi_hub.specs.ConnectionTurn.{ConnectionTurn, conn_of, outcome, given_in, IsPiece, Made};
+ghost use Rattle.mi_hub.specs.ConnectionTurn.{ConnectionTurn, conn_of, outcome, given_in, IsPiece, TellsFlush, Made};
 ghost use Rattle.mi_hub.specs.Watching.{has_failed, is_flushed, Writes};
 
 use crate::fault::ServeFault;
@@ -22,7 +22,7 @@ fn feed_piece<D: Sessions + Drop, W: Write>(
     requires attached { IsSome (rest_at conn hub.old.attached) }
     requires piece { IsPiece bytes.now }
     ensures turn { (turn : ConnectionTurn) × (out : List ℕ) × (conn_of turn ≡ conn) × (given_in turn ≡ Some bytes.now) × (result ≡ outcome turn)
-        × Writes W.contents writer.old writer.new out × Made hub.old turn out hub.new }
+        × Writes W.contents writer.old writer.new out × TellsFlush turn writer.old writer.new × Made hub.old turn out hub.new }
     ensures sound { OnOk result (has_failed writer.new ≡ has_failed writer.old) }
     ensures flushed { OnOk result (is_flushed writer.new ≡ true) }
     ensures write { OnErr result ((result ≡ Err ServeFault.Write) × (has_failed writer.new ≡ true)) }
@@ -48,7 +48,7 @@ fn close_at_end<D: Sessions + Drop, W: Write>(
 ) -> Result<bool, ServeFault>
     requires { IsSome (rest_at conn hub.old.attached) }
     ensures turn { (turn : ConnectionTurn) × (out : List ℕ) × (conn_of turn ≡ conn) × (given_in turn ≡ Some []) × (result ≡ outcome turn)
-        × Writes W.contents writer.old writer.new out × Made hub.old turn out hub.new }
+        × Writes W.contents writer.old writer.new out × TellsFlush turn writer.old writer.new × Made hub.old turn out hub.new }
     ensures sound { OnOk result (has_failed writer.new ≡ has_failed writer.old) }
     ensures flushed { OnOk result (is_flushed writer.new ≡ true) }
     ensures write { OnErr result ((result ≡ Err ServeFault.Write) × (has_failed writer.new ≡ true)) }
@@ -68,8 +68,8 @@ fn close_at_end<D: Sessions + Drop, W: Write>(
 /// After a fault it is gone, and what it held is undone:
 ///
 /// - `Read`: the read failed. The writer isn't touched.
-/// - `Write`: a write or the flush failed. The lines up to the one whose reply failed were executed and no other; where the flush failed, those
-///   are all lines of the piece.
+/// - `Write`: a write failed, and the lines up to the one whose reply failed were executed and no other. Or all lines were, the writer took
+///   their replies, and the flush failed: `Watched::flush_failed` tells.
 ///
 /// No other fault is answered.
 pub fn take_turn<D: Sessions + Drop, W: Write>(
@@ -82,7 +82,7 @@ pub fn take_turn<D: Sessions + Drop, W: Write>(
     requires piece { IfSome read (λ bytes. length bytes.now ≤ PIECE) }
     ensures turn { (turn : ConnectionTurn) × (out : List ℕ) × (conn_of turn ≡ conn)
         × (given_in turn ≡ option_map (λ bytes. bytes.now) read.entry) × (result ≡ outcome turn)
-        × Writes W.contents writer.old writer.new out × Made hub.old turn out hub.new }
+        × Writes W.contents writer.old writer.new out × TellsFlush turn writer.old writer.new × Made hub.old turn out hub.new }
     ensures sound { OnOk result (has_failed writer.new ≡ has_failed writer.old) }
     ensures flushed { OnOk result (is_flushed writer.new ≡ true) }
     ensures read { (result ≡ Err ServeFault.Read) ↔ (read.entry ≡ None) }

@@ -8,28 +8,32 @@ use std::io;
 use std::io::{Error, ErrorKind, Read, Write};
 
 /// A reader or writer. Once a read, a write or a flush of it has failed, each further call answers an error and leaves all as it is:
-/// nothing is read, written or flushed behind a failure. It also remembers whether bytes were written since the last flush.
+/// nothing is read, written or flushed behind a failure. It also remembers whether that was a flush, and whether bytes were written since the
+/// last flush.
 #[derive(Drop)]
 pub struct Watched<T> {
     inner: T,
     failed: bool,
     waiting: bool,
+    unflushed: bool,
 }
 
 impl<T> Watched<T> {
-    ghost use Rattle.mi_hub.specs.Watching.{watched, has_failed, is_flushed, with_watched};
+    ghost use Rattle.mi_hub.specs.Watching.{watched, has_failed, flush_failed, is_flushed, with_watched};
     ghost use Rattle.mi_hub.specs.contracts.watched.Watched.{the_row};
 
     /// A reader or a writer that hasn't failed, with nothing that waits for a flush.
     pub fn new(inner: T) -> Watched<T>
         ensures inner { watched result ≡ inner }
         ensures sound { has_failed result ≡ false }
+        ensures sound_flushes { flush_failed result ≡ false }
         ensures flushed { is_flushed result ≡ true }
     {
         Watched {
             inner,
             failed: false,
             waiting: false,
+            unflushed: false,
         }
     }
 
@@ -55,6 +59,13 @@ impl<T> Watched<T> {
         self.failed
     }
 
+    /// Whether what failed was a flush.
+    pub fn flush_failed(&self) -> bool
+        ensures { result ≡ flush_failed self.now }
+    {
+        self.unflushed
+    }
+
     /// Whether nothing was written since the last flush that was sound.
     pub fn flushed(&self) -> bool
         ensures { result ≡ is_flushed self.now }
@@ -64,7 +75,7 @@ impl<T> Watched<T> {
 }
 
 impl<R: Read> Read for Watched<R> {
-    ghost use Rattle.mi_hub.specs.Watching.{watched, has_failed, is_flushed};
+    ghost use Rattle.mi_hub.specs.Watching.{watched, has_failed, flush_failed, is_flushed};
 
     ghost remaining = { λ w. R.remaining (watched w) };
 
@@ -72,6 +83,7 @@ impl<R: Read> Read for Watched<R> {
         ensures bound { ReadsAtMost result buf.new }
         ensures bytes { ReadConsumes (R.remaining (watched self.old)) (R.remaining (watched self.new)) result buf.new }
         ensures failed { has_failed self.new ≡ (has_failed self.old || not (is_ok result)) }
+        ensures flushes { flush_failed self.new ≡ flush_failed self.old }
         ensures flushed { is_flushed self.new ≡ is_flushed self.old }
         ensures over { has_failed self.old ≡ true → IsErr result × (self.new ≡ self.old) }
     {
@@ -87,7 +99,7 @@ impl<R: Read> Read for Watched<R> {
 }
 
 impl<W: Write> Write for Watched<W> {
-    ghost use Rattle.mi_hub.specs.Watching.{watched, has_failed, is_flushed, takes_none};
+    ghost use Rattle.mi_hub.specs.Watching.{watched, has_failed, flush_failed, is_flushed, takes_none};
 
     ghost contents = { λ w. W.contents (watched w) };
 
@@ -96,6 +108,7 @@ impl<W: Write> Write for Watched<W> {
         ensures bytes { WriteAppends (W.contents (watched self.old)) (W.contents (watched self.new)) result buf.now }
         ensures failed { has_failed self.new
             ≡ (has_failed self.old || (nat_lt 0 (length buf.now) && takes_none result)) }
+        ensures flushes { flush_failed self.new ≡ flush_failed self.old }
         ensures waiting { IfOk result (λ n. 0 < n → is_flushed self.new ≡ false) }
         ensures over { has_failed self.old ≡ true → IsErr result × (self.new ≡ self.old) }
     {
@@ -113,6 +126,8 @@ impl<W: Write> Write for Watched<W> {
     fn flush(&mut self) -> io::Result<()>
         ensures bytes { Keeps (W.contents (watched self.old)) (W.contents (watched self.new)) }
         ensures failed { has_failed self.new ≡ (has_failed self.old || not (is_ok result)) }
+        ensures flushes { OnOk result (flush_failed self.new ≡ flush_failed self.old) }
+        ensures told { has_failed self.old ≡ false → OnErr result (flush_failed self.new ≡ true) }
         ensures flushed { OnOk result (is_flushed self.new ≡ true) }
         ensures over { has_failed self.old ≡ true → IsErr result × (self.new ≡ self.old) }
     {
@@ -122,6 +137,7 @@ impl<W: Write> Write for Watched<W> {
         let result = self.inner.flush();
         if result.is_err() {
             self.failed = true;
+            self.unflushed = true;
         } else {
             self.waiting = false;
         }

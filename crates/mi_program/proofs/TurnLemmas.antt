@@ -23,7 +23,8 @@ use Rattle.mi_hub.specs.declared.fault.ServeFault.{ServeFault}
 use Rattle.mi_hub.specs.declared.fault.ServeFault.TheVariants.{Read, Turns, Accept, Memory, Write as ServeWrite}
 use Rattle.mi_hub.proofs.ConnectionLemmas.{some_with_rest}
 use Rattle.mi_hub.proofs.PieceLemmas.{unsent_piece_gone, unsent_close_gone, same_err}
-use Rattle.mi_hub.specs.ConnectionTurn.{ConnectionTurn, fed, ended, unread, unanswered, unended, conn_of, outcome, given_in, Made}
+use Rattle.mi_hub.specs.ConnectionTurn.{ConnectionTurn, fed, ended, unread, unanswered, unended, unflushed, unflushed_end}
+use Rattle.mi_hub.specs.ConnectionTurn.{conn_of, outcome, given_in, Made, TellsFlush}
 use Rattle.mi_program.specs.Turns.{fresh, with_clients, TakesTurn, ByTurns, row_after, turn_fault, first_fault, with_turn}
 use Rattle.mi_program.specs.Turns.{all_noted, client_ids, AllSound, AllAttached, IsNoneOf, AllDiffer, Serves}
 use Rattle.mi_program.specs.declared.listener.Client.{Client}
@@ -196,6 +197,8 @@ ids_after (ended conn) ids = ids
 ids_after (unread conn) ids = ids
 ids_after (unanswered conn bytes) ids = ids
 ids_after (unended conn) ids = ids
+ids_after (unflushed conn bytes) ids = ids
+ids_after (unflushed_end conn) ids = ids
 
 -- the first of the row is gone
 serves_gone : (conn : ℕ) (row : List ℕ) (cs ds : List Connection) → Serves (conn ∷ row) cs → ds ≡ others conn cs → Serves row ds
@@ -222,8 +225,14 @@ serves_after (fed conn bytes) row out old new p made = subst (Serves (row ++ con
     one_end xs = omega (arith, length-append xs (conn ∷ []))
 serves_after (ended conn) row out old new p made = serves_gone conn row old.attached new.attached p (ap (λ (s : HubState). s.attached) made.4)
 serves_after (unread conn) row out old new p made = serves_gone conn row old.attached new.attached p (ap (λ (s : HubState). s.attached) made.2)
-serves_after (unanswered conn bytes) row out old new p made = serves_gone conn row old.attached new.attached p (unsent_piece_gone conn bytes out old new made.0)
-serves_after (unended conn) row out old new p made = serves_gone conn row old.attached new.attached p (unsent_close_gone conn out old new made)
+serves_after (unanswered conn bytes) row out old new p made =
+    serves_gone conn row old.attached new.attached p (unsent_piece_gone conn bytes out old new (inl made.0))
+serves_after (unended conn) row out old new p made =
+    serves_gone conn row old.attached new.attached p (unsent_close_gone conn out old new (inl made))
+serves_after (unflushed conn bytes) row out old new p made =
+    serves_gone conn row old.attached new.attached p (unsent_piece_gone conn bytes out old new (inr made.0))
+serves_after (unflushed_end conn) row out old new p made =
+    serves_gone conn row old.attached new.attached p (unsent_close_gone conn out old new (inr made))
 
 -- no row, no connections
 pub none_left : (row : List ℕ) (cs : List Connection) → Serves row cs → length row ≡ 0 → cs ≡ []
@@ -255,6 +264,9 @@ no_turns a h k = ok_err (h ∙ k)
     ok_err : ◌≡◌ {A = Result ⊤ ServeFault} (Ok tt) (Err Turns) → ⊥
     ok_err e = cc
 
+pub write_turns : ◌≡◌ {A = Result ⊤ ServeFault} (Err ServeWrite) (Err Turns) → ⊥
+write_turns e = cc
+
 -- no turn has this fault
 pub not_turns : (turns : List ConnectionTurn) → first_fault turns ≡ Err Turns → ⊥
 not_turns [] h = no_turns (Ok tt) refl h
@@ -264,14 +276,10 @@ not_turns (unread conn ∷ turns) h = read h
   where
     read : ◌≡◌ {A = Result ⊤ ServeFault} (Err Read) (Err Turns) → ⊥
     read e = cc
-not_turns (unanswered conn bytes ∷ turns) h = write h
-  where
-    write : ◌≡◌ {A = Result ⊤ ServeFault} (Err ServeWrite) (Err Turns) → ⊥
-    write e = cc
-not_turns (unended conn ∷ turns) h = write h
-  where
-    write : ◌≡◌ {A = Result ⊤ ServeFault} (Err ServeWrite) (Err Turns) → ⊥
-    write e = cc
+not_turns (unanswered conn bytes ∷ turns) h = write_turns h
+not_turns (unended conn ∷ turns) h = write_turns h
+not_turns (unflushed conn bytes ∷ turns) h = write_turns h
+not_turns (unflushed_end conn ∷ turns) h = write_turns h
 
 module _ {S : Type 0} where
   pub no_clients : (clients : List (Client S)) → length clients ≡ 0 → clients ≡ []
@@ -303,6 +311,8 @@ module _ {S : Type 0} where
   stays_open (unread conn) after others is = absurd (cc)
   stays_open (unanswered conn bytes) after others is = absurd (cc)
   stays_open (unended conn) after others is = absurd (cc)
+  stays_open (unflushed conn bytes) after others is = absurd (cc)
+  stays_open (unflushed_end conn) after others is = absurd (cc)
 
   -- one that has ended is let go
   pub has_ended : (turn : ConnectionTurn) (after : Client S) (others : List (Client S)) → ◌≡◌ {A = Result Bool ServeFault} (Ok false) (outcome turn)
@@ -312,6 +322,8 @@ module _ {S : Type 0} where
   has_ended (unread conn) after others is = refl
   has_ended (unanswered conn bytes) after others is = refl
   has_ended (unended conn) after others is = refl
+  has_ended (unflushed conn bytes) after others is = refl
+  has_ended (unflushed_end conn) after others is = refl
 
   -- and one whose stream has failed
   pub has_broken : (turn : ConnectionTurn) (after : Client S) (others : List (Client S)) (fault : ServeFault)
@@ -321,6 +333,8 @@ module _ {S : Type 0} where
   has_broken (unread conn) after others fault is = refl
   has_broken (unanswered conn bytes) after others fault is = refl
   has_broken (unended conn) after others fault is = refl
+  has_broken (unflushed conn bytes) after others fault is = refl
+  has_broken (unflushed_end conn) after others fault is = refl
 
   ids_of_after : (turn : ConnectionTurn) (after : Client S) (others : List (Client S)) → after.conn ≡ conn_of turn
       → client_ids (row_after turn after others) ≡ ids_after turn (client_ids others)
@@ -329,6 +343,8 @@ module _ {S : Type 0} where
   ids_of_after (unread conn) after others is = refl
   ids_of_after (unanswered conn bytes) after others is = refl
   ids_of_after (unended conn) after others is = refl
+  ids_of_after (unflushed conn bytes) after others is = refl
+  ids_of_after (unflushed_end conn) after others is = refl
 
   module _ (remaining contents : S → Option (List ℕ)) where
     -- one turn more
@@ -394,6 +410,8 @@ reads_stay (ended conn ∷ turns) e h = reads_stay turns e h
 reads_stay (unread conn ∷ turns) e h = reads_stay turns (with_read true e) (or_true e.read)
 reads_stay (unanswered conn bytes ∷ turns) e h = reads_stay turns (with_write true e) h
 reads_stay (unended conn ∷ turns) e h = reads_stay turns (with_write true e) h
+reads_stay (unflushed conn bytes ∷ turns) e h = reads_stay turns (with_write true e) h
+reads_stay (unflushed_end conn ∷ turns) e h = reads_stay turns (with_write true e) h
 
 writes_stay : (turns : List ConnectionTurn) (e : IoErrors) → writes_fail e ≡ true → writes_fail (all_noted turns e) ≡ true
 writes_stay [] e h = h
@@ -402,6 +420,8 @@ writes_stay (ended conn ∷ turns) e h = writes_stay turns e h
 writes_stay (unread conn ∷ turns) e h = writes_stay turns (with_read true e) h
 writes_stay (unanswered conn bytes ∷ turns) e h = writes_stay turns (with_write true e) (or_true e.write)
 writes_stay (unended conn ∷ turns) e h = writes_stay turns (with_write true e) (or_true e.write)
+writes_stay (unflushed conn bytes ∷ turns) e h = writes_stay turns (with_write true e) (or_true e.write)
+writes_stay (unflushed_end conn ∷ turns) e h = writes_stay turns (with_write true e) (or_true e.write)
 
 ok_read : ◌≡◌ {A = Result ⊤ ServeFault} (Ok tt) (Err Read) → ⊥
 ok_read e = cc
@@ -420,6 +440,8 @@ read_noted (ended conn ∷ turns) e h = read_noted turns e h
 read_noted (unread conn ∷ turns) e h = reads_stay turns (with_read true e) (or_true e.read)
 read_noted (unanswered conn bytes ∷ turns) e h = absurd (write_read h)
 read_noted (unended conn ∷ turns) e h = absurd (write_read h)
+read_noted (unflushed conn bytes ∷ turns) e h = absurd (write_read h)
+read_noted (unflushed_end conn ∷ turns) e h = absurd (write_read h)
 
 pub write_noted : (turns : List ConnectionTurn) (e : IoErrors) → first_fault turns ≡ Err ServeWrite → writes_fail (all_noted turns e) ≡ true
 write_noted [] e h = absurd (ok_write h)
@@ -428,6 +450,8 @@ write_noted (ended conn ∷ turns) e h = write_noted turns e h
 write_noted (unread conn ∷ turns) e h = absurd (write_read (sym h))
 write_noted (unanswered conn bytes ∷ turns) e h = writes_stay turns (with_write true e) (or_true e.write)
 write_noted (unended conn ∷ turns) e h = writes_stay turns (with_write true e) (or_true e.write)
+write_noted (unflushed conn bytes ∷ turns) e h = writes_stay turns (with_write true e) (or_true e.write)
+write_noted (unflushed_end conn ∷ turns) e h = writes_stay turns (with_write true e) (or_true e.write)
 
 -- where no turn has a fault nothing is noted
 pub none_noted : (turns : List ConnectionTurn) (e : IoErrors) → ◌≡◌ {A = Result ⊤ ServeFault} (first_fault turns) (Ok tt) → all_noted turns e ≡ e
@@ -437,12 +461,11 @@ none_noted (ended conn ∷ turns) e h = none_noted turns e h
 none_noted (unread conn ∷ turns) e h = absurd (ok_read (sym h))
 none_noted (unanswered conn bytes ∷ turns) e h = absurd (ok_write (sym h))
 none_noted (unended conn ∷ turns) e h = absurd (ok_write (sym h))
+none_noted (unflushed conn bytes ∷ turns) e h = absurd (ok_write (sym h))
+none_noted (unflushed_end conn ∷ turns) e h = absurd (ok_write (sym h))
 
 pub read_turns : ◌≡◌ {A = Result ⊤ ServeFault} (Err Read) (Err Turns) → ⊥
 read_turns e = cc
-
-pub write_turns : ◌≡◌ {A = Result ⊤ ServeFault} (Err ServeWrite) (Err Turns) → ⊥
-write_turns e = cc
 
 pub read_accept : ◌≡◌ {A = Result ⊤ ServeFault} (Err Read) (Err Accept) → ⊥
 read_accept e = cc
@@ -482,6 +505,8 @@ not_fault (ended conn ∷ turns) fault r w h = not_fault turns fault r w h
 not_fault (unread conn ∷ turns) fault r w h = r (same_err h)
 not_fault (unanswered conn bytes ∷ turns) fault r w h = w (same_err h)
 not_fault (unended conn ∷ turns) fault r w h = w (same_err h)
+not_fault (unflushed conn bytes ∷ turns) fault r w h = w (same_err h)
+not_fault (unflushed_end conn ∷ turns) fault r w h = w (same_err h)
 
 pub not_accept : (turns : List ConnectionTurn) → first_fault turns ≡ Err Accept → ⊥
 not_accept turns h = not_fault turns Accept (λ e. cc) (λ e. cc) h
@@ -517,6 +542,8 @@ answered_fault (unread conn) bytes r failed given is write = absurd (none_some g
     none_some e = cc
 answered_fault (unanswered conn xs) bytes r failed given is write = on_err_of r _ (is, write is)
 answered_fault (unended conn) bytes r failed given is write = on_err_of r _ (is, write is)
+answered_fault (unflushed conn xs) bytes r failed given is write = on_err_of r _ (is, write is)
+answered_fault (unflushed_end conn) bytes r failed given is write = on_err_of r _ (is, write is)
 
 pub on_err_kept : (r : Result Bool ServeFault) (A P : Type 0) → OnErr r (A × P) → OnErr r P
 on_err_kept (Ok x) A P p = tt
@@ -545,7 +572,7 @@ turn_taken remaining contents row left old new before noted first after others a
 pub client_turned : {S : Type 0} (remaining contents : S → Option (List ℕ)) (old new : Client S) (between : Watched (Buffered S)) (piece : Option (List ℕ))
     (answer : Result Bool ServeFault) (before after : HubState) → new.conn ≡ old.conn
     → (turn : ConnectionTurn) × (out : List ℕ) × (conn_of turn ≡ old.conn) × (given_in turn ≡ piece) × (answer ≡ outcome turn)
-    × Writes (contents_of contents) between new.stream out × Made before turn out after
+    × Writes (contents_of contents) between new.stream out × TellsFlush turn between new.stream × Made before turn out after
     → Gave (remaining_of remaining) old.stream between piece → OnErr answer (has_failed new.stream ≡ true)
     → (turn : ConnectionTurn) × (out : List ℕ) × TakesTurn remaining contents turn out old new × (answer ≡ outcome turn) × Made before turn out after
 client_turned remaining contents old new between piece answer before after same made gave failed = (
@@ -557,8 +584,9 @@ client_turned remaining contents old new between piece answer before after same 
     between = between;
     read = subst (Gave (remaining_of remaining) old.stream between) (sym made.3) gave;
     written = made.5;
+    told = made.6;
     failed = subst (λ (r : Result Bool ServeFault). OnErr r (has_failed new.stream ≡ true)) made.4 failed;
   },
   made.4,
-  made.6,
+  made.7,
 )

@@ -1,11 +1,11 @@
 -- What the program has done when it ends, by how it ends; and what it says of that on the third stream.
-use Rattle.std.specs.Prelude.{◌≡◌, ◌⊎◌, ⊤, ℕ, List, codes, Bool, true, false, Option, Some, None, is_some, IfSome, Result, Ok, Err}
+use Rattle.std.specs.Prelude.{◌≡◌, ◌⊎◌, ⊤, ℕ, List, [], codes, Bool, true, false, Option, Some, None, is_some, IfSome, Result, Ok, Err}
 use Rattle.clap.specs.Faults.{fault_of}
 use Rattle.clap.specs.Words.{matches_of}
 use Rattle.mi_catalog.specs.Shape.{CatalogShape}
 use Rattle.mi_model.specs.Database.{Database}
 use Rattle.mi_database.specs.LinkedData.{LinkedData, meaning, opened_linked}
-use Rattle.mi_hub.specs.Watching.{watched, has_failed, is_flushed, Writes}
+use Rattle.mi_hub.specs.Watching.{watched, has_failed, flush_failed, is_flushed, Writes}
 use Rattle.mi_hub.specs.declared.watched.Watched.{Watched}
 use Rattle.mi_program.specs.Words.{program_options, keeps_rules, AreValues, IsRefusal}
 use Rattle.mi_program.specs.Source.{IsCatalog}
@@ -92,6 +92,7 @@ pub record TakesRoom {S : Type 0} (old new : Watched (Buffered S)) : Type 0 wher
   pub stream : stream_of (watched new) ≡ stream_of (watched old)
   pub waits : waiting (watched new) ≡ waiting (watched old)
   pub failed : has_failed new ≡ has_failed old
+  pub flushes : flush_failed new ≡ flush_failed old
   pub flushed : is_flushed new ≡ is_flushed old
 
 module _ {F I O S : Type 0} (file : F → Option (List ℕ)) (remaining : I → Option (List ℕ)) (contents : O → Option (List ℕ))

@@ -1,11 +1,11 @@
 -- How one input is served, and how connections are: the hub at its start, and what is done, by what serving answers.
-use Rattle.std.specs.Prelude.{◌≡◌, ◌⊎◌, ◌≤◌, ⊤, ℕ, List, [], ◌∷◌, ◌++◌, length, true, Option, None, Result, Ok, Err}
+use Rattle.std.specs.Prelude.{◌≡◌, ◌⊎◌, ◌≤◌, ⊤, ℕ, List, [], ◌∷◌, ◌++◌, length, true, false, Option, None, Result, Ok, Err}
 use Rattle.std.specs.Io.KnownBytes.{IsAtEnd}
 use Rattle.mi_value.specs.declared.limits.TheConstants.{MAX_READS, PIECE}
 use Rattle.mi_model.specs.Database.{Database}
-use Rattle.mi_hub.specs.Run.{HubState, with_connection, piece, close, cut, AllDone, DoneToFault}
+use Rattle.mi_hub.specs.Run.{HubState, with_connection, piece, close, cut, AllDone, Failed, Unflushed, FaultAtLast}
 use Rattle.mi_hub.specs.ConnectionTurn.{ConnectionTurn}
-use Rattle.mi_hub.specs.Watching.{watched, has_failed, is_flushed, Reads, Writes}
+use Rattle.mi_hub.specs.Watching.{watched, has_failed, flush_failed, is_flushed, Reads, Writes}
 use Rattle.mi_hub.specs.declared.watched.Watched.{Watched}
 use Rattle.mi_hub.specs.declared.fault.ServeFault.{ServeFault}
 use Rattle.mi_hub.specs.declared.fault.ServeFault.TheVariants as serving
@@ -40,8 +40,8 @@ abbrev pub IsUntouched : {R W : Type 0} → Watched R → Watched R → Watched 
 IsUntouched old_reader new_reader old_writer new_writer = (new_reader ≡ old_reader) × (new_writer ≡ old_writer)
 
 -- An input is served over a database as the bytes of connection 1. Done: all of it is read and answered, and it is closed; the replies are
--- flushed. A read failed, or too many were made: what was read is answered, and it is cut. A write or a flush failed: at the last piece, or at
--- the close. Memory was wanting for the connection: nothing is read.
+-- flushed. A read failed, or too many were made: what was read is answered, and it is cut. A write failed at the last piece, or at the close;
+-- or the flush behind it, which the writer tells. Memory was wanting for the connection: nothing is read.
 abbrev pub ServesInput : {R W : Type 0} → (R → Option (List ℕ)) → (W → Option (List ℕ)) → Database → Watched R → Watched R → Watched W → Watched W
     → Result ⊤ Failure → Type 0
 ServesInput remaining contents database old_reader new_reader old_writer new_writer (Ok done) =
@@ -64,8 +64,9 @@ ServesInput remaining contents database old_reader new_reader old_writer new_wri
     (first : List ℕ) × (last : List ℕ) × (out : List ℕ) × (new : HubState)
     × Reads remaining old_reader new_reader (first ++ last) × (length last ≤ PIECE)
     × Writes contents old_writer new_writer out
-    × (DoneToFault (come database) (piece 1 first ∷ []) (piece 1 last) out new
-    ⊎ (IsAtEnd (remaining (watched new_reader)) × (last ≡ []) × DoneToFault (come database) (piece 1 first ∷ []) (close 1) out new))
+    × (FaultAtLast Failed (IsAtEnd (remaining (watched new_reader))) (come database) 1 first last out new
+    ⊎ ((has_failed old_writer ≡ false → flush_failed new_writer ≡ true)
+    × FaultAtLast Unflushed (IsAtEnd (remaining (watched new_reader))) (come database) 1 first last out new))
     × (has_failed new_writer ≡ true)
 ServesInput remaining contents database old_reader new_reader old_writer new_writer (Err Memory) =
     IsUntouched old_reader new_reader old_writer new_writer

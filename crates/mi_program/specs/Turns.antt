@@ -5,11 +5,11 @@ use Rattle.std.specs.Result.{result_and}
 use Rattle.std.specs.List.{range_with_len}
 use Rattle.mi_hub.specs.Connections.{rest_at}
 use Rattle.mi_hub.specs.Run.{HubState}
-use Rattle.mi_hub.specs.ConnectionTurn.{ConnectionTurn, fed, ended, unread, unanswered, unended, conn_of, outcome, Made}
+use Rattle.mi_hub.specs.ConnectionTurn.{ConnectionTurn, fed, ended, unread, unanswered, unended, unflushed, unflushed_end}
 use Rattle.mi_hub.specs.declared.connection.Connection.{Connection}
 use Rattle.mi_hub.specs.declared.fault.ServeFault.{ServeFault}
 use Rattle.mi_hub.specs.declared.fault.ServeFault.TheVariants.{Read, Write, Accept, Memory, Turns}
-use Rattle.mi_hub.specs.ConnectionTurn.{given_in, Gave}
+use Rattle.mi_hub.specs.ConnectionTurn.{conn_of, outcome, given_in, Made, TellsFlush, Gave}
 use Rattle.mi_hub.specs.Watching.{has_failed, Writes}
 use Rattle.mi_hub.specs.declared.watched.Watched.{Watched}
 use Rattle.mi_hub.specs.IoNotes.{with_read, with_write}
@@ -26,13 +26,15 @@ fresh conn = record { id = conn; rest = Some [] }
 abbrev pub with_clients : ℕ → HubState → HubState
 with_clients n s = record { held = s.held; attached = map fresh (range_with_len 1 n) }
 
--- In this turn the stream of its client gave what the turn was given, and then out was written to it. It has failed where the turn has a fault.
+-- In this turn the stream of its client gave what the turn was given, and then out was written to it. It has failed where the turn has a fault,
+-- and tells whether that was a flush.
 pub record TakesTurn {S : Type 0} (remaining contents : S → Option (List ℕ)) (turn : ConnectionTurn) (out : List ℕ) (old new : Client S) : Type 0 where
   pub conn : conn_of turn ≡ old.conn
   pub same : new.conn ≡ old.conn
   pub between : Watched (Buffered S)
   pub read : Gave (remaining_of remaining) old.stream between (given_in turn)
   pub written : Writes (contents_of contents) between new.stream out
+  pub told : TellsFlush turn between new.stream
   pub failed : OnErr (outcome turn) (has_failed new.stream ≡ true)
 
 -- a client whose connection stays open goes behind the others
@@ -42,6 +44,8 @@ row_after (ended conn) client others = others
 row_after (unread conn) client others = others
 row_after (unanswered conn bytes) client others = others
 row_after (unended conn) client others = others
+row_after (unflushed conn bytes) client others = others
+row_after (unflushed_end conn) client others = others
 
 -- From a row of clients whose connections are open and from old, these turns are made, each by the first of the row then; left is the row that
 -- is left, and new the hub. The streams of the others stay as they are.

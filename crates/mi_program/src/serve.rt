@@ -1,9 +1,9 @@
 //! Serves one input to one output over a database, as the bytes of one connection.
-ghost use Rattle.std.specs.Prelude.{◌≡◌, ◌⊎◌, ◌≤◌, ℕ, List, [], ◌∷◌, ◌++◌, Err, OnOk, length, true};
+ghost use Rattle.std.specs.Prelude.{◌≡◌, ◌⊎◌, ◌≤◌, ℕ, List, [], ◌∷◌, ◌++◌, Err, OnOk, length, true, false};
 ghost use Rattle.std.specs.Io.KnownBytes.{IsAtEnd};
 ghost use Rattle.mi_value.specs.declared.limits.TheConstants.{MAX_READS, PIECE};
-ghost use Rattle.mi_hub.specs.Run.{HubState, piece, close, cut, AllDone, DoneToFault};
-ghost use Rattle.mi_hub.specs.Watching.{watched, has_failed, is_flushed, Reads, Writes};
+ghost use Rattle.mi_hub.specs.Run.{HubState, piece, close, cut, AllDone, Failed, Unflushed, FaultAtLast};
+ghost use Rattle.mi_hub.specs.Watching.{watched, has_failed, flush_failed, is_flushed, Reads, Writes};
 ghost use Rattle.mi_program.specs.Serving.{come, IsServing};
 
 use crate::failure::Failure;
@@ -43,12 +43,13 @@ pub fn serve<D: Sessions + Drop, R: Read, W: Write>(
         × Writes W.contents writer.old writer.new out
         × AllDone (come (D.state database)) (piece 1 bytes ∷ cut 1 ∷ []) out new }
 
-    // The replies to the last piece don't go out, or what goes out at the close.
+    // A write failed at a reply to the last piece, or at the close; or the flush behind it, which the writer tells.
     ensures write { result ≡ Err Failure.Write → (first : List ℕ) × (last : List ℕ) × (out : List ℕ) × (new : HubState)
         × Reads R.remaining reader.old reader.new (first ++ last) × (length last ≤ PIECE)
         × Writes W.contents writer.old writer.new out
-        × (DoneToFault (come (D.state database)) (piece 1 first ∷ []) (piece 1 last) out new
-        ⊎ (IsAtEnd (R.remaining (watched reader.new)) × (last ≡ []) × DoneToFault (come (D.state database)) (piece 1 first ∷ []) (close 1) out new))
+        × (FaultAtLast Failed (IsAtEnd (R.remaining (watched reader.new))) (come (D.state database)) 1 first last out new
+        ⊎ ((has_failed writer.old ≡ false → flush_failed writer.new ≡ true)
+        × FaultAtLast Unflushed (IsAtEnd (R.remaining (watched reader.new))) (come (D.state database)) 1 first last out new))
         × (has_failed writer.new ≡ true) }
     ensures memory { result ≡ Err Failure.Memory → (reader.new ≡ reader.old) × (writer.new ≡ writer.old) }
     ensures no_other { IsServing result }

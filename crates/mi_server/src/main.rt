@@ -17,13 +17,7 @@ fn main(rt: HostRuntime) -> ExitCode {
     let mut output = Watched::new(Buffered::new(rt.alloc(), rt.stdout()));
     let mut errors = Watched::new(rt.stderr());
     let status = match arguments(&rt) {
-        Ok(words) => run(
-            &rt,
-            words.as_slice(),
-            &mut input,
-            &mut output,
-            &mut errors,
-        ),
+        Ok(words) => run(&rt, words.as_slice(), &mut input, &mut output, &mut errors),
         Err(error) => refuse_arguments(&error, &mut errors),
     };
     ExitCode::from(status)

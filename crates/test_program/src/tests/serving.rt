@@ -106,13 +106,7 @@ pub(super) fn ran_over<
     R: Files + Net + AllocGlobal + RandomSource,
     I: Read + Drop,
     O: Write + Drop,
->(
-    rt: &R,
-    alloc: Global,
-    words: &[&str],
-    input: I,
-    output: O,
-) -> (u8, Vec<u8>) {
+>(rt: &R, alloc: Global, words: &[&str], input: I, output: O) -> (u8, Vec<u8>) {
     let mut errors = Vec::new(alloc);
     let status = run(
         rt,

@@ -26,5 +26,6 @@ returns-in-None-clause-turn g c = (
   rw c.in-None.is,
   refl,
   Appends-nil _,
+  tt,
   cut_done _ _ _ _ c.cut.ensures.ok c.cut.ensures.not_attached c.cut.ensures.refused c.requires.attached,
 )

@@ -1,8 +1,8 @@
 -- The one connection comes, and then what is served is what `serve_stream` says.
-use Rattle.std.proofs.Common.{◌≡◌, ◌⊎◌, [], ◌∷◌, Err, sym, ap, ◌∙◌, subst}
+use Rattle.std.proofs.Common.{◌≡◌, ◌⊎◌, [], ◌∷◌, Err, true, false, sym, ap, ◌∙◌, subst}
 use Rattle.std.specs.Io.KnownBytes.{IsAtEnd}
-use Rattle.mi_hub.specs.Run.{piece, close, cut, AllDone, DoneToFault}
-use Rattle.mi_hub.specs.Watching.{watched}
+use Rattle.mi_hub.specs.Run.{piece, close, cut, AllDone, Failed, Unflushed, FaultAtLast}
+use Rattle.mi_hub.specs.Watching.{watched, has_failed, flush_failed}
 use Rattle.mi_hub.specs.declared.fault.ServeFault.TheVariants as serving
 use Rattle.mi_hub.proofs.PieceLemmas.{same_err}
 use Rattle.mi_program.proofs.ServingLemmas.{has_come, was}
@@ -39,8 +39,9 @@ returns-clause-write g c = λ is.
       p.4,
       p.5,
       subst
-          (λ s. DoneToFault s (piece 1 p.0 ∷ []) (piece 1 p.1) p.2 new
-          ⊎ (IsAtEnd (g.R.Read.remaining (watched c.serve_stream.new.reader)) × (p.1 ≡ []) × DoneToFault s (piece 1 p.0 ∷ []) (close 1) p.2 new))
+          (λ s. FaultAtLast Failed (IsAtEnd (g.R.Read.remaining (watched c.serve_stream.new.reader))) s 1 p.0 p.1 p.2 new
+          ⊎ ((has_failed c.args.writer.now ≡ false → flush_failed c.serve_stream.new.writer ≡ true)
+          × FaultAtLast Unflushed (IsAtEnd (g.R.Read.remaining (watched c.serve_stream.new.reader))) s 1 p.0 p.1 p.2 new))
           (has_come _ _ _ c.new-hub.ensures c.in-Ok.ensures.ok) p.6,
       (c.in-Err.ensures.write_failed fault).0,
     )
