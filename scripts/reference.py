@@ -350,6 +350,11 @@ def fits(kind, value):
     return is_text(value) and len(value.encode()) <= LONGEST_TEXT
 
 
+def is_web_request(line):
+    """Whether a service hears nothing behind a first line that begins so: as a request of HTTP does, or a hello of TLS."""
+    return line[:1] == b"\x16" or b"A" <= line[:1] <= b"Z"
+
+
 class Reference:
     def __init__(self, schemas, first_revision=0):
         self.tables = [Table(it) for it in schemas]

@@ -1,5 +1,5 @@
 """What is asked of `weltiyo web` by others than its page: by programs with one header that is wrong, and by other pages of the same browser, which
-send what a browser lets them send. Each is refused, and the table server is asked nothing."""
+send what a browser lets them send, to the window and to the table server's own port. Each is refused, and no table is changed."""
 import http.client
 import http.server
 import json
@@ -114,6 +114,28 @@ const sent = async (how) => { try { const it = await fetch(target + "/ask", how)
   done(said);
 })();
 """
+TO_THE_SERVER = """
+const [target, body, done] = arguments;
+(async () => {
+  const how = { method: "POST", mode: "no-cors", headers: { "Content-Type": "text/plain" }, body }, ends = () => "ended";
+  await fetch(target + "/", how).then(ends, ends);
+  await fetch(target + "/" + "a".repeat(100000), how).then(ends, ends);
+  await fetch(target + "/", { ...how, mode: "cors" }).then(ends, ends);
+  await fetch(target + "/", { method: "PATCH", body }).then(ends, ends);
+  await fetch(target.replace("http:", "https:") + "/", { ...how, signal: AbortSignal.timeout(2000) }).then(ends, ends);
+  await fetch(target + "/?" + encodeURIComponent(body)).then(ends, ends);
+  await new Promise((go) => { const it = new WebSocket(target.replace("http:", "ws:") + "/"); it.onclose = it.onerror = go; });
+  navigator.sendBeacon(target + "/", new Blob([body], { type: "text/plain" }));
+  const frame = document.createElement("iframe"); frame.name = "direct"; document.body.append(frame);
+  const form = document.createElement("form");
+  Object.assign(form, { method: "POST", action: target + "/", enctype: "text/plain", target: "direct" });
+  const field = document.createElement("textarea"); field.name = "a"; field.value = body; form.append(field); document.body.append(form);
+  form.submit();
+  await new Promise((go) => { frame.onload = go; setTimeout(go, 3000); });
+  done(9);
+})();
+"""
+"""Each way that a page has to send lines to a port of this host: they stand in the request's body, or behind a line of it."""
 REBOUND = """
 const [token, body, done] = arguments;
 fetch("/ask", { method: "POST", headers: { "Content-Type": "application/json", Authorization: `Bearer ${token}` }, body })
@@ -145,14 +167,29 @@ def by_pages(browser, web):
     return len(said)
 
 
-def tried(browser, web, size):
-    """`size` tells how many rows the table has that all these questions would insert into."""
+def to_the_server(browser, port):
+    """A page of another port, and one of a name that leads to the server's own port."""
+    other = http.server.ThreadingHTTPServer(("127.0.0.1", 0), Other)
+    threading.Thread(target=other.serve_forever, daemon=True).start()
+    try:
+        browser.go(f"http://127.0.0.1:{other.server_port}/")
+        return sum(browser.run_later(TO_THE_SERVER, f"http://{host}:{port}", f"\n{INSERT}\n") for host in ("127.0.0.1", RESOLVED))
+    finally:
+        other.shutdown()
+        other.server_close()
+
+
+def tried(browser, web, server, size):
+    """`server` is the table server's port; `size` tells how many rows the table has that all these questions would insert into."""
     before = size()
     programs = by_programs(web)
     pages = by_pages(browser, web)
+    if size() != before:
+        raise Answered("a row was inserted by the window")
+    direct = to_the_server(browser, server)
     if size() != before:
         raise Answered("a row was inserted")
     status, _, body = asked(web.port, **own(web))
     if status != 200 or size() != before + 1:
         raise Answered(f"the page's own question: {status} {body!r}")
-    return f"{programs} wrong questions of programs, {pages} of pages at two names, a frame, a form and a rebound name refused; the same line from the page itself is answered"
+    return f"{programs} wrong questions of programs, {pages} of pages at two names, a frame, a form and a rebound name refused, and {direct} to the server's port; the same line from the page itself is answered"

@@ -7,7 +7,8 @@ Without --part all run, one behind another; --short leaves out `million` and `pi
     views     over examples/shop.toml: each index of each table, a record marked in all of them with its rank, searches that are checked as they
               are typed, the distribution zoomed into its rows, the service, the line at the bottom, and all of it by the keyboard alone
     undo      sessions and changes by the buttons; behind an undo the rows are marked back, changed, moved and gone, where they were, for two seconds
-    foreign   what another page of the same browser asks is refused, and so are wrong hosts, origins, content types and tokens; the server is asked nothing
+    foreign   what another page of the same browser asks is refused, of the window and of the server's port; so are wrong hosts, origins, content types
+              and tokens; no table is changed
     return    a server that goes away and comes back
     access    names, roles, order, focus and contrast, in light and dark, wide and 320 pixels wide
     million   a million accounts: the first view, the frames of scrolling, how many rows are in the document and how many lines are asked
@@ -363,7 +364,7 @@ def foreign(browser, _):
     try:
         with Web(server.port, "--write", schema=SHOP) as web:
             page = Page(browser, web)
-            said = window_foreign.tried(browser, web, lambda: server.connect().size("item"))
+            said = window_foreign.tried(browser, web, server.port, lambda: server.connect().size("item"))
             page.complaints()
         return said
     except window_foreign.Answered as error:

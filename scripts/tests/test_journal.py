@@ -420,13 +420,9 @@ class OverTheService(Files):
     @classmethod
     def setUpClass(cls):
         cls.compiler = shutil.which(os.environ.get("CC", "cc"))
-        cls.path_of = os.environ.get("MI_SERVICE") or program.proved(program.SERVICE)
-        if not os.environ.get("MI_SERVICE") and not program.is_fresh(program.SERVICE):
-            if not shutil.which("rt"):
-                raise unittest.SkipTest("neither the service nor rt, which compiles it, is there")
-            port, cls.path_of = program.free_port(), f"{program.TOP}/out/unproved/{program.SERVICE}"
-            words = ["--seconds", "600", "--", "--listen", str(port)]
-            program.compile_by_try(program.SERVICE, cls.path_of, words, lambda folder, to: program.copy_once_it_listens(port, folder, to))
+        cls.path_of = program.service()
+        if not cls.path_of:
+            raise unittest.SkipTest("neither the service nor rt, which compiles it, is there")
 
     def asked(self, *lines, **how):
         """The replies of a service over the journal to these lines."""

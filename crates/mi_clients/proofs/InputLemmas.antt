@@ -175,12 +175,12 @@ ends_nothing (x ∷ w) h = absurd (omega (arith, h))
 
 -- ---- where a newline stands, and where none does
 
-tail_by : (x : ℕ) (w : List ℕ) (b : Bool) → nat_eq x 10 ≡ b → ended (x ∷ w) ≡ [] → ended w ≡ []
+pub tail_by : (x : ℕ) (w : List ℕ) (b : Bool) → nat_eq x 10 ≡ b → ended (x ∷ w) ≡ [] → ended w ≡ []
 unfolding ended
 tail_by x w true is h = absurd (cons_none [] (ended w) (sym (ap (λ b. cond b ([] ∷ ended w) (put_front x (ended w))) is) ∙ h))
 tail_by x w false is h = none_before x (ended w) (sym (ap (λ b. cond b ([] ∷ ended w) (put_front x (ended w))) is) ∙ h)
 
-first_newline : (x : ℕ) (w : List ℕ) → nat_eq x 10 ≡ true → ended (x ∷ w) ≡ [] → ⊥
+pub first_newline : (x : ℕ) (w : List ℕ) → nat_eq x 10 ≡ true → ended (x ∷ w) ≡ [] → ⊥
 unfolding ended
 first_newline x w is h = cons_none [] (ended w) (sym (ap (λ b. cond b ([] ∷ ended w) (put_front x (ended w))) is) ∙ h)
 

@@ -3,5 +3,6 @@ pub mod RowLemmas
 pub mod ServedLemmas
 pub mod StreamLemmas
 mod InputLemmas
+mod HeardLemmas
 mod UndoneLemmas
 mod HoldingLemmas

@@ -7,17 +7,19 @@ use Rattle.std.specs.Prelude.{slice_set, slice_index_or, OnOk, IfOk, IfSome}
 use Rattle.std.specs.List.{remove, All, AllZip, Contains}
 use Rattle.std.specs.Io.KnownBytes.{Appends, Consumes, Keeps, IsAtEnd}
 use Rattle.std.proofs.KnownBytes.{Appends-nil, Appends-trans, Consumes-kept, Keeps-refl, Keeps-trans}
-use Rattle.mi_clients.specs.Client.{owed, Owes, IsServed, HasRoom, IsAsked, AsksAll, AsksWithin, AsksWhatCame, IsAsFar, HasSent, IsSent, IsOver, IsWhole, GoesOn, IsWoken}
+use Rattle.mi_clients.specs.Client.{owed, Owes, IsServed, HasRoom, IsAsked, AsksAll, AsksWithin, Hears, AsksWhatCame, IsAsFar, HasSent, IsSent, IsOver, IsWhole, GoesOn, IsWoken}
 use Rattle.mi_clients.specs.Input.{waiting}
 use Rattle.mi_clients.specs.declared.client.TheConstants.{MOST_UNSENT}
 use Rattle.mi_hub.specs.Ended.{ended}
 use Rattle.mi_clients.specs.Lines.{SameLines, Ends}
+use Rattle.mi_clients.specs.Heard.{heard}
 use Rattle.mi_clients.specs.Output.{Sends}
 use Rattle.mi_ledger.specs.HeldReplies.{bytes_of}
 use Rattle.mi_clients.specs.Row.{ids, inputs, IsNoneOf, AllDiffer, EachServed, EachAsked, EachUnread, StayersAsked, EachAsFar, OpenOnlyAsk, AllOnlyAsk, StayersOnlyAsk, EachWoken, IsNew, Joins, LetsGo, NoneIsOver, Serves}
 use Rattle.mi_clients.specs.Steps.{Step, comes, asks, undoes, goes, reply_to, given_to, GivesOnly, GivesNone, AreAsks, AreUndos}
 use Rattle.mi_clients.specs.Steps.{line_by, asked_by, AsksOnly, AsksNone, OnlyAsks, LeavesOthers}
 use Rattle.mi_clients.specs.declared.client.Client.{Client}
+use Rattle.mi_clients.specs.declared.input.Input.{Input}
 use Rattle.mi_clients.specs.declared.client.Phase.{Phase}
 use Rattle.mi_clients.specs.declared.client.Phase.TheVariants.{Open, Ended, Asked, Broken}
 use Rattle.mi_clients.proofs.InputLemmas.{unended_back}
@@ -348,17 +350,23 @@ module _ {S : Type 0} where
 
   -- what was read is asked or waits
   pub came_whole : (remaining : S → Option (List ℕ)) (a b c d : Client S) (xs : List Step) (taken given t piece : List ℕ) {X : Type 0}
-      → Consumes (remaining a.stream) (remaining b.stream) piece
-      → (b.phase ≡ Broken) ⊎ (SameLines (waiting a.input ++ piece) (waiting b.input)
+      → Consumes (remaining a.stream) (remaining b.stream) piece → (¬ (a.phase ≡ Open) → piece ≡ [])
+      → (b.phase ≡ Broken) ⊎ (Hears (waiting a.input ++ piece) [] a b
       ⊎ ((b.phase ≡ Ended) × (piece ≡ []) × IsAtEnd (remaining b.stream) × Ends (waiting a.input) (waiting b.input)))
+      → (b.phase ≡ Open → a.phase ≡ Open) → c.input.is_first ≡ b.input.is_first
       → waiting b.input ≡ taken ++ waiting c.input → AsksWithin b xs → AreAsks b.conn xs taken given → IsAsFar b c → Owes given b c → Owes [] c d
       → d.input ≡ c.input → (d ≡ c) ⊎ ((d.phase ≡ Asked) × X) → t ≡ taken → AsksWhatCame remaining t a d
-  came_whole remaining a b c d xs taken given t piece read came waits within own far owes more input settled is = (
+  came_whole remaining a b c d xs taken given t piece read shut came opens first waits within own far owes more input settled is = (
     piece,
     subst (λ s. Consumes (remaining a.stream) (remaining s) piece) (sym (more.stream ∙ owes.stream)) read,
+    λ no. (shut no, λ is_open. no (opens (open_before b c d far settled is_open))),
     elim came [
       | inl broken ↦ inl ((more.broken (owes.broken broken).0).0, is ∙ nothing broken within)
-      | inr (inl same) ↦ inr (inl (subst (SameLines (waiting a.input ++ piece)) waits_all same))
+      | inr (inl same) ↦ inr (inl (
+        subst (SameLines (heard a.input.is_first (waiting a.input ++ piece))) waits_all same.0,
+        ap (λ (i : Input). i.is_first) input ∙ first ∙ same.1,
+        λ last is_open. same.2 last (open_before b c d far settled is_open),
+      ))
       | inr (inr ends) ↦ inr (inr (
         λ is_open. ended_open b.phase ends.0 (open_before b c d far settled is_open),
         ends.1,
@@ -598,9 +606,14 @@ module _ {S : Type 0} where
   came_sent remaining taken x y z p kept same far = (
     p.0,
     Consumes-kept (remaining x.stream) (remaining y.stream) (remaining z.stream) p.0 p.1 kept,
-    elim p.2 [
+    λ no. ((p.2 no).0, λ is. (p.2 no).1 (was_open far is)),
+    elim p.3 [
       | inl broken ↦ inl (still_broken far broken.0, broken.1)
-      | inr (inl lines) ↦ inr (inl (subst (λ i. SameLines (waiting x.input ++ p.0) (taken ++ waiting i)) (sym same) lines))
+      | inr (inl lines) ↦ inr (inl (
+        subst (λ i. SameLines (heard x.input.is_first (waiting x.input ++ p.0)) (taken ++ waiting i)) (sym same) lines.0,
+        ap (λ (i : Input). i.is_first) same ∙ lines.1,
+        λ last is. lines.2 last (was_open far is),
+      ))
       | inr (inr ends) ↦ inr (inr (
         λ is. ends.0 (was_open far is),
         ends.1,
@@ -881,7 +894,7 @@ module _ {S : Type 0} where
   ids_join (x ∷ a) b = ap (λ ks. x.conn ∷ ks) (ids_join a b)
 
   new_before : (c : Client S) (a b comers : List (Client S)) → b ≡ a ++ comers → IsNew c b → IsNew c a
-  new_before c a b comers is p = (p.0, p.1, p.2, none_front c.conn (ids a) (ids comers) (subst (IsNoneOf c.conn) (ap ids is ∙ ids_join a comers) p.3))
+  new_before c a b comers is p = (p.0, p.1, p.2, none_front c.conn (ids a) (ids comers) (subst (IsNoneOf c.conn) (ap ids is ∙ ids_join a comers) p.3), p.4)
 
   -- those that were there before the others came
   pub only_before : (steps : List Step) (a b : List (Client S)) → Joins a b → AllOnlyAsk steps (ids b) → AllOnlyAsk steps (ids a)

@@ -5,6 +5,7 @@ use Rattle.mi_ledger.specs.HeldReplies.{bytes_of}
 use Rattle.mi_clients.specs.Output.{unsent, HoldsNothing}
 use Rattle.mi_clients.specs.Input.{waiting}
 use Rattle.mi_clients.specs.Lines.{SameLines, Ends}
+use Rattle.mi_clients.specs.Heard.{heard, still_first, is_last}
 use Rattle.mi_clients.specs.Stream.{one_more}
 use Rattle.mi_clients.specs.Steps.{Step, asks, given_to}
 use Rattle.mi_hub.specs.Ended.{ended}
@@ -85,12 +86,22 @@ AsksWithin old steps =
     (steps ≡ []) ⊎ (¬ (old.phase ≡ Broken) × (front : List Step) × (line : List ℕ) × (last : List ℕ) × (steps ≡ front ++ asks old.conn line last ∷ [])
     × (length (owed old ++ given_to old.conn front) ≤ MOST_UNSENT))
 
--- Between old and new a piece came of a connection, and it has asked these lines: they and what waits then have the lines of what waited
--- and the piece. Or its bytes have ended, and what no newline ended is the last line. Of one whose stream fails nothing is asked.
+-- Between old and new these bytes waited of a connection or came, and it has asked these lines: they and what waits then have the lines that are
+-- heard. Behind a web page's first line no more comes.
+abbrev pub Hears : {S : Type 0} → List ℕ → List ℕ → Client S → Client S → Type 0
+Hears bytes taken old new =
+    SameLines (heard old.input.is_first bytes) (taken ++ waiting new.input)
+    × (new.input.is_first ≡ still_first old.input.is_first bytes)
+    × (is_last old.input.is_first bytes ≡ true → ¬ (new.phase ≡ Open))
+
+-- Between old and new a piece came of a connection, and it has asked these lines: what is heard of what waited and the piece is asked, or waits.
+-- Or its bytes have ended, and what no newline ended is the last line. Of one whose stream fails nothing is asked. Of one of which no more
+-- comes nothing is read, now or later.
 abbrev pub AsksWhatCame : {S : Type 0} → (S → Option (List ℕ)) → List ℕ → Client S → Client S → Type 0
 AsksWhatCame remaining taken old new =
     (piece : List ℕ) × Consumes (remaining old.stream) (remaining new.stream) piece
-    × (((new.phase ≡ Broken) × (taken ≡ [])) ⊎ (SameLines (waiting old.input ++ piece) (taken ++ waiting new.input)
+    × (¬ (old.phase ≡ Open) → (piece ≡ []) × ¬ (new.phase ≡ Open))
+    × (((new.phase ≡ Broken) × (taken ≡ [])) ⊎ (Hears (waiting old.input ++ piece) taken old new
     ⊎ (¬ (new.phase ≡ Open) × (piece ≡ []) × IfSome (remaining old.stream) (λ _. IsAtEnd (remaining new.stream))
     × Ends (waiting old.input) (taken ++ waiting new.input))))
 

@@ -1,6 +1,7 @@
 -- To be read in this order.
 pub mod Steps
 pub mod Lines
+pub mod Heard
 pub mod Input
 pub mod Output
 pub mod Stream

@@ -1,5 +1,5 @@
 -- The connections of a service in a row are those that its hub has attached, in this order, and none has a rest there.
-use Rattle.std.specs.Prelude.{◌≡◌, ◌⊎◌, ◌<◌, ℕ, ℤ, Bool, true, List, [], ◌∷◌, ◌++◌, map, false, ◌==◌, Some, Option}
+use Rattle.std.specs.Prelude.{◌≡◌, ◌⊎◌, ◌<◌, ℕ, ℤ, Bool, true, List, [], ◌∷◌, ◌++◌, map, false, ◌==◌, Some, Option, IsTrue}
 use Rattle.std.specs.List.{All, AllZip, Contains}
 use Rattle.std.specs.Io.KnownBytes.{Keeps}
 use Rattle.mi_hub.specs.declared.connection.Connection.{Connection}
@@ -52,9 +52,9 @@ EachAsked remaining steps olds news = AllZip (λ old new. AsksWhatCame remaining
 abbrev pub EachUnread : {S : Type 0} → (S → Option (List ℕ)) → List (Client S) → List (Client S) → Type 0
 EachUnread remaining olds news = AllZip (λ old new. Keeps (remaining old.stream) (remaining new.stream)) olds news
 
--- it has just come: more may come of it, nothing of it waits, it is owed nothing, and its number is none of the row's
+-- it has just come: more may come of it, its first line too, nothing of it waits, it is owed nothing, and its number is none of the row's
 abbrev pub IsNew : {S : Type 0} → Client S → List (Client S) → Type 0
-IsNew c row = (c.phase ≡ Open) × (waiting c.input ≡ []) × (owed c ≡ []) × IsNoneOf c.conn (ids row)
+IsNew c row = (c.phase ≡ Open) × (waiting c.input ≡ []) × (owed c ≡ []) × IsNoneOf c.conn (ids row) × IsTrue c.input.is_first
 
 -- some connections have come, and stand behind the others, which are as they were
 abbrev pub Joins : {S : Type 0} → List (Client S) → List (Client S) → Type 0

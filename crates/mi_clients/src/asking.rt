@@ -110,6 +110,7 @@ fn ask_line<D: Sessions + Drop, L: Log + Drop, S>(
         (L.appended (log_of ledger.old)) (L.appended (log_of ledger.new))) }
     ensures none { IfOk result (λ found. found ≡ false → (client.new ≡ client.old) × (ledger.new ≡ ledger.old) × (ended (waiting client.old.input) ≡ [])) }
     ensures same { OnOk result ((client.new.conn ≡ client.old.conn) × (client.new.phase ≡ client.old.phase) × (client.new.stream ≡ client.old.stream)) }
+    ensures first { OnOk result (client.new.input.is_first ≡ client.old.input.is_first) }
     ensures attached { OnOk result ((hub_of ledger.new).attached ≡ (hub_of ledger.old).attached) }
     ensures failed { result ≡ Err LedgerFault.Journal → L.has_failed (log_of ledger.new) ≡ true }
     ensures settled { IsSettled L.appended L.synced ledger.old → IsSettled L.appended L.synced ledger.new }
@@ -139,6 +140,7 @@ pub fn ask_lines<D: Sessions + Drop, L: Log + Drop, S>(
         × AsksWithin client.old steps) }
     ensures all { OnOk result (IsAsked client.new) }
     ensures phase { OnOk result (IsAsFar client.old client.new) }
+    ensures first { OnOk result (client.new.input.is_first ≡ client.old.input.is_first) }
     ensures idle { ¬ MayAsk client.old → IsOk result × (client.new ≡ client.old) }
     ensures attached { OnOk result ((hub_of ledger.new).attached ≡ (hub_of ledger.old).attached) }
     ensures failed { result ≡ Err LedgerFault.Journal → L.has_failed (log_of ledger.new) ≡ true }

@@ -70,6 +70,7 @@ impl<S> Client<S> {
         ensures stream { result.stream ≡ stream }
         ensures open { result.phase ≡ phases.Open }
         ensures none { (waiting result.input ≡ []) × (owed result ≡ []) }
+        ensures first { IsTrue result.input.is_first }
     {
         Client {
             conn,
@@ -154,16 +155,17 @@ impl<S> Client<S> {
 
 impl<S: Duplex> Client<S> {
     ghost use Rattle.std.specs.Io.KnownBytes.{Keeps, Consumes, IsAtEnd};
-    ghost use Rattle.mi_clients.specs.Client.{owed, HasSent, GoesOn, WantsBytes, BreaksWith, IsSame, IsRead, StopsReading};
+    ghost use Rattle.mi_clients.specs.Client.{owed, HasSent, GoesOn, WantsBytes, BreaksWith, Hears, IsSame, IsRead, StopsReading};
     ghost use Rattle.mi_clients.specs.Stream.{Passes};
     ghost use Rattle.mi_clients.specs.Output.{Sends};
-    ghost use Rattle.mi_clients.specs.Lines.{SameLines, Ends};
+    ghost use Rattle.mi_clients.specs.Lines.{Ends};
 
     /// Reads one piece, where it is to be read: what comes waits to be asked, or its bytes have ended, or it is broken.
     pub(crate) fn read(&mut self, buffer: &mut [u8])
         requires room { 0 < length buffer.old }
         ensures piece { (piece : List ℕ) × Consumes (S.remaining self.old.stream) (S.remaining self.new.stream) piece
-            × ((self.new.phase ≡ phases.Broken) ⊎ (SameLines (waiting self.old.input ++ piece) (waiting self.new.input)
+            × (¬ (self.old.phase ≡ phases.Open) → piece ≡ [])
+            × ((self.new.phase ≡ phases.Broken) ⊎ (Hears (waiting self.old.input ++ piece) [] self.old self.new
             ⊎ ((self.new.phase ≡ phases.Ended) × (piece ≡ []) × IsAtEnd (S.remaining self.new.stream)
             × Ends (waiting self.old.input) (waiting self.new.input))))
             × StopsReading S.is_dry piece (length buffer.old) self.old self.new }
@@ -171,6 +173,7 @@ impl<S: Duplex> Client<S> {
         ensures owed { owed self.new ≡ owed self.old }
         ensures broken { self.old.phase ≡ phases.Broken → self.new.phase ≡ phases.Broken }
         ensures goes_on { GoesOn self.new → GoesOn self.old }
+        ensures opens { self.new.phase ≡ phases.Open → self.old.phase ≡ phases.Open }
         ensures same { IsSame S.handle self.old self.new }
         ensures read { IsRead S.reads self.old self.new }
         ensures unread { ¬ WantsBytes self.old → self.new ≡ self.old }
@@ -214,15 +217,17 @@ impl<S: Duplex> Client<S> {
         }
     }
 
-    /// A piece has come.
+    /// A piece has come. Behind a web page's first line no more is read.
     fn take(&mut self, piece: &[u8])
-        requires { self.old.phase ≡ phases.Open }
-        ensures waits { (self.new.phase ≡ phases.Broken) ⊎ SameLines (waiting self.old.input ++ piece.now) (waiting self.new.input) }
+        requires open { self.old.phase ≡ phases.Open }
+        requires lines { ended (waiting self.old.input) ≡ [] }
+        ensures waits { (self.new.phase ≡ phases.Broken) ⊎ Hears (waiting self.old.input ++ piece.now) [] self.old self.new }
         ensures same { self.new ≡ record self.old { input = self.new.input; phase = self.new.phase; has_lines = self.new.has_lines; lines = self.new.lines; all_asked = self.new.all_asked } }
     {
         self.has_lines = true;
         match self.input.fill(piece) {
-            Ok(()) => {}
+            Ok(true) => self.phase = Phase::Ended,
+            Ok(false) => {}
             Err(_error) => self.phase = Phase::Broken,
         }
     }

@@ -1,21 +1,26 @@
 //! What a connection has sent and wasn't asked yet: whole lines, and the beginning of one. It reads no stream.
-ghost use Rattle.std.specs.Prelude.{◌≡◌, ◌≤◌, ◌++◌, ℕ, List, [], length, drop, OnOk, OnErr, MatchOption};
+ghost use Rattle.std.specs.Prelude.{◌≡◌, ◌≤◌, ◌++◌, ℕ, List, [], length, drop, OnOk, OnErr, IfOk, IsTrue, MatchOption};
 ghost use Rattle.mi_hub.specs.Ended.{ended};
 ghost use Rattle.mi_ledger.specs.Journals.{IsWholeLine};
 ghost use Rattle.mi_clients.specs.Lines.{SameLines, Ends, IsFilled};
+ghost use Rattle.mi_clients.specs.Heard as web;
 
-use crate::lines::{closing, kept_of};
+use crate::lines::{closing, has_newline, heard_of, is_last, kept_of};
 use memchr::memchr;
 use std::alloc::{AllocError, Global};
 
 /// Bytes that a connection has sent, from the first that wasn't asked on.
 ///
-/// Of a line that is longer than a line may be no more is kept than tells that it is over-long.
+/// Of a line that is longer than a line may be no more is kept than tells that it is over-long. Behind the first line nothing is kept, where
+/// that is a web page's.
 #[derive(Drop)]
 pub struct Input {
     bytes: Vec<u8>,
     asked: usize,
+    is_first: bool,
     ghost within: { asked ≤ length bytes.items },
+    /// Where its first line is still to come, no whole line waits.
+    ghost first: { IsTrue is_first → ended (drop asked bytes.items) ≡ [] },
 }
 
 impl Input {
@@ -23,11 +28,13 @@ impl Input {
 
     /// Nothing was sent yet.
     pub fn new(alloc: Global) -> Input
-        ensures { waiting result ≡ [] }
+        ensures none { waiting result ≡ [] }
+        ensures first { IsTrue result.is_first }
     {
         Input {
             bytes: Vec::new(alloc),
             asked: 0,
+            is_first: true,
         }
     }
 
@@ -53,7 +60,8 @@ impl Input {
     /// The first bytes have been asked.
     pub fn pass(&mut self, count: usize)
         requires { count ≤ length (waiting self.old) }
-        ensures { waiting self.new ≡ drop count (waiting self.old) }
+        ensures waiting { waiting self.new ≡ drop count (waiting self.old) }
+        ensures first { self.new.is_first ≡ self.old.is_first }
     {
         self.asked += count;
     }
@@ -63,6 +71,7 @@ impl Input {
         ensures waiting { waiting self.new ≡ waiting self.old }
         ensures let_go { kept self.new ≡ waiting self.new }
         ensures none { self.new.asked ≡ 0 }
+        ensures first { self.new.is_first ≡ self.old.is_first }
     {
         let left = self.bytes.len() - self.asked;
         self.bytes.rotate_left(self.asked);
@@ -70,16 +79,25 @@ impl Input {
         self.asked = 0;
     }
 
-    /// A piece comes, and what was asked is let go. An error leaves what waits as it is.
-    pub fn fill(&mut self, piece: &[u8]) -> Result<(), AllocError>
-        ensures ok { OnOk result (SameLines (waiting self.old ++ piece.now) (waiting self.new)) }
-        ensures kept { OnOk result (IsFilled (waiting self.old) piece.now (waiting self.new)) }
+    /// A piece comes behind the beginning of a line, and what was asked is let go. The answer is whether the connection has ended by it: its first
+    /// line is whole, and a web page's, and nothing behind that is heard. An error leaves what waits as it is.
+    pub fn fill(&mut self, piece: &[u8]) -> Result<bool, AllocError>
+        requires { ended (waiting self.old) ≡ [] }
+        ensures ok { OnOk result (SameLines (web.heard self.old.is_first (waiting self.old ++ piece.now)) (waiting self.new)) }
+        ensures first { OnOk result (self.new.is_first ≡ web.still_first self.old.is_first (waiting self.old ++ piece.now)) }
+        ensures last { IfOk result (λ last. last ≡ web.is_last self.old.is_first (waiting self.old ++ piece.now)) }
+        ensures kept { OnOk result ((part : List ℕ) × (waiting self.old ++ part ≡ web.heard self.old.is_first (waiting self.old ++ piece.now))
+            × IsFilled (waiting self.old) part (waiting self.new)) }
         ensures err { OnErr result (waiting self.new ≡ waiting self.old) }
         ensures let_go { kept self.new ≡ waiting self.new }
     {
         self.settle();
-        let kept = kept_of(self.waiting(), piece);
-        self.bytes.extend_from_slice(kept)
+        let is_last = is_last(self.is_first, self.waiting(), piece);
+        let heard = heard_of(self.is_first, self.waiting(), piece);
+        let kept = kept_of(self.waiting(), heard);
+        self.bytes.extend_from_slice(kept)?;
+        self.is_first = self.is_first && !has_newline(piece);
+        Ok(is_last)
     }
 
     /// Nothing more comes: what no newline ended is a line all the same, and no carriage return of it is dropped.
@@ -89,6 +107,7 @@ impl Input {
         requires { ended (waiting self.old) ≡ [] }
         ensures { OnOk result (Ends (waiting self.old) (waiting self.new)) }
     {
+        self.is_first = false;
         match closing(self.waiting()) {
             Some(more) => self.bytes.extend_from_slice(more),
             None => {

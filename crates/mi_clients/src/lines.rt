@@ -1,10 +1,65 @@
-//! What of bytes is kept, and what makes a line of them. It holds no bytes.
-ghost use Rattle.std.specs.Prelude.{◌≡◌, ◌↔◌, ◌++◌, [], IsTrue, MatchOption};
+//! What of bytes is heard and kept, and what makes a line of them. It holds no bytes.
+ghost use Rattle.std.specs.Prelude.{◌≡◌, ◌↔◌, ◌++◌, [], IsTrue, IsFalse, MatchOption};
 ghost use Rattle.mi_hub.specs.Ended.{ended};
+ghost use Rattle.mi_clients.specs.Heard as web;
 ghost use Rattle.mi_clients.specs.Lines.{SameLines, EndsAsClosed, IsFull, IsOverLong, IsFromNewline, IsKept};
 
 use memchr::memchr;
 use mi_value::limits::MAX_LINE;
+
+/// The first byte of a hello of TLS.
+const TLS_HELLO: u8 = 22;
+
+/// Whether what waits, and a piece behind it, begin as a web page's request does.
+fn is_web_request(waiting: &[u8], piece: &[u8]) -> bool
+    ensures { result ≡ web.is_web_request (waiting.now ++ piece.now) }
+{
+    let bytes = if waiting.is_empty() { piece } else { waiting };
+    matches!(bytes, [b'A'..=b'Z' | TLS_HELLO, ..])
+}
+
+/// What of a piece stands up to and with its first newline; all where it has none.
+fn first_line(piece: &[u8]) -> &[u8]
+    ensures { result.now ≡ web.first_line piece.now }
+{
+    match memchr(b'\n', piece) {
+        Some(at) => {
+            let (line, _) = piece.split_at(at + 1);
+            line
+        }
+        None => piece,
+    }
+}
+
+/// Whether a piece has a newline.
+pub(crate) fn has_newline(piece: &[u8]) -> bool
+    ensures { IsFalse result ↔ (ended piece.now ≡ []) }
+{
+    match memchr(b'\n', piece) {
+        Some(_at) => true,
+        None => false,
+    }
+}
+
+/// What of a piece is heard behind what waits, the beginning of a line; `first` says that this is the first of its connection.
+pub(crate) fn heard_of<'a>(first: bool, waiting: &[u8], piece: &'a [u8]) -> &'a [u8]
+    requires { ended waiting.now ≡ [] }
+    ensures { waiting.now ++ result.now ≡ web.heard first (waiting.now ++ piece.now) }
+{
+    if first && is_web_request(waiting, piece) {
+        first_line(piece)
+    } else {
+        piece
+    }
+}
+
+/// Whether nothing is heard behind a piece.
+pub(crate) fn is_last(first: bool, waiting: &[u8], piece: &[u8]) -> bool
+    requires { ended waiting.now ≡ [] }
+    ensures { result ≡ web.is_last first (waiting.now ++ piece.now) }
+{
+    has_newline(piece) && first && is_web_request(waiting, piece)
+}
 
 /// What of a piece is kept behind a beginning that is over-long already: from its first newline on.
 fn from_newline(piece: &[u8]) -> &[u8]

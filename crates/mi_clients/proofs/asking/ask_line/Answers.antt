@@ -15,4 +15,4 @@ returns-clause-attached g c =
 -- where no line waited none does
 pub invariant_of-client-2-clause-all_asked : goal.invariant_of-client-2-clause-all_asked
 invariant_of-client-2-clause-all_asked g c = λ is.
-    ap ended c.pass.ensures ∙ unended_drop _ (waiting c.args.client.now.input) (c.args.client.now.all_asked is)
+    ap ended c.pass.ensures.waiting ∙ unended_drop _ (waiting c.args.client.now.input) (c.args.client.now.all_asked is)

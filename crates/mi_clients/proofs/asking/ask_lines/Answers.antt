@@ -7,6 +7,7 @@ use Rattle.mi_clients.specs.Input.{waiting}
 use Rattle.mi_clients.specs.Steps.{asks}
 use Rattle.mi_clients.specs.Client.{MayAsk}
 use Rattle.mi_clients.specs.declared.client.Client.{Client}
+use Rattle.mi_clients.specs.declared.input.Input.{Input}
 use Rattle.mi_clients.specs.declared.client.Phase.TheVariants.{Broken}
 use Rattle.mi_clients.proofs.StepLemmas.{makes_none, makes_then, makes_kept, asks_of, asks_more, waits_more}
 use Rattle.mi_clients.proofs.ServedLemmas.{owes_none, owes_more, owes_reply, far_then, room_left}
@@ -24,6 +25,7 @@ lines-init g c = record {
   owes = owes_none c.args.client.now;
   far = inr refl;
   within = inl refl;
+  first = refl;
   idle = λ no. refl;
   makes = makes_none _ _ _ (Keeps-refl _);
 }
@@ -58,6 +60,7 @@ lines-preserved g c =
         room_left c.args.client.now c.lines.client before.steps before.taken before.given before.own before.owes sound
             (c.may_ask.ensures.may.0 c.lines-test.true).2,
       );
+      first = ap (λ (i : Input). i.is_first) c.in_ok-release_each.ensures.input ∙ c.in_ok-ask_line.ensures.first ∙ before.first;
       idle = λ no. absurd (no (subst (λ (x : Client _). MayAsk x) (before.idle no) (c.may_ask.ensures.may.0 c.lines-test.true)));
       makes = makes_kept (before.steps ++ step ∷ []) _ (hub_of c.ask_line.new.ledger) _ _ _ _
           (makes_then before.steps (step ∷ []) _ (hub_of c.lines.ledger) _ _ _ _ before.makes

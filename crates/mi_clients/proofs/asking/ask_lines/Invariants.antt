@@ -18,6 +18,7 @@ invariant-lines g l = record {
   owes : Owes given l.fn.client l.client;
   far : IsAsFar l.fn.client l.client;
   within : AsksWithin l.fn.client steps;
+  first : l.client.input.is_first ≡ l.fn.client.input.is_first;
   idle : ¬ MayAsk l.fn.client → l.client ≡ l.fn.client;
   makes : Makes steps (hub_of l.fn.ledger) (hub_of l.ledger) (g.L.Log.appended (log_of l.fn.ledger)) (g.L.Log.appended (log_of l.ledger));
 }

@@ -5,4 +5,4 @@ use Rattle.mi_clients.proofs.client.Client.new.Goals as goal
 
 pub invariant_of-result : goal.invariant_of-result
 unfolding ended
-invariant_of-result g c = record { lines = λ none. ap ended c.new.ensures; all_asked = λ is. absurd (cc) }
+invariant_of-result g c = record { lines = λ none. ap ended c.new.ensures.none; all_asked = λ is. absurd (cc) }

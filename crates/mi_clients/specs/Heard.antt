@@ -1,0 +1,27 @@
+-- What is heard of the bytes of a connection. Of a web page, which a browser lets send a request to this port, the first line alone is heard:
+-- "POST / HTTP/1.1⏎Host: here⏎⏎undo⏎" is heard as "POST / HTTP/1.1⏎", and "get⏎POST⏎undo⏎" is heard whole.
+use Rattle.std.specs.Prelude.{ℕ, List, [], ◌∷◌, Bool, true, false, ◌==◌, ◌&&◌, ◌||◌, nat_lt, if◌then◌else◌}
+use Rattle.mi_hub.specs.Ended.{ended, if_none}
+
+-- The bytes begin as no JSON does: with a capital letter, as each request of HTTP does, or with the byte 22, as each hello of TLS does. More
+-- of them isn't looked at: a page chooses how long its path is, and of an over-long line only the beginning is kept.
+abbrev pub is_web_request : List ℕ → Bool
+is_web_request [] = false
+is_web_request (b ∷ bs) = (nat_lt 64 b && nat_lt b 91) || b == 22
+
+-- what stands up to and with the first newline; where there is no newline it is all
+abbrev pub first_line : List ℕ → List ℕ
+first_line [] = []
+first_line (b ∷ bs) = if b == 10 then b ∷ [] else b ∷ first_line bs
+
+-- What of these bytes is heard; `first` says that the first line of their connection begins with them.
+abbrev pub heard : Bool → List ℕ → List ℕ
+heard first bytes = if first && is_web_request bytes then first_line bytes else bytes
+
+-- whether that line isn't whole behind them, so that it begins with the bytes that are to come
+abbrev pub still_first : Bool → List ℕ → Bool
+still_first first bytes = if_none (ended bytes) first false
+
+-- whether nothing behind them is heard: that line is whole, and a web page's
+abbrev pub is_last : Bool → List ℕ → Bool
+is_last first bytes = if_none (ended bytes) false (first && is_web_request bytes)
