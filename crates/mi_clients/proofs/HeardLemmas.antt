@@ -1,5 +1,5 @@
 -- What is heard of bytes, by where their newlines stand.
-use Rattle.std.proofs.Common.{◌≡◌, ℕ, zero, suc, ◌<◌, List, [], ◌∷◌, ◌++◌, length, take, get_or, Bool, true, false, not, ◌&&◌, cond, nat_eq, ◌⊎◌, inl, inr, refl, sym, ap, subst, ◌∙◌}
+use Rattle.std.proofs.Common.{◌≡◌, ℕ, zero, suc, ◌<◌, List, [], ◌∷◌, ◌++◌, length, take, get_or, Bool, true, false, ◌&&◌, cond, nat_eq, ◌⊎◌, inl, inr, refl, sym, ap, subst, ◌∙◌}
 use Rattle.std.proofs.Common.{arith, append-nil}
 use Rattle.mi_hub.specs.Ended.{ended, put_front, if_none}
 use Rattle.mi_clients.specs.Heard.{first_line, is_web_request, heard, still_first, is_last}
@@ -10,6 +10,7 @@ use Rattle.mi_clients.specs.declared.client.Client.{Client}
 use Rattle.mi_clients.specs.declared.client.Phase.TheVariants.{Open}
 use Rattle.mi_clients.specs.declared.input.Input.{Input}
 use Rattle.mi_clients.proofs.InputLemmas.{first_newline, tail_by, unended_back}
+use Rattle.mi_clients.proofs.RowLemmas.{true_false}
 
 not_true : (b : Bool) → (b ≡ true → ⊥) → b ≡ false
 not_true true h = absurd (h refl)
@@ -24,36 +25,33 @@ first_at (suc n) (x ∷ w) lt is before =
     ap (λ b. cond b (x ∷ []) (x ∷ first_line w)) (not_true (nat_eq x 10) (before 0 (omega arith)))
     ∙ ap (λ t. x ∷ t) (first_at n w (omega arith) is (λ k less. before (suc k) (omega arith)))
 
+first_by : (x : ℕ) (w p : List ℕ) (b : Bool) → nat_eq x 10 ≡ b → ended (x ∷ w) ≡ [] → (ended w ≡ [] → first_line (w ++ p) ≡ w ++ first_line p)
+    → first_line (x ∷ (w ++ p)) ≡ x ∷ (w ++ first_line p)
+first_by x w p true is h more = absurd (first_newline x w is h)
+first_by x w p false is h more = ap (λ b. cond b (x ∷ []) (x ∷ first_line (w ++ p))) is ∙ ap (λ t. x ∷ t) (more (tail_by x w false is h))
+
 -- behind bytes without a newline
 pub first_behind : (w p : List ℕ) → ended w ≡ [] → first_line (w ++ p) ≡ w ++ first_line p
 first_behind [] p h = refl
-first_behind (x ∷ w) p h = by_test (nat_eq x 10) refl
-  where
-    by_test : (b : Bool) → nat_eq x 10 ≡ b → first_line (x ∷ (w ++ p)) ≡ x ∷ (w ++ first_line p)
-    by_test true is = absurd (first_newline x w is h)
-    by_test false is = ap (λ b. cond b (x ∷ []) (x ∷ first_line (w ++ p))) is ∙ ap (λ t. x ∷ t) (first_behind w p (tail_by x w false is h))
+first_behind (x ∷ w) p h = first_by x w p (nat_eq x 10) refl h (first_behind w p)
 
 pub first_all : (w : List ℕ) → ended w ≡ [] → first_line w ≡ w
 first_all w h = ap first_line (sym (append-nil w)) ∙ first_behind w [] h ∙ append-nil w
 
+join_by : (x : ℕ) (w p : List ℕ) (b : Bool) → nat_eq x 10 ≡ b → ended (x ∷ w) ≡ [] → (ended w ≡ [] → ended (w ++ p) ≡ []) → ended (x ∷ (w ++ p)) ≡ []
+unfolding ended
+join_by x w p true is h more = absurd (first_newline x w is h)
+join_by x w p false is h more =
+    ap (λ b. cond b ([] ∷ ended (w ++ p)) (put_front x (ended (w ++ p)))) is ∙ ap (put_front x) (more (tail_by x w false is h))
+
 -- neither part has a newline
 unended_join : (w p : List ℕ) → ended w ≡ [] → ended p ≡ [] → ended (w ++ p) ≡ []
-unfolding ended
 unended_join [] p h k = k
-unended_join (x ∷ w) p h k = by_test (nat_eq x 10) refl
-  where
-    by_test : (b : Bool) → nat_eq x 10 ≡ b → ended (x ∷ (w ++ p)) ≡ []
-    by_test true is = absurd (first_newline x w is h)
-    by_test false is =
-        ap (λ b. cond b ([] ∷ ended (w ++ p)) (put_front x (ended (w ++ p)))) is
-        ∙ ap (put_front x) (unended_join w p (tail_by x w false is h) k)
+unended_join (x ∷ w) p h k = join_by x w p (nat_eq x 10) refl h (λ none. unended_join w p none k)
 
 -- what is heard behind the beginning of a line
 pub heard_web : (first : Bool) (w p : List ℕ) → ended w ≡ [] → (first && is_web_request (w ++ p)) ≡ true → w ++ first_line p ≡ heard first (w ++ p)
 heard_web first w p h is = sym (ap (λ b. cond b (first_line (w ++ p)) (w ++ p)) is ∙ first_behind w p h)
-
-pub heard_all : (first : Bool) (w p : List ℕ) → (first && is_web_request (w ++ p)) ≡ false → w ++ p ≡ heard first (w ++ p)
-heard_all first w p is = sym (ap (λ b. cond b (first_line (w ++ p)) (w ++ p)) is)
 
 -- what is kept of a piece without newlines has none
 pub unended_kept : (w p k : List ℕ) → IsKept w p k → ended p ≡ [] → ended k ≡ []
@@ -68,34 +66,50 @@ unended_filled w p k h kept none = unended_join w k h (unended_kept w p k kept n
 cons_none : (t : List ℕ) (ts : List (List ℕ)) → ◌≡◌ {A = List (List ℕ)} (t ∷ ts) [] → ⊥
 cons_none t ts e = cc
 
-true_false : (b : Bool) → b ≡ true → b ≡ false → ⊥
-true_false b p q = cc
+same_answer : (a b : Bool) → (a ≡ true → b ≡ true) → (b ≡ true → a ≡ true) → a ≡ b
+same_answer true b p q = sym (p refl)
+same_answer false true p q = q refl
+same_answer false false p q = refl
 
--- b says whether a newline stands in these bytes
-last_by : (ts : List (List ℕ)) (b web : Bool) → (b ≡ false → ts ≡ []) → (ts ≡ [] → b ≡ false) → (b && web) ≡ if_none ts false web
-last_by [] b web p q = ap (λ x. x && web) (q refl)
-last_by (t ∷ ts) true web p q = refl
-last_by (t ∷ ts) false web p q = absurd (cons_none t ts (p refl))
+last_says : (ts : List (List ℕ)) (first web : Bool) → if_none ts false (first && web) ≡ true → (first ≡ true) × (web ≡ true) × ¬ (ts ≡ [])
+last_says [] first web is = absurd (true_false false is refl)
+last_says (t ∷ ts) true true is = (refl, refl, cons_none t ts)
+last_says (t ∷ ts) true false is = absurd (true_false false is refl)
+last_says (t ∷ ts) false web is = absurd (true_false false is refl)
 
-still_by : (ts : List (List ℕ)) (b first : Bool) → (b ≡ false → ts ≡ []) → (ts ≡ [] → b ≡ false) → (first && not b) ≡ if_none ts first false
-still_by [] b true p q = ap not (q refl)
-still_by [] b false p q = refl
-still_by (t ∷ ts) true true p q = refl
-still_by (t ∷ ts) true false p q = refl
-still_by (t ∷ ts) false first p q = absurd (cons_none t ts (p refl))
+last_where : (ts : List (List ℕ)) (first web : Bool) → first ≡ true → web ≡ true → ¬ (ts ≡ []) → if_none ts false (first && web) ≡ true
+last_where [] first web p q some = absurd (some refl)
+last_where (t ∷ ts) first web p q some = ap (λ b. b && web) p ∙ q
 
-module _ (w p : List ℕ) (h : ended w ≡ []) (b : Bool) (found : (b ≡ false → ended p ≡ []) × (ended p ≡ [] → b ≡ false)) where
-  none_is : b ≡ false → ended (w ++ p) ≡ []
-  none_is is = unended_join w p h (found.0 is)
+still_says : (ts : List (List ℕ)) (first : Bool) → if_none ts first false ≡ true → (first ≡ true) × (ts ≡ [])
+still_says [] first is = (is, refl)
+still_says (t ∷ ts) first is = absurd (true_false false is refl)
 
-  is_none : ended (w ++ p) ≡ [] → b ≡ false
-  is_none none = found.1 (unended_back w p none)
+still_where : (ts : List (List ℕ)) (first : Bool) → first ≡ true → ts ≡ [] → if_none ts first false ≡ true
+still_where ts first p none = ap (λ us. if_none us first false) none ∙ p
 
-  pub last_is : (first : Bool) → (b && (first && is_web_request (w ++ p))) ≡ is_last first (w ++ p)
-  last_is first = last_by (ended (w ++ p)) b (first && is_web_request (w ++ p)) none_is is_none
+-- what a piece says of the bytes that it stands behind, in which no newline is
+module _ (w p : List ℕ) (h : ended w ≡ []) where
+  pub last_is : (first r : Bool) → (r ≡ true → (first ≡ true) × (is_web_request (w ++ p) ≡ true) × ¬ (ended p ≡ []))
+      → ((first ≡ true) × (is_web_request (w ++ p) ≡ true) × ¬ (ended p ≡ []) → r ≡ true) → r ≡ is_last first (w ++ p)
+  last_is first r says where_so = same_answer r (is_last first (w ++ p))
+      (λ is. let all = says is in last_where (ended (w ++ p)) first (is_web_request (w ++ p)) all.0 all.1 (λ none. all.2 (unended_back w p none)))
+      (λ is. let all = last_says (ended (w ++ p)) first (is_web_request (w ++ p)) is in
+          where_so (all.0, all.1, λ none. all.2 (unended_join w p h none)))
 
-  pub still_is : (first : Bool) → (first && not b) ≡ still_first first (w ++ p)
-  still_is first = still_by (ended (w ++ p)) b first none_is is_none
+  pub still_is : (first r : Bool) → (r ≡ true → (first ≡ true) × (ended p ≡ [])) → ((first ≡ true) × (ended p ≡ []) → r ≡ true)
+      → r ≡ still_first first (w ++ p)
+  still_is first r says where_so = same_answer r (still_first first (w ++ p))
+      (λ is. let all = says is in still_where (ended (w ++ p)) first all.0 (unended_join w p h all.1))
+      (λ is. let all = still_says (ended (w ++ p)) first is in where_so (all.0, unended_back w p all.1))
+
+  -- of bytes without a newline all is heard
+  pub heard_unended : (first : Bool) (q : List ℕ) → ended p ≡ [] → w ++ q ≡ heard first (w ++ p) → ended q ≡ []
+  heard_unended first q none is = unended_back w q (ap ended (is ∙ by_test (first && is_web_request (w ++ p))) ∙ unended_join w p h none)
+    where
+      by_test : (b : Bool) → cond b (first_line (w ++ p)) (w ++ p) ≡ w ++ p
+      by_test true = first_all (w ++ p) (unended_join w p h none)
+      by_test false = refl
 
 -- ---- where nothing has come
 

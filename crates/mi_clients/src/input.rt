@@ -5,7 +5,7 @@ ghost use Rattle.mi_ledger.specs.Journals.{IsWholeLine};
 ghost use Rattle.mi_clients.specs.Lines.{SameLines, Ends, IsFilled};
 ghost use Rattle.mi_clients.specs.Heard as web;
 
-use crate::lines::{closing, has_newline, heard_of, is_last, kept_of};
+use crate::lines::{closing, heard_of, is_last, is_still_first, kept_of};
 use memchr::memchr;
 use std::alloc::{AllocError, Global};
 
@@ -96,7 +96,7 @@ impl Input {
         let heard = heard_of(self.is_first, self.waiting(), piece);
         let kept = kept_of(self.waiting(), heard);
         self.bytes.extend_from_slice(kept)?;
-        self.is_first = self.is_first && !has_newline(piece);
+        self.is_first = is_still_first(self.is_first, piece);
         Ok(is_last)
     }
 

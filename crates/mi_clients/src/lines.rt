@@ -32,8 +32,9 @@ fn first_line(piece: &[u8]) -> &[u8]
 }
 
 /// Whether a piece has a newline.
-pub(crate) fn has_newline(piece: &[u8]) -> bool
-    ensures { IsFalse result ↔ (ended piece.now ≡ []) }
+fn has_newline(piece: &[u8]) -> bool
+    ensures some { IsTrue result ↔ ¬ (ended piece.now ≡ []) }
+    ensures none { IsFalse result ↔ (ended piece.now ≡ []) }
 {
     match memchr(b'\n', piece) {
         Some(_at) => true,
@@ -55,10 +56,16 @@ pub(crate) fn heard_of<'a>(first: bool, waiting: &[u8], piece: &'a [u8]) -> &'a 
 
 /// Whether nothing is heard behind a piece.
 pub(crate) fn is_last(first: bool, waiting: &[u8], piece: &[u8]) -> bool
-    requires { ended waiting.now ≡ [] }
-    ensures { result ≡ web.is_last first (waiting.now ++ piece.now) }
+    ensures { IsTrue result ↔ (IsTrue first × IsTrue (web.is_web_request (waiting.now ++ piece.now)) × ¬ (ended piece.now ≡ [])) }
 {
-    has_newline(piece) && first && is_web_request(waiting, piece)
+    first && is_web_request(waiting, piece) && has_newline(piece)
+}
+
+/// Whether the first line of a connection is still to come behind a piece.
+pub(crate) fn is_still_first(first: bool, piece: &[u8]) -> bool
+    ensures { IsTrue result ↔ (IsTrue first × (ended piece.now ≡ [])) }
+{
+    first && !has_newline(piece)
 }
 
 /// What of a piece is kept behind a beginning that is over-long already: from its first newline on.
