@@ -1,5 +1,5 @@
 -- What is heard of bytes, by where their newlines stand.
-use Rattle.std.proofs.Common.{◌≡◌, ℕ, zero, suc, ◌<◌, List, [], ◌∷◌, ◌++◌, length, take, get_or, Bool, true, false, ◌&&◌, cond, nat_eq, ◌⊎◌, inl, inr, refl, sym, ap, subst, ◌∙◌}
+use Rattle.std.proofs.Common.{◌≡◌, ℕ, zero, suc, ◌<◌, List, [], ◌∷◌, ◌++◌, length, take, get_or, Bool, true, false, ◌&&◌, cond, nat_eq, inl, inr, refl, sym, ap, subst, ◌∙◌}
 use Rattle.std.proofs.Common.{arith, append-nil}
 use Rattle.mi_hub.specs.Ended.{ended, put_front, if_none}
 use Rattle.mi_clients.specs.Heard.{first_line, is_web_request, heard, still_first, is_last}
@@ -95,7 +95,7 @@ module _ (w p : List ℕ) (h : ended w ≡ []) where
   last_is first r says where_so = same_answer r (is_last first (w ++ p))
       (λ is. let all = says is in last_where (ended (w ++ p)) first (is_web_request (w ++ p)) all.0 all.1 (λ none. all.2 (unended_back w p none)))
       (λ is. let all = last_says (ended (w ++ p)) first (is_web_request (w ++ p)) is in
-          where_so (all.0, all.1, λ none. all.2 (unended_join w p h none)))
+      where_so (all.0, all.1, λ none. all.2 (unended_join w p h none)))
 
   pub still_is : (first r : Bool) → (r ≡ true → (first ≡ true) × (ended p ≡ [])) → ((first ≡ true) × (ended p ≡ []) → r ≡ true)
       → r ≡ still_first first (w ++ p)

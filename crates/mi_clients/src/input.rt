@@ -17,6 +17,7 @@ use std::alloc::{AllocError, Global};
 pub struct Input {
     bytes: Vec<u8>,
     asked: usize,
+    /// Whether its first line is still to come.
     is_first: bool,
     ghost within: { asked ≤ length bytes.items },
     /// Where its first line is still to come, no whole line waits.

@@ -1,8 +1,7 @@
 -- Where a newline came, the first line has; and what is kept of a piece without one has none.
-use Rattle.std.proofs.Common.{◌≡◌, ◌++◌, ◌∙◌, [], sym, ap, subst, drop}
+use Rattle.std.proofs.Common.{◌≡◌, ◌++◌, ◌∙◌, [], sym, ap, drop}
 use Rattle.mi_hub.specs.Ended.{ended}
-use Rattle.mi_clients.specs.Heard.{heard, still_first, is_last}
-use Rattle.mi_clients.specs.Lines.{IsKept}
+use Rattle.mi_clients.specs.Heard.{still_first, is_last}
 use Rattle.mi_clients.specs.Input.{waiting}
 use Rattle.mi_clients.proofs.HeardLemmas.{still_is, last_is, heard_unended, unended_filled}
 use Rattle.mi_clients.proofs.input.Input.fill.Goals as goal
