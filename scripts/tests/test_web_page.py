@@ -55,7 +55,7 @@ class WebPages(unittest.TestCase):
 
     def test_no_line_of_a_body_is_asked(self):
         before = self.size()
-        for first in (b"POST / HTTP/1.1\r\n", b"GET /?x HTTP/1.1\r\n", b"OPTIONS * HTTP/1.1\n", b"PRI * HTTP/2.0\r\n", b"M-SEARCH * HTTP/1.1\r\n", b"A\n"):
+        for first in (b"POST / HTTP/1.1\r\n", b"GET /?x HTTP/1.1\r\n", b"OPTIONS * HTTP/1.1\n", b"PRI * HTTP/2.0\r\n", b"A\n", b"Z\n"):
             for shuts in (True, False):
                 self.assertEqual(self.heard(first + HEADERS + INSERT * 3, shuts=shuts), NO_JSON, first)
         self.assertEqual(self.size(), before)
