@@ -23,13 +23,14 @@ TOP = os.path.dirname(os.path.dirname(os.path.dirname(os.path.realpath(__file__)
 sys.path[:0] = [f"{TOP}/scripts", f"{TOP}/clients/python"]
 
 import mi_client.schema  # noqa: E402
-from reference import Index, Reference, Schema, is_web_request  # noqa: E402
+from reference import Index, Reference, Schema, form, is_web_request, read  # noqa: E402
 
 PLANT = os.environ.get("PLANT", "")
 BOUND = 65_536
 MOST = 64
 UNDO = b'{"cmd":"undo"}\n'
 MEMORY = b'{"error":"memory","ok":false}\n'
+DONE = b'{"ok":true}\n'
 CHANGED = (b'{"id":', b'{"ok":true}', b'{"erased":', b'{"ok":true,"revision":', b'{"committed":', b'{"ok":true,"undone":', b'{"ok":true,"pushed":')
 
 
@@ -54,6 +55,11 @@ def schemas_of(file):
 
 def changed(reply):
     return reply.startswith(CHANGED) or reply.endswith(b'"lost":true,"ok":false}\n')
+
+
+def is_kept(text, reply):
+    """Whether the journal has a line that was answered so. A reserve is answered as a change is, and changes nothing."""
+    return changed(reply) and (reply != DONE or form(read(text))[0] != "reserve")
 
 
 class Journal:
@@ -186,7 +192,7 @@ class Service:
                 stop(1, "it died")
             lacks = PLANT == "lacks" and self.asked % 20 == 0
             reply = MEMORY if lacks else self.reference.answer_ended(client.number, text)
-            keep = changed(reply) and holder in (None, client.number)
+            keep = is_kept(text, reply) and holder in (None, client.number)
             client.held += reply
             if PLANT == "crossed" and self.asked % 97 == 0:
                 for it in self.clients.values():

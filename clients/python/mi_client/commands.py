@@ -64,7 +64,7 @@ COMMANDS = {
 CHANGES = frozenset({"insert", "replace", "modify", "erase", "erase_key", "relocate"})
 SESSION_STEPS = frozenset({"start", "undo", "squash", "commit", "undo_all", "push"})
 LOOK_UPS = frozenset({"get", "find", "nth", "count", "range", "list", "rank", "lower_rank", "upper_rank", "size", "revision"})
-"""Commands that change nothing and are in no journal. `reserve` is none of the three: it changes no table, and a journal has it."""
+"""Commands that change nothing and that nobody's sessions keep out. `reserve` is none of the three: it changes nothing, and is kept out."""
 
 REFUSALS = {
     "line": ("the line is longer than 65,536 bytes", "send less at once"),

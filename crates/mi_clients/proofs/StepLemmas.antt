@@ -14,7 +14,7 @@ use Rattle.mi_replay.specs.RunActs.{ActsOfDone}
 use Rattle.mi_replay.proofs.JoinLemmas.{journals_join}
 use Rattle.mi_ledger.specs.Journals.{Journals, Asks, IsWholeLine}
 use Rattle.mi_ledger.proofs.JournalLemmas.{asked_attached}
-use Rattle.mi_ledger.specs.Belongs.{holder_conn}
+use Rattle.mi_ledger.specs.Ledger.{holder_conn}
 use Rattle.mi_clients.specs.Steps.{Step, comes, asks, undoes, goes, undo_bytes, event_of, written_in, UndoesOwn, DoneBy, Makes, AreAsks, AreUndos}
 
 -- ---- nothing

@@ -6,7 +6,7 @@ use Rattle.mi_hub.specs.Run.{HubState, Event, attach, piece, cut, Done}
 use Rattle.mi_replay.specs.Acts.{Act}
 use Rattle.mi_replay.specs.RunActs.{ActsOfDone}
 use Rattle.mi_ledger.specs.Journals.{Journals}
-use Rattle.mi_ledger.specs.Belongs.{holder_conn}
+use Rattle.mi_ledger.specs.Ledger.{holder_conn}
 
 -- A connection comes; it asks a line and this is the reply; a session is undone that it leaves behind, and nobody hears the reply; it goes
 -- away.

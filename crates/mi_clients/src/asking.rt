@@ -3,7 +3,7 @@ ghost use Rattle.std.specs.Prelude.{◌≡◌, ◌⊎◌, ◌<◌, ◌++◌, ℕ
 ghost use Rattle.std.specs.Io.KnownBytes.{Keeps};
 ghost use Rattle.mi_commands.specs.Holder.{held_by, released};
 ghost use Rattle.mi_hub.specs.Connections.{rest_at, others};
-ghost use Rattle.mi_ledger.specs.Belongs.{holder_conn};
+ghost use Rattle.mi_ledger.specs.Ledger.{holder_conn};
 ghost use Rattle.mi_ledger.specs.Ledger.{hub_of, log_of, IsSettled};
 ghost use Rattle.mi_clients.specs.Steps.{Step, asks, Makes, GivesNone, AsksNone, AreAsks, AreUndos, LeavesOthers, HoldsSome};
 ghost use Rattle.mi_clients.specs.Input.{waiting};

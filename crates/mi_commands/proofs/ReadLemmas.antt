@@ -15,9 +15,10 @@ use Rattle.mi_catalog.specs.Kinds.{is_ranked}
 use Rattle.mi_protocol.specs.Replies.{refused, reply_text}
 use Rattle.mi_protocol.specs.declared.binding.Command.{Command}
 use Rattle.mi_protocol.specs.declared.binding.Command.TheVariants as command
-use Rattle.mi_commands.specs.Answer.{needs_none, done_without, TakesNone, command_answer, command_of, GivenOrMemory}
+use Rattle.mi_commands.specs.Answer.{needs_none, done_without, TakesNone, command_answer, command_of, command_changes, AnsweredOrMemory}
 use Rattle.mi_commands.specs.Holder.{HeldDatabase, is_busy}
 use Rattle.mi_commands.specs.Performed.{performed}
+use Rattle.mi_commands.specs.Told.{may_change}
 
 not_true : {A : Type 0} → false ≡ true → A
 not_true e = absurd (true≢false (sym e))
@@ -68,6 +69,11 @@ none_kept true bound c is = absurd (busy is)
     busy e = cc
 none_kept false bound c is = is
 
+-- from the answer to a command, or the refusal in its place, to that of its line
+abbrev pub IsAnswered : HeldDatabase → ℕ → List ℕ → List ℕ → Result Command Refusal → Bool → HeldDatabase → Type 0
+IsAnswered s conn bytes reply c changed new =
+    AnsweredOrMemory (¬ TakesNone bytes) (command_answer s conn c) (command_changes s conn c) s reply changed new
+
 module _ (s : HeldDatabase) (conn : ℕ) (bytes reply : List ℕ) where
   none_done : (c : Command) → command_of s conn (command_line bytes) ≡ Ok c → TakesNone bytes → done_without c ≡ true
   none_done c is takes =
@@ -75,13 +81,14 @@ module _ (s : HeldDatabase) (conn : ℕ) (bytes reply : List ℕ) where
       (none_kept (keeps_out takes.0 && is_busy s.holder conn) _ c (sym (ap (command_of s conn) (short_means takes.0 bytes takes.2)) ∙ is))
 
   -- a command is done
-  pub given : (c : Command) (old new : HeldDatabase) → old ≡ s → command_of s conn (command_line bytes) ≡ Ok c
-      → GivenOrMemory (done_without c ≡ false) (performed old conn c) old reply new
-      → GivenOrMemory (¬ TakesNone bytes) (command_answer s conn (command_of s conn (command_line bytes))) s reply new
-  given c old new same is done =
-      let here = subst (λ o. GivenOrMemory (done_without c ≡ false) (performed o conn c) o reply new) same done in
-      subst (λ a. GivenOrMemory (¬ TakesNone bytes) a s reply new) (sym (ap (command_answer s conn) is))
-      (elim here [ inl p ↦ inl p | inr p ↦ inr (λ takes. true≢false (sym (none_done c is takes) ∙ p.0), p.1) ])
+  pub given : (c : Command) (changed : Bool) (old new : HeldDatabase) → old ≡ s → command_of s conn (command_line bytes) ≡ Ok c
+      → AnsweredOrMemory (done_without c ≡ false) (performed old conn c) (may_change c (performed old conn c).0) old reply changed new
+      → IsAnswered s conn bytes reply (command_of s conn (command_line bytes)) changed new
+  given c changed old new same is done =
+      let here = subst (λ o. AnsweredOrMemory (done_without c ≡ false) (performed o conn c) (may_change c (performed o conn c).0) o reply changed new)
+      same done in
+      subst (λ x. IsAnswered s conn bytes reply x changed new) (sym is)
+      (elim here [ inl p ↦ inl p | inr p ↦ inr (λ takes. true≢false (sym (none_done c is takes) ∙ p.0), p.1, p.2) ])
 
   memory_or : (e : Refusal) (d : Result Command Refusal) → IsAnswer (Err e) d → (e ≡ Memory) ⊎ (d ≡ Err e)
   memory_or Memory d h = inl refl
@@ -90,11 +97,10 @@ module _ (s : HeldDatabase) (conn : ℕ) (bytes reply : List ℕ) where
   -- a refusal is said
   pub refused_line : (e : Refusal) (new : HeldDatabase) → new ≡ s → IsAnswer (Err e) (command_of s conn (command_line bytes))
       → (e ≡ Memory → ¬ TakesNone bytes) → reply ≡ reply_text new.database.catalog (refused 0 e)
-      → GivenOrMemory (¬ TakesNone bytes) (command_answer s conn (command_of s conn (command_line bytes))) s reply new
+      → IsAnswered s conn bytes reply (command_of s conn (command_line bytes)) false new
   refused_line e new same is lacks said =
       let here = said ∙ ap (λ (o : HeldDatabase). reply_text o.database.catalog (refused 0 e)) same in
       elim (memory_or e _ is) [
-        | inl memory ↦ inr (lacks memory, (here ∙ ap (λ x. reply_text s.database.catalog (refused 0 x)) memory, same))
-        | inr other ↦
-            subst (λ a. GivenOrMemory (¬ TakesNone bytes) a s reply new) (sym (ap (command_answer s conn) other)) (inl (here, same))
+        | inl memory ↦ inr (lacks memory, (here ∙ ap (λ x. reply_text s.database.catalog (refused 0 x)) memory, same), refl)
+        | inr other ↦ subst (λ x. IsAnswered s conn bytes reply x false new) (sym other) (inl ((here, same), refl))
       ]

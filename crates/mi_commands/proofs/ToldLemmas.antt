@@ -11,7 +11,8 @@ use Rattle.mi_value.specs.declared.limits.TheConstants.{MAX_SESSIONS}
 use Rattle.mi_value.specs.declared.value.Value.{Value}
 use Rattle.mi_value.specs.Edits.{apply}
 use Rattle.mi_catalog.specs.Shape.{Shape, CatalogShape}
-use Rattle.mi_model.specs.Table.{Table, has, row}
+use Rattle.mi_model.specs.Table.{Table, get, has, row}
+use Rattle.mi_model.specs.LookUp as look
 use Rattle.mi_model.specs.Change.{put, erase, relocate}
 use Rattle.mi_model.specs.Conflict.{conflict}
 use Rattle.mi_model.specs.Verdict.{Outcome, unless, is_spent, has_place, as_unique, insert_refusal, insert_outcome, replace_refusal, replace_outcome}
@@ -23,9 +24,14 @@ use Rattle.mi_protocol.specs.Output.{PutOrMemory}
 use Rattle.mi_protocol.specs.Replies.{Said, is_short, reply_text, refused}
 use Rattle.mi_protocol.specs.declared.binding.Command.{Command}
 use Rattle.mi_protocol.specs.declared.binding.Command.TheVariants as command
-use Rattle.mi_commands.specs.Answer.{done_without, GivenOrMemory}
+use Rattle.mi_request.specs.Lines.{command_line}
+use Rattle.mi_commands.specs.Asked as asking
+use Rattle.mi_commands.specs.Asked.{Asked}
+use Rattle.mi_commands.specs.Answer.{done_without, command_answer, command_of, answer, command_changes, line_changes}
+use Rattle.mi_commands.specs.Answer.{GivenOrMemory, AnsweredOrMemory, MayGive, MayAnswer}
 use Rattle.mi_commands.specs.Holder.{HeldDatabase}
 use Rattle.mi_commands.specs.Performed.{performed, altered, said_of, all_done, or_session, revised, Move, one_up, one_down, done_by}
+use Rattle.mi_commands.specs.Performed.{found, show_found}
 use Rattle.mi_commands.specs.Told.{looks_up, SaysMemory, ToldOrMemory, loses, tells_change, may_change}
 use Rattle.mi_commands.proofs.UndoneLaws.{undone_catalog, squashed_catalog, undone_times_catalog}
 
@@ -163,6 +169,67 @@ pub told_keeps : {A : Type 0} (s t : HeldDatabase) (conn : ℕ) (c : Command) (t
 told_keeps s t conn c told (inr p) h = p.2
 told_keeps s t conn c told (inl p) h = p.1 ∙ command_keeps s conn c (sym (ap (may_change c) p.0) ∙ h)
 
+-- what a look-up tells is no change
+found_quiet : (table id : ℕ) (o : Option (List Value)) → tells_change (found table id o) ≡ false
+found_quiet table id None = refl
+found_quiet table id (Some values) = refl
+
+shown_quiet : (d : Database) (table : ℕ) (o : Option ℕ) → tells_change (show_found d table o) ≡ false
+shown_quiet d table None = refl
+shown_quiet d table (Some id) = found_quiet table id (get (table_of d table) id)
+
+either_quiet : (b : Bool) (x y : Said) → tells_change x ≡ false → tells_change y ≡ false → tells_change (cond b x y) ≡ false
+either_quiet true x y h k = h
+either_quiet false x y h k = k
+
+pub look_quiet : (s : HeldDatabase) (conn : ℕ) (c : Command) → looks_up c ≡ true → may_change c (performed s conn c).0 ≡ false
+look_quiet s conn (command.Get table id) h = found_quiet table id (get (table_of s.database table) id)
+look_quiet s conn (command.Find table index key) h =
+    shown_quiet s.database table (look.find (schema_of s.database table) (table_of s.database table) index key)
+look_quiet s conn (command.Nth table index n) h =
+    shown_quiet s.database table (look.nth (schema_of s.database table) (table_of s.database table) index n)
+look_quiet s conn (command.Count table index key) h = refl
+look_quiet s conn (command.Range table index low high reverse limit) h = refl
+look_quiet s conn (command.List table index after limit) h = either_quiet (has_place (table_of s.database table) after) _ _ refl refl
+look_quiet s conn (command.Rank table index id) h = either_quiet (has (table_of s.database table) id) _ _ refl refl
+look_quiet s conn (command.LowerRank table index key) h = refl
+look_quiet s conn (command.UpperRank table index key) h = refl
+look_quiet s conn (command.Size table) h = refl
+look_quiet s conn command.Revision h = refl
+look_quiet s conn c h = not_false (sym h)
+
+memory_quiet : (c : Command) (told : Said) → SaysMemory told → may_change c told ≡ false
+memory_quiet (command.Reserve changes sessions) told h = refl
+memory_quiet c told h = by_told told h
+  where
+    by_told : (told : Said) → SaysMemory told → tells_change told ≡ false
+    by_told (say.refused table Memory) h = refl
+    by_told (say.refused_modify table Memory) h = refl
+    by_told told h = absurd h
+
+-- ---- lines
+
+bound_keeps : (s : HeldDatabase) (conn : ℕ) (c : Result Command Refusal) → command_changes s conn c ≡ false → (command_answer s conn c).1 ≡ s
+bound_keeps s conn (Ok c) h = command_keeps s conn c h
+bound_keeps s conn (Err e) h = refl
+
+-- a line whose answer is no change leaves all as it is
+pub line_keeps : (s : HeldDatabase) (conn : ℕ) (line : Asked) → line_changes s conn line ≡ false → (answer s conn line).1 ≡ s
+line_keeps s conn (asking.text t) h = bound_keeps s conn (command_of s conn (command_line t)) h
+line_keeps s conn asking.too_long h = refl
+
+-- an answer is given, whatever is said of it
+pub answer_given : (conn : ℕ) (s t : HeldDatabase) (line : Asked) (reply : List ℕ) (changed : Bool) → MayAnswer conn s line reply changed t
+    → MayGive conn s line reply t
+answer_given conn s t line reply changed (inl p) = inl p.0
+answer_given conn s t line reply changed (inr p) = inr (p.0, p.1)
+
+-- what is said to be no change has changed nothing
+pub answer_keeps : (conn : ℕ) (s t : HeldDatabase) (line : Asked) (reply : List ℕ) (changed : Bool) → MayAnswer conn s line reply changed t
+    → changed ≡ false → t ≡ s
+answer_keeps conn s t line reply changed (inl p) never = p.0.1 ∙ line_keeps s conn line (sym p.1 ∙ never)
+answer_keeps conn s t line reply changed (inr p) never = p.1.1
+
 -- ---- replies without rows
 
 said_short : {A : Type 0} (accepted : A → Said) (denied : Refusal → Said) (a : Result A Refusal) → ((v : A) → is_short (accepted v) ≡ true)
@@ -256,17 +323,32 @@ told_catalog s t conn c told (inr p) = ap (λ (u : HeldDatabase). u.database.cat
 -- ---- what an output has
 
 -- rows that find no room are refused for want of memory, and a look-up has changed nothing
-pub look_put : (s : HeldDatabase) (conn : ℕ) (c : Command) (told : Said) (text : List ℕ)
+look_given : (s : HeldDatabase) (conn : ℕ) (c : Command) (told : Said) (text : List ℕ)
     → ToldOrMemory (done_without c ≡ false) (performed s conn c) s told s → PutOrMemory s.database.catalog told text
     → GivenOrMemory (done_without c ≡ false) (performed s conn c) s text s
-look_put s conn c told text h (inl is) = told_given (performed s conn c) s s told text h is
-look_put s conn c told text (inl p) (inr q) = inr (lacks s conn c (done_without c) refl (sym (ap is_short p.0) ∙ q.0), (q.1, refl))
-look_put s conn c told text (inr p) (inr q) = inr (p.0, (q.1, refl))
+look_given s conn c told text h (inl is) = told_given (performed s conn c) s s told text h is
+look_given s conn c told text (inl p) (inr q) = inr (lacks s conn c (done_without c) refl (sym (ap is_short p.0) ∙ q.0), (q.1, refl))
+look_given s conn c told text (inr p) (inr q) = inr (p.0, (q.1, refl))
+
+pub look_put : (s : HeldDatabase) (conn : ℕ) (c : Command) (told : Said) (text : List ℕ) → looks_up c ≡ true
+    → ToldOrMemory (done_without c ≡ false) (performed s conn c) s told s → PutOrMemory s.database.catalog told text
+    → AnsweredOrMemory (done_without c ≡ false) (performed s conn c) (may_change c (performed s conn c).0) s text false s
+look_put s conn c told text looks h made =
+    elim (look_given s conn c told text h made) [ inl p ↦ inl (p, sym (look_quiet s conn c looks)) | inr p ↦ inr (p.0, p.1, refl) ]
 
 -- what a change tells has no rows
-pub change_put : (s t : HeldDatabase) (conn : ℕ) (c : Command) (told : Said) (text : List ℕ) → looks_up c ≡ false
-    → ToldOrMemory (done_without c ≡ false) (performed s conn c) s told t → PutOrMemory t.database.catalog told text
-    → GivenOrMemory (done_without c ≡ false) (performed s conn c) s text t
-change_put s t conn c told text changes h (inl is) =
-    told_given (performed s conn c) s t told text h (is ∙ ap (λ (k : CatalogShape). reply_text k told) (told_catalog s t conn c told h))
-change_put s t conn c told text changes h (inr q) = not_false (sym (told_short s t conn c told changes h) ∙ q.0)
+change_text : {A : Type 0} (s t : HeldDatabase) (conn : ℕ) (c : Command) (told : Said) (text : List ℕ) → looks_up c ≡ false
+    → ToldOrMemory A (performed s conn c) s told t → PutOrMemory t.database.catalog told text → text ≡ reply_text s.database.catalog told
+change_text s t conn c told text changes h (inl is) =
+    is ∙ ap (λ (k : CatalogShape). reply_text k told) (told_catalog s t conn c told h)
+change_text s t conn c told text changes h (inr q) = not_false (sym (told_short s t conn c told changes h) ∙ q.0)
+
+pub change_put : (s t : HeldDatabase) (conn : ℕ) (c : Command) (told : Said) (text : List ℕ) (changed : Bool) → looks_up c ≡ false
+    → ToldOrMemory (done_without c ≡ false) (performed s conn c) s told t → PutOrMemory t.database.catalog told text → changed ≡ may_change c told
+    → AnsweredOrMemory (done_without c ≡ false) (performed s conn c) (may_change c (performed s conn c).0) s text changed t
+change_put s t conn c told text changed changes (inl p) made is =
+    let given = change_text {A = done_without c ≡ false} s t conn c told text changes (inl p) made in
+    inl ((given ∙ ap (reply_text s.database.catalog) p.0, p.1), is ∙ ap (may_change c) p.0)
+change_put s t conn c told text changed changes (inr p) made is =
+    let given = change_text {A = done_without c ≡ false} s t conn c told text changes (inr p) made in
+    inr (p.0, (given ∙ memory_text s.database.catalog told p.1, p.2), is ∙ memory_quiet c told p.1)

@@ -14,6 +14,7 @@ use Rattle.mi_protocol.specs.declared.binding.Command.TheVariants as command
 use Rattle.mi_commands.specs.Asked.{Asked, text, too_long}
 use Rattle.mi_commands.specs.Holder.{HeldDatabase, is_busy}
 use Rattle.mi_commands.specs.Performed.{performed}
+use Rattle.mi_commands.specs.Told.{may_change}
 
 -- a refusal, which leaves all as it is
 abbrev pub refusal : HeldDatabase → Refusal → Said × HeldDatabase
@@ -69,3 +70,22 @@ GivenOrMemory MayLack a s reply t = IsGiven a s reply t ⊎ (MayLack × IsGiven 
 -- From s, this line of the connection may be given this reply, and t is left.
 abbrev pub MayGive : ℕ → HeldDatabase → Asked → List ℕ → HeldDatabase → Type 0
 MayGive conn s line reply t = GivenOrMemory (MayLackMemory line) (answer s conn line) s reply t
+
+-- whether what a command tells may be a change; a refusal in its place is none
+abbrev pub command_changes : HeldDatabase → ℕ → Result Command Refusal → Bool
+command_changes s conn (Ok c) = may_change c (performed s conn c).0
+command_changes s conn (Err e) = false
+
+-- whether the answer to a line may be a change
+abbrev pub line_changes : HeldDatabase → ℕ → Asked → Bool
+line_changes s conn (text t) = command_changes s conn (command_of s conn (command_line t))
+line_changes s conn too_long = false
+
+-- this answer, and it is said whether it may be a change; or that refusal, which is said to be none
+abbrev pub AnsweredOrMemory : Type 0 → Said × HeldDatabase → Bool → HeldDatabase → List ℕ → Bool → HeldDatabase → Type 0
+AnsweredOrMemory MayLack a may s reply changed t =
+    (IsGiven a s reply t × (changed ≡ may)) ⊎ (MayLack × IsGiven (refusal s Memory) s reply t × (changed ≡ false))
+
+-- From s, this line may be given this reply, and t is left; and `changed` is said of it.
+abbrev pub MayAnswer : ℕ → HeldDatabase → Asked → List ℕ → Bool → HeldDatabase → Type 0
+MayAnswer conn s line reply changed t = AnsweredOrMemory (MayLackMemory line) (answer s conn line) (line_changes s conn line) s reply changed t

@@ -2,8 +2,8 @@
 pub mod Asked
 pub mod Holder
 pub mod Performed
-pub mod Answer
 pub mod Told
+pub mod Answer
 pub mod Acts
 pub mod Undone
 pub mod Calls

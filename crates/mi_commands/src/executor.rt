@@ -41,7 +41,7 @@ impl<D: Sessions + Drop> Model for Executor<D> {
 impl<D: Sessions + Drop> Executor<D> {
     ghost use Rattle.mi_commands.specs.Holder.{released};
     ghost use Rattle.mi_commands.specs.Performed.{performed};
-    ghost use Rattle.mi_commands.specs.Answer.{command_of, done_without, TakesNone, GivenOrMemory, MayGive};
+    ghost use Rattle.mi_commands.specs.Answer.{command_of, done_without, TakesNone, MayGive, AnsweredOrMemory, MayAnswer};
     ghost use Rattle.mi_commands.specs.Asked.{text, asked_of};
 
     /// A database that nobody holds sessions of. It takes no memory; until `make_labels` has made labels, rows are written without.
@@ -96,26 +96,42 @@ impl<D: Sessions + Drop> Executor<D> {
         undo_times(&mut self.database, count);
     }
 
-    /// Answers a line of a connection: the output has its reply then, and nothing else. `memory` may stand in the place of any answer, and then
-    /// nothing has changed; but not to an over-long line, nor to one of a session command other than `start`, of `revision`, of `size` or
-    /// of `rank` that is written without spaces.
-    pub fn answer(&mut self, conn: u64, line: Line<'_>, out: &mut Output)
-        ensures { MayGive conn self.old (asked_of line.entry) out.new self.new }
+    /// Answers a line of a connection: the output has its reply then, and nothing else. It says whether tables, sessions or holder may have
+    /// changed; where they haven't, all is as before. `memory` may stand in the place of any answer, and then nothing has changed; but not to
+    /// an over-long line, nor to one of a session command other than `start`, of `revision`, of `size` or of `rank` that is written
+    /// without spaces.
+    pub fn answer(&mut self, conn: u64, line: Line<'_>, out: &mut Output) -> bool
+        ensures given { MayGive conn self.old (asked_of line.entry) out.new self.new }
+        ensures changed { MayAnswer conn self.old (asked_of line.entry) out.new result self.new }
+        ensures kept { result ≡ false → self.new ≡ self.old }
+    {
+        self.answer_line(conn, line, out)
+    }
+
+    /// Answers a line, and says whether anything may have changed.
+    fn answer_line(&mut self, conn: u64, line: Line<'_>, out: &mut Output) -> bool
+        ensures { MayAnswer conn self.old (asked_of line.entry) out.new result self.new }
     {
         match line {
             Line::Text(text) => self.answer_text(conn, text, out),
-            Line::TooLong => self.refuse(Refusal::Line, out),
+            Line::TooLong => {
+                self.refuse(Refusal::Line, out);
+                false
+            }
         }
     }
 
-    /// Does a command that fits the catalog. The session commands other than a start, `revision`, `size` and `rank` take no memory.
-    fn perform(&mut self, conn: u64, command: Command, out: &mut Output)
+    /// Does a command that fits the catalog, and says whether anything may have changed. The session commands other than a start, `revision`,
+    /// `size` and `rank` take no memory.
+    fn perform(&mut self, conn: u64, command: Command, out: &mut Output) -> bool
         requires { FitsCatalog self.old.database.catalog command }
-        ensures { GivenOrMemory (done_without command ≡ false) (performed self.old conn command) self.old out.new self.new }
+        ensures { AnsweredOrMemory (done_without command ≡ false) (performed self.old conn command)
+            (spec.may_change command (performed self.old conn command).0) self.old out.new result self.new }
     {
         if looks_up(&command) {
             let reply = self.look(conn, &command);
             out.put(self.alloc, &reply, self.database.catalog(), &self.labels);
+            false
         } else {
             let outcome = self.change(conn, command);
             out.put(
@@ -124,6 +140,7 @@ impl<D: Sessions + Drop> Executor<D> {
                 self.database.catalog(),
                 &self.labels,
             );
+            outcome.changed
         }
     }
 
@@ -142,13 +159,16 @@ impl<D: Sessions + Drop> Executor<D> {
         bind(self.alloc, request, self.database.catalog())
     }
 
-    /// Answers a line that is not over-long.
-    fn answer_text(&mut self, conn: u64, bytes: &[u8], out: &mut Output)
-        ensures { MayGive conn self.old (text bytes.now) out.new self.new }
+    /// Answers a line that is not over-long, and says whether anything may have changed.
+    fn answer_text(&mut self, conn: u64, bytes: &[u8], out: &mut Output) -> bool
+        ensures { MayAnswer conn self.old (text bytes.now) out.new result self.new }
     {
         match self.read(conn, bytes) {
             Ok(command) => self.perform(conn, command, out),
-            Err(refusal) => self.refuse(refusal, out),
+            Err(refusal) => {
+                self.refuse(refusal, out);
+                false
+            }
         }
     }
 

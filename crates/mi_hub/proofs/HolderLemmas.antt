@@ -66,7 +66,7 @@ module _ (cs : List Connection) where
     by_answer s (text t) h = by_bound s (command_of s conn (command_line t)) h
     by_answer s too_long h = h
 
-    by_reply : (s t : HeldDatabase) (line : Asked) (reply : List ℕ) → MayGive conn s line reply t
+    pub by_reply : (s t : HeldDatabase) (line : Asked) (reply : List ℕ) → MayGive conn s line reply t
         → holder_is_attached s.holder cs ≡ true → holder_is_attached t.holder cs ≡ true
     by_reply s t line reply (inl p) h = ap (λ (u : HeldDatabase). holder_is_attached u.holder cs) p.1 ∙ by_answer s line h
     by_reply s t line reply (inr p) h = ap (λ (u : HeldDatabase). holder_is_attached u.holder cs) p.1.1 ∙ h

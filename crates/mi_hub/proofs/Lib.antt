@@ -7,4 +7,5 @@ pub mod WriteLemmas
 pub mod TurnLemmas
 pub mod DriveLemmas
 pub mod RestLemmas
+pub mod OneLineLemmas
 pub mod HolderLemmas

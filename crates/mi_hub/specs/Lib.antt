@@ -4,6 +4,7 @@ pub mod Lines
 pub mod Served
 pub mod Connections
 pub mod Run
+pub mod OneLine
 pub mod Drive
 pub mod Watching
 pub mod ConnectionTurn

@@ -1,25 +1,29 @@
 //! Connections by turns over one database. A call does one event of one connection, and nothing else changes.
 ghost use Rattle.std.specs.Prelude.{◌≡◌, ◌≢◌, ◌↔◌, ◌⊎◌, ◌≤◌, ℕ, List, [], true, None, Some, Err};
-ghost use Rattle.std.specs.Prelude.{MatchOption, IfSome, IsSome, OnOk, OnErr, length, ◌<◌, option_map};
+ghost use Rattle.std.specs.Prelude.{MatchOption, IfSome, IsSome, IfOk, OnOk, OnErr, Ok, false, ◌++◌, length, ◌<◌, option_map};
 ghost use Rattle.std.specs.List.{remove};
 ghost use Rattle.mi_value.specs.declared.limits.TheConstants.{MAX_CONNECTIONS};
 ghost use Rattle.mi_hub.specs.Lines.{extended};
+ghost use Rattle.mi_commands.specs.Asked.{asked_of};
+ghost use Rattle.mi_commands.specs.Answer.{MayAnswer};
 ghost use Rattle.mi_commands.specs.Holder.{released};
 ghost use Rattle.mi_hub.specs.Connections.{rest_at, others};
+ghost use Rattle.mi_hub.specs.OneLine.{IsWholeLine, AsksLine};
 ghost use Rattle.mi_hub.specs.Places.{StandsAt};
 ghost use Rattle.mi_hub.specs.Run.{piece, close, cut, attach, Done, Failed};
+ghost use Rattle.mi_hub.specs.Served.{with_newline};
 ghost use Rattle.mi_hub.specs.Watching.{has_failed, Writes};
 
 use crate::connection::{Connection, place_of};
 use crate::fault::HubFault;
-use crate::line::LineBuffer;
+use crate::line::{LineBuffer, whole_line};
 use crate::serve::{Answering, serve_last, serve_piece};
 use crate::watched::Watched;
 use mi_commands::{Executor, Line};
 use mi_protocol::Output;
 use mi_sessions::Sessions;
 use mi_value::limits::MAX_CONNECTIONS;
-use std::alloc::Global;
+use std::alloc::{AllocError, Global};
 use std::io::Write;
 use std::marker::Model;
 
@@ -147,6 +151,39 @@ impl<D: Sessions + Drop> Hub<D> {
                 self.leave(at, conn);
                 Err(HubFault::Write)
             }
+        }
+    }
+
+    /// An attached connection asks one line: its bytes up to and with a newline, behind which it has sent nothing that isn't asked. The reply
+    /// goes behind `replies` with its newline. It says whether tables, sessions or holder may have changed; where they haven't, all is as before.
+    ///
+    /// An error where the reply has no room: what was asked may be done.
+    pub fn ask_line(&mut self, conn: u64, line: &[u8], replies: &mut Vec<u8>) -> Result<bool, AllocError>
+        requires attached { rest_at conn self.old.attached ≡ Some (Some []) }
+        requires whole { IsWholeLine line.now }
+        ensures ok { IfOk result (λ changed. (out : List ℕ) × (replies.new.items ≡ replies.old.items ++ out)
+            × AsksLine conn line.now out changed self.old self.new) }
+        ensures kept { result ≡ Ok false → self.new.held ≡ self.old.held }
+        ensures attached { self.new.attached ≡ self.old.attached }
+    {
+        match whole_line(line) {
+            Some(asked) => self.ask(conn, asked, replies),
+            None => Ok(false),
+        }
+    }
+
+    /// Asks a line of an attached connection, and puts its reply behind `replies`.
+    fn ask(&mut self, conn: u64, line: Line<'_>, replies: &mut Vec<u8>) -> Result<bool, AllocError>
+        requires { IsSome (rest_at conn self.old.attached) }
+        ensures ok { IfOk result (λ changed. (reply : List ℕ) × (replies.new.items ≡ replies.old.items ++ with_newline reply)
+            × MayAnswer conn self.old.held (asked_of line.entry) reply changed self.new.held) }
+        ensures kept { result ≡ Ok false → self.new.held ≡ self.old.held }
+        ensures attached { self.new.attached ≡ self.old.attached }
+    {
+        let changed = self.executor.answer(conn, line, &mut self.output);
+        match replies.extend_from_slice(self.output.line()) {
+            Ok(()) => Ok(changed),
+            Err(error) => Err(error),
         }
     }
 

@@ -1,8 +1,9 @@
 //! The rest of a connection's bytes that is no whole line yet, and the line that it ends.
 //! It takes its whole room at the start, and grows by nothing later.
-ghost use Rattle.std.specs.Prelude.{◌≡◌, [], option_map, IfOk, Some, IsTrue, ◌↔◌};
+ghost use Rattle.std.specs.Prelude.{◌≡◌, [], option_map, option_to_list, IfOk, Some, IsTrue, ◌↔◌};
 ghost use Rattle.mi_commands.specs.Asked.{asked_of};
-ghost use Rattle.mi_hub.specs.Lines.{extended, ended_line, last_line, marked, without_return, unless_empty};
+ghost use Rattle.mi_hub.specs.Lines.{extended, ended_line, last_line, marked, without_return, unless_empty, lines_of};
+ghost use Rattle.mi_hub.specs.OneLine.{IsWholeLine};
 
 use mi_commands::Line;
 use mi_value::limits::MAX_LINE;
@@ -102,6 +103,17 @@ pub fn ended_text(text: &[u8]) -> Option<Line<'_>>
         return Some(Line::TooLong);
     }
     some_text(strip_return(text))
+}
+
+/// The line that these bytes are, which end with their one newline; an empty one is none.
+pub fn whole_line(bytes: &[u8]) -> Option<Line<'_>>
+    requires { IsWholeLine bytes.now }
+    ensures { option_to_list (option_map asked_of result) ≡ lines_of bytes.now }
+{
+    match bytes.split_last() {
+        Some((_newline, text)) => ended_text(text),
+        None => None,
+    }
 }
 
 fn strip_return(text: &[u8]) -> &[u8]

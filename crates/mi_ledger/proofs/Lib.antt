@@ -1,5 +1,3 @@
-mod BelongsLemmas
 pub mod JournalLemmas
 mod ReplayLemmas
-mod JudgeLemmas
 mod TakenLemmas

@@ -14,11 +14,11 @@ use Rattle.mi_hub.specs.Ended.{ended, if_none, after_newlines}
 use Rattle.mi_hub.specs.Lines.{lines_of, rest_of, lines_from}
 use Rattle.mi_hub.proofs.LineLemmas.{lines_from-nothing, from_unended, from_rests, unended_all, parts_at, after-at}
 use Rattle.mi_replay.specs.Replayed.{replayer, replayed}
-use Rattle.mi_ledger.specs.Journals.{IsWholeLine}
+use Rattle.mi_hub.specs.OneLine.{IsWholeLine}
+use Rattle.mi_hub.proofs.OneLineLemmas.{whole_line}
 use Rattle.mi_ledger.specs.declared.replaying.ReplayFault.{ReplayFault}
 use Rattle.mi_ledger.specs.declared.replaying.ReplayFault.TheVariants.{Damaged}
 use Rattle.mi_ledger.specs.Replay.{Onward, Passes, HasPassed, IsTorn}
-use Rattle.mi_ledger.proofs.JournalLemmas.{whole_line}
 
 both_true : (a b : Bool) → (a && b) ≡ true → (a ≡ true) × (b ≡ true)
 both_true true b h = (refl, h)

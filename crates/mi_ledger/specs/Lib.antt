@@ -1,5 +1,4 @@
 -- To be read in this order.
-pub mod Belongs
 pub mod HeldReplies
 pub mod Journals
 pub mod Ledger

@@ -1,12 +1,15 @@
 -- How far a replay has come: of "start⏎undo⏎st" the first line is asked, and "undo⏎st" is left; then the second, and "st" is torn.
-use Rattle.std.specs.Prelude.{◌≡◌, ◌⊎◌, ℕ, zero, suc, List, [], ◌∷◌, ◌++◌, false, ⊤, Option, Some, None}
+use Rattle.std.specs.Prelude.{◌≡◌, ◌⊎◌, ℕ, zero, suc, List, [], ◌∷◌, ◌++◌, Bool, true, false, ⊤, Option, Some, None, Ok, codes}
+use Rattle.mi_request.specs.Lines.{command_line}
+use Rattle.mi_request.specs.declared.request.Request.TheVariants.{Reserve}
+use Rattle.mi_commands.specs.Asked.{text}
 use Rattle.mi_commands.specs.Holder.{HeldDatabase, is_busy}
 use Rattle.mi_hub.specs.Ended.{after_newlines}
 use Rattle.mi_hub.specs.Lines.{lines_of}
-use Rattle.mi_hub.specs.Connections.{rest_at}
-use Rattle.mi_hub.specs.Run.{HubState, piece, Done}
+use Rattle.mi_hub.specs.Served.{with_newline}
+use Rattle.mi_hub.specs.Run.{HubState}
+use Rattle.mi_hub.specs.OneLine.{IsWholeLine, AsksLine}
 use Rattle.mi_replay.specs.Replayed.{replayer, replayed, memory_reply, IsSame}
-use Rattle.mi_ledger.specs.Journals.{IsWholeLine, IsTaken}
 
 -- From s, with these bytes left, lines were asked, and t and those bytes are left: what the others leave of t is what all leave of s.
 abbrev pub Onward : Option (List ℕ) → Option (List ℕ) → HeldDatabase → HeldDatabase → Type 0
@@ -29,14 +32,25 @@ HasPassed n (Some all) (Some left) = Passes n all left
 abbrev pub IsTorn : List ℕ → List ℕ → Type 0
 IsTorn bytes line = (lines_of bytes ≡ []) × (line ≡ after_newlines bytes)
 
--- the reply to a line that is refused for memory, and a byte behind it
-abbrev pub IsForMemory : List ℕ → Type 0
-IsForMemory reply = (newline : ℕ) × (reply ≡ memory_reply ++ newline ∷ [])
+-- the reply to a change that says no more; a reserve has it too
+abbrev pub done_reply : List ℕ
+done_reply = codes "{\"ok\":true}"
 
--- A line that a ledger keeps, since its reply may be a change's and nobody else holds sessions, is asked again by the replayer of the database
--- as it was then: its reply is one that a replay takes too, or `memory`.
+-- A replay takes a line of which is said that it may have changed something, and a reserve, which journals of former services have.
+abbrev pub IsTaken : Bool → List ℕ → Type 0
+IsTaken changed out = (changed ≡ true) ⊎ (out ≡ with_newline done_reply)
+
+-- the reply to a line that is refused for memory
+abbrev pub IsForMemory : List ℕ → Type 0
+IsForMemory out = out ≡ with_newline memory_reply
+
+-- A line that a ledger keeps is asked again by the replayer, of the database as it was then: a replay takes it again, or memory is wanting.
 abbrev pub KeptLinesAreTaken : Type 0
-KeptLinesAreTaken = (conn : ℕ) (line out again : List ℕ) (old new start end : HubState) → IsWholeLine line
-    → rest_at conn old.attached ≡ Some (Some []) → Done old (piece conn line) out new → is_busy old.held.holder conn ≡ false → IsTaken out
-    → rest_at replayer start.attached ≡ Some (Some []) → IsSame old.held start.held → Done start (piece replayer line) again end
-    → IsTaken again ⊎ IsForMemory again
+KeptLinesAreTaken = (conn : ℕ) (line out again : List ℕ) (changed : Bool) (old new start end : HubState) → AsksLine conn line out true old new
+    → IsSame old.held start.held → AsksLine replayer line again changed start end → IsTaken changed again ⊎ IsForMemory again
+
+-- So it does with a reserve.
+abbrev pub ReservesAreTaken : Type 0
+ReservesAreTaken = (line t again : List ℕ) (changes sessions : ℕ) (changed : Bool) (start end : HubState) → lines_of line ≡ text t ∷ []
+    → command_line t ≡ Ok (Reserve changes sessions) → is_busy start.held.holder replayer ≡ false
+    → AsksLine replayer line again changed start end → IsTaken changed again ⊎ IsForMemory again

@@ -1,6 +1,6 @@
 //! Laws over the definitions, each the contract of a function that does nothing.
 ghost use Rattle.mi_ledger.specs.Journals.{JournalsGoOn};
-ghost use Rattle.mi_ledger.specs.Replay.{KeptLinesAreTaken};
+ghost use Rattle.mi_ledger.specs.Replay.{KeptLinesAreTaken, ReservesAreTaken};
 
 use mi_replay::laws::journals_join;
 
@@ -11,8 +11,9 @@ pub fn journals_go_on()
     journals_join();
 }
 
-/// A line that a ledger keeps is taken by a replay: asked again of the same database, where nobody else holds sessions, it is answered
-/// as a change is, or `memory`.
+/// A line that a ledger keeps is taken by a replay: asked again of the same database, it is said to have changed something, or it is answered
+/// `memory`. A reserve, which former journals have, is taken too.
 pub fn kept_lines_are_taken()
-    ensures { KeptLinesAreTaken }
+    ensures kept { KeptLinesAreTaken }
+    ensures reserves { ReservesAreTaken }
 {}

@@ -1,22 +1,20 @@
 //! A hub whose lines are journaled: what changed anything is appended to a log as it is executed, and the replies go out once that stays.
 //! It reads and writes no stream.
-ghost use Rattle.std.specs.Prelude.{◌≡◌, ◌↔◌, ◌<◌, ◌++◌, ℕ, List, [], ◌∷◌, Some, Err, true, false, length, OnOk, OnErr, IfOk, IfErr, IsSome, IsTrue};
-ghost use Rattle.std.specs.Io.KnownBytes.{Keeps};
+ghost use Rattle.std.specs.Prelude.{◌≡◌, ◌↔◌, ◌<◌, ◌++◌, ℕ, List, [], ◌∷◌, Some, Err, true, false, length, OnOk, OnErr, IfOk, IfErr, IsSome, IsTrue, if◌then◌else◌};
+ghost use Rattle.std.specs.Io.KnownBytes.{Appends, Keeps};
 ghost use Rattle.mi_commands.specs.Holder.{held_by};
 ghost use Rattle.mi_hub.specs.Connections.{rest_at};
 ghost use Rattle.mi_hub.specs.Run.{attach, cut, Done, Refused};
 ghost use Rattle.mi_replay.specs.Acts.{leaves};
-ghost use Rattle.mi_ledger.specs.Belongs.{is_conn, holder_conn};
 ghost use Rattle.mi_ledger.specs.HeldReplies.{bytes_of};
-ghost use Rattle.mi_ledger.specs.Journals.{IsWholeLine, Decided, IsNoted, Journals, Asks};
+ghost use Rattle.mi_ledger.specs.Ledger.{is_conn, holder_conn};
+ghost use Rattle.mi_ledger.specs.Journals.{IsWholeLine, Journals, Asks};
 
-use crate::deciding::belongs;
 use crate::fault::LedgerFault;
 use crate::replies::HeldReplies;
-use mi_hub::{Hub, HubFault, Watched};
+use mi_hub::{Hub, HubFault};
 use mi_log::Log;
 use mi_sessions::Sessions;
-use std::alloc::Global;
 
 /// A hub, and the log that its journal is appended to.
 #[derive(Drop)]
@@ -24,7 +22,6 @@ pub struct Ledger<D: Sessions + Drop, L: Log + Drop> {
     hub: Hub<D>,
     log: L,
     unsynced: bool,
-    alloc: Global,
 }
 
 /// Whether a connection is the holder.
@@ -45,21 +42,11 @@ fn cut_off<D: Sessions + Drop>(hub: &mut Hub<D>, conn: u64)
     let _ = hub.cut(conn);
 }
 
-/// Whether a line that was answered so belongs in the journal; the reply has its newline.
-fn is_kept(holder: Option<u64>, conn: u64, reply: &[u8]) -> bool
-    ensures { Decided holder conn reply.now result }
-{
-    match reply.split_last() {
-        Some((_newline, text)) => belongs(holder, conn, text),
-        None => false,
-    }
-}
-
 impl<D: Sessions + Drop, L: Log + Drop> Ledger<D, L> {
     ghost use Rattle.mi_ledger.specs.Ledger.{hub_of, log_of, IsSettled};
 
     /// A hub, and the log that has the journal of what it was until now.
-    pub fn new(alloc: Global, hub: Hub<D>, log: L) -> Ledger<D, L>
+    pub fn new(hub: Hub<D>, log: L) -> Ledger<D, L>
         ensures hub { hub_of result ≡ hub }
         ensures log { log_of result ≡ log }
         ensures settled { IsSettled L.appended L.synced result }
@@ -68,7 +55,6 @@ impl<D: Sessions + Drop, L: Log + Drop> Ledger<D, L> {
             hub,
             log,
             unsynced: true,
-            alloc,
         }
     }
 
@@ -122,7 +108,7 @@ impl<D: Sessions + Drop, L: Log + Drop> Ledger<D, L> {
     }
 
     /// An attached connection asks a line: its bytes up to and with a newline, behind which it has sent nothing that was asked. Its reply
-    /// goes to those that are held. The line is appended where it belongs in the journal.
+    /// goes to those that are held. The line is appended where it may have changed something.
     ///
     /// `Memory` where the reply has no room, and then nothing was appended; `Journal` where the line isn't appended whole.
     pub fn ask(
@@ -140,36 +126,23 @@ impl<D: Sessions + Drop, L: Log + Drop> Ledger<D, L> {
         ensures makes_stay { L.makes_stay (log_of self.new) ≡ L.makes_stay (log_of self.old) }
         ensures settled { IsSettled L.appended L.synced self.old → IsSettled L.appended L.synced self.new }
     {
-        let holder = self.hub.holder();
-        let mut writer = Watched::new(Vec::new(self.alloc));
-        match self.hub.feed(conn, line, &mut writer) {
-            Ok(()) => self.note(holder, conn, line, writer.inner().as_slice(), replies),
-            Err(_fault) => Err(LedgerFault::Memory),
+        match self.hub.ask_line(conn, line, &mut replies.bytes) {
+            Ok(changed) => self.note(line, changed),
+            Err(_error) => Err(LedgerFault::Memory),
         }
     }
 
-    /// Holds the reply to a line, and appends the line where it belongs in the journal.
-    fn note(
-        &mut self,
-        holder: Option<u64>,
-        conn: u64,
-        line: &[u8],
-        reply: &[u8],
-        replies: &mut HeldReplies,
-    ) -> Result<(), LedgerFault>
+    /// Appends a line, where it may have changed something.
+    fn note(&mut self, line: &[u8], changed: bool) -> Result<(), LedgerFault>
         requires { 0 < length line.now }
-        ensures ok { OnOk result (IsNoted holder conn line.now reply.now (L.appended (log_of self.old)) (L.appended (log_of self.new))) }
-        ensures held { OnOk result (bytes_of replies.new ≡ bytes_of replies.old ++ reply.now) }
+        ensures ok { OnOk result (Appends (L.appended (log_of self.old)) (L.appended (log_of self.new)) (if changed then line.now else [])) }
         ensures hub { hub_of self.new ≡ hub_of self.old }
-        ensures memory { result ≡ Err LedgerFault.Memory → log_of self.new ≡ log_of self.old }
-        ensures journal { result ≡ Err LedgerFault.Journal → L.has_failed (log_of self.new) ≡ true }
+        ensures journal { OnErr result (result ≡ Err LedgerFault.Journal) }
+        ensures failed { OnErr result (L.has_failed (log_of self.new) ≡ true) }
         ensures makes_stay { L.makes_stay (log_of self.new) ≡ L.makes_stay (log_of self.old) }
         ensures settled { IsSettled L.appended L.synced self.old → IsSettled L.appended L.synced self.new }
     {
-        if replies.add(reply).is_err() {
-            return Err(LedgerFault::Memory);
-        }
-        if !is_kept(holder, conn, reply) {
+        if !changed {
             return Ok(());
         }
         self.unsynced = true;

@@ -1,16 +1,14 @@
 //! A line of a journal, asked again of a hub that nobody else asks.
-ghost use Rattle.std.specs.Prelude.{◌≡◌, ◌-◌, ◌⊎◌, ℕ, List, [], Some, Ok, Err, true, false, OnOk, IfSome};
+ghost use Rattle.std.specs.Prelude.{◌≡◌, ◌-◌, ◌⊎◌, ℕ, List, [], Bool, Some, Ok, Err, true, false, OnOk, IfSome};
 ghost use Rattle.mi_log.specs.LogLines.{reader_of, line_of};
 ghost use Rattle.mi_hub.specs.Ended.{after_newlines};
-ghost use Rattle.mi_ledger.specs.Replay.{Onward, HasPassed, IsTorn, IsForMemory};
+ghost use Rattle.mi_ledger.specs.Replay.{Onward, HasPassed, IsTorn, IsTaken, IsForMemory};
 ghost use Rattle.mi_hub.specs.Connections.{rest_at};
 ghost use Rattle.mi_hub.specs.Lines.{lines_of};
 ghost use Rattle.mi_replay.specs.Replayed.{replayer, replayed};
-ghost use Rattle.mi_hub.specs.Run.{piece, Done};
-ghost use Rattle.mi_ledger.specs.Journals.{IsWholeLine, IsTaken};
+ghost use Rattle.mi_hub.specs.OneLine.{IsWholeLine, AsksLine};
 
-use crate::deciding::may_be_change;
-use mi_hub::{Hub, Watched};
+use mi_hub::Hub;
 use mi_log::LogLines;
 use mi_sessions::Sessions;
 use std::alloc::Global;
@@ -22,7 +20,7 @@ pub const REPLAYER: u64 = 1;
 /// Why a line isn't replayed. What the hub is then isn't said.
 #[derive(Clone, Copy, Debug, PartialEq, Eq, Drop)]
 pub enum LineFault {
-    /// It isn't answered as the lines of a journal are: it is no command, or was refused, or asks for no change.
+    /// It isn't a line of a journal: it is no command, or was refused, or asks for no change.
     Refused,
     /// It was refused memory, or its reply was.
     Memory,
@@ -41,30 +39,28 @@ pub enum ReplayFault {
     Turns,
 }
 
-/// Whether a reply, with its newline, is one that a line of a journal has.
-fn judge(reply: &[u8]) -> Result<(), LineFault>
-    ensures ok { OnOk result (IsTaken reply.now) }
-    ensures refused { result ≡ Err LineFault.Refused → ¬ (IsTaken reply.now ⊎ IsForMemory reply.now) }
+/// Whether a line is one of a journal, of which is said whether it may have changed something: its reply, with the newline, tells a reserve,
+/// which former journals have, and that memory was wanting.
+fn judge(changed: bool, reply: &[u8]) -> Result<(), LineFault>
+    ensures ok { OnOk result (IsTaken changed reply.now) }
+    ensures refused { result ≡ Err LineFault.Refused → ¬ (IsTaken changed reply.now ⊎ IsForMemory reply.now) }
     ensures memory { result ≡ Err LineFault.Memory → IsForMemory reply.now }
 {
-    let Some((newline, text)) = reply.split_last() else {
-        return Err(LineFault::Refused);
-    };
-    if text == b"{\"error\":\"memory\",\"ok\":false}".as_slice() {
+    if changed {
+        return Ok(());
+    }
+    if reply == b"{\"ok\":true}\n".as_slice() {
+        return Ok(());
+    }
+    if reply == b"{\"error\":\"memory\",\"ok\":false}\n".as_slice() {
         return Err(LineFault::Memory);
     }
-    if *newline != b'\n' {
-        return Err(LineFault::Refused);
-    }
-    if !may_be_change(text) {
-        return Err(LineFault::Refused);
-    }
-    Ok(())
+    Err(LineFault::Refused)
 }
 
 /// Asks a line of a journal, with its newline, as the one connection that asks them, which is attached: the hub is left as the line leaves it
-/// where it is answered by the definition, and the reply is one that a line of a journal has. So the lines of a journal, asked one after another,
-/// leave what its run left.
+/// where it is answered by the definition, and the line is one of a journal. So the lines of a journal, asked one after another, leave what its
+/// run left.
 pub fn replay_line<D: Sessions + Drop>(
     alloc: Global,
     hub: &mut Hub<D>,
@@ -73,16 +69,16 @@ pub fn replay_line<D: Sessions + Drop>(
     requires attached { rest_at replayer hub.old.attached ≡ Some (Some []) }
     requires whole { IsWholeLine line.now }
     ensures ok { OnOk result (hub.new.held ≡ replayed (lines_of line.now) hub.old.held) }
-    ensures taken { OnOk result ((out : List ℕ) × Done hub.old (piece replayer line.now) out hub.new × IsTaken out) }
+    ensures taken { OnOk result ((out : List ℕ) × (changed : Bool) × AsksLine replayer line.now out changed hub.old hub.new × IsTaken changed out) }
     ensures refused { result ≡ Err LineFault.Refused
-        → (out : List ℕ) × Done hub.old (piece replayer line.now) out hub.new × ¬ (IsTaken out ⊎ IsForMemory out) }
+        → (out : List ℕ) × (changed : Bool) × AsksLine replayer line.now out changed hub.old hub.new × ¬ (IsTaken changed out ⊎ IsForMemory out) }
     ensures still { OnOk result (rest_at replayer hub.new.attached ≡ Some (Some [])) }
     ensures attached { OnOk result (hub.new.attached ≡ hub.old.attached) }
 {
-    let mut writer = Watched::new(Vec::new(alloc));
-    match hub.feed(REPLAYER, line, &mut writer) {
-        Ok(()) => judge(writer.inner().as_slice()),
-        Err(_fault) => Err(LineFault::Memory),
+    let mut reply = Vec::new(alloc);
+    match hub.ask_line(REPLAYER, line, &mut reply) {
+        Ok(changed) => judge(changed, reply.as_slice()),
+        Err(_error) => Err(LineFault::Memory),
     }
 }
 

@@ -1,12 +1,12 @@
 //! Replies that are not to go out yet.
-ghost use Rattle.std.specs.Prelude.{◌≡◌, ◌↔◌, ◌++◌, [], length, IsTrue, OnOk, OnErr};
+ghost use Rattle.std.specs.Prelude.{◌≡◌, ◌↔◌, [], length, IsTrue};
 
-use std::alloc::{AllocError, Global};
+use std::alloc::Global;
 
 /// Replies to lines whose journal may not stay yet. A ledger hands their bytes out, once it does.
 #[derive(Drop)]
 pub struct HeldReplies {
-    bytes: Vec<u8>,
+    pub(crate) bytes: Vec<u8>,
 }
 
 impl HeldReplies {
@@ -33,14 +33,6 @@ impl HeldReplies {
         ensures { IsTrue result ↔ (bytes_of self.now ≡ []) }
     {
         self.bytes.is_empty()
-    }
-
-    /// A reply more, with its newline. An error leaves them as they are.
-    pub(crate) fn add(&mut self, reply: &[u8]) -> Result<(), AllocError>
-        ensures ok { OnOk result (bytes_of self.new ≡ bytes_of self.old ++ reply.now) }
-        ensures err { OnErr result (bytes_of self.new ≡ bytes_of self.old) }
-    {
-        self.bytes.extend_from_slice(reply)
     }
 
     /// Their bytes.

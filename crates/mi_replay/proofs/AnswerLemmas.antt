@@ -1,6 +1,6 @@
 -- What an answer leaves depends on who asks in one way alone: another's sessions keep changes and session commands out.
 use Rattle.std.proofs.Common.{◌≡◌, ◌≢◌, ℕ, ◌+◌, ◌-◌, ◌≤◌, min, List, [], ◌∷◌, Bool, true, false, cond, not, ◌&&◌, nat_eq, nat_le, length}
-use Rattle.std.proofs.Common.{Option, Some, None, Result, Ok, Err, refl, sym, ap, ◌∙◌, subst, arith, inl, inr}
+use Rattle.std.proofs.Common.{Option, Some, None, Result, Ok, Err, refl, sym, ap, ◌∙◌, subst, arith, inl, inr, true≢false}
 use Rattle.std.proofs.Math.Nat.{le_trans}
 use Rattle.mi_value.specs.declared.refusal.Refusal.{Refusal}
 use Rattle.mi_value.specs.declared.refusal.Refusal.TheVariants.{Busy, Spent, Depth}
@@ -21,19 +21,21 @@ use Rattle.mi_protocol.specs.Replies.{Said}
 use Rattle.mi_protocol.specs.declared.binding.Command.{Command}
 use Rattle.mi_protocol.specs.declared.binding.Command.TheVariants as command
 use Rattle.mi_commands.specs.Asked.{Asked, text, too_long}
-use Rattle.mi_commands.specs.Answer.{answer, command_answer, command_of, MayGive}
+use Rattle.mi_commands.specs.Answer.{answer, command_answer, command_of, command_changes, line_changes, MayGive}
+use Rattle.mi_commands.proofs.ToldLemmas.{look_quiet, line_keeps, answer_keeps}
 use Rattle.mi_commands.specs.Holder.{HeldDatabase, is_busy, one_more, one_less, at_most, held_count, held_by, without_holder}
 use Rattle.mi_commands.specs.Performed.{performed, holder_after, or_session, effect, moved}
 use Rattle.mi_commands.specs.Performed.{Move, stays, one_up, one_down, down_to, to_nobody, lets_go, if_accepted}
 use Rattle.mi_commands.specs.declared.holder.Holder.{Holder}
 use Rattle.mi_replay.specs.Journal.{undo_line}
 use Rattle.mi_replay.specs.Replayed.{replayer}
+use Rattle.mi_replay.specs.ReplayLaws.{ChangedLinesGoIn}
 
 -- ---- what keeps out, and what doesn't
 
--- a command that leaves all as it is
+-- a command that is no change
 abbrev pub IsQuiet : HeldDatabase → ℕ → Result Command Refusal → Type 0
-IsQuiet s conn c = (command_answer s conn c).1 ≡ s
+IsQuiet s conn c = command_changes s conn c ≡ false
 
 module _ (s : HeldDatabase) (conn : ℕ) where
   quiet_then : {A : Type 0} (f : A → Result Command Refusal) (x : Result A Refusal) → ((v : A) → IsQuiet s conn (f v)) → IsQuiet s conn (and_then f x)
@@ -41,22 +43,26 @@ module _ (s : HeldDatabase) (conn : ℕ) where
   quiet_then f (Err e) h = refl
 
   -- what isn't kept out is a look-up
-  pub look_up_quiet : (c : CatalogShape) (r : Request) → keeps_out r ≡ false → IsQuiet s conn (bound_command c r)
+  look_up_quiet : (c : CatalogShape) (r : Request) → keeps_out r ≡ false → IsQuiet s conn (bound_command c r)
   look_up_quiet c request.Revision h = refl
-  look_up_quiet c (request.Get table id) h = quiet_then _ (table_number c table) (λ n. refl)
+  look_up_quiet c (request.Get table id) h = quiet_then _ (table_number c table) (λ n. look_quiet s conn (command.Get n id) refl)
   look_up_quiet c (request.Find table index key) h =
-      quiet_then _ (table_number c table) (λ n. quiet_then _ (key_or_prefix (schema_at c n) index key) (λ k. refl))
+      quiet_then _ (table_number c table) (λ n. quiet_then _ (key_or_prefix (schema_at c n) index key)
+      (λ k. look_quiet s conn (command.Find n k.0 k.1) refl))
   look_up_quiet c (request.Nth table index n) h =
-      quiet_then _ (table_number c table) (λ t. quiet_then _ (index_number is_ranked (schema_at c t) index) (λ x. refl))
+      quiet_then _ (table_number c table) (λ t. quiet_then _ (index_number is_ranked (schema_at c t) index)
+      (λ x. look_quiet s conn (command.Nth t x n) refl))
   look_up_quiet c (request.Count table index key) h =
       quiet_then _ (table_number c table) (λ n. quiet_then _ (key_or_prefix (schema_at c n) index key) (λ k. refl))
   look_up_quiet c (request.Range table index lower upper reverse limit) h =
       quiet_then _ (table_number c table) (λ n. quiet_then _ (index_number is_sorted (schema_at c n) index)
       (λ x. quiet_then _ (bound_ends (schema_at c n) x lower upper) (λ e. refl)))
   look_up_quiet c (request.List table index after limit) h =
-      quiet_then _ (table_number c table) (λ n. quiet_then _ (index_number is_sequenced (schema_at c n) index) (λ x. refl))
+      quiet_then _ (table_number c table) (λ n. quiet_then _ (index_number is_sequenced (schema_at c n) index)
+      (λ x. look_quiet s conn (command.List n x after limit) refl))
   look_up_quiet c (request.Rank table index id) h =
-      quiet_then _ (table_number c table) (λ n. quiet_then _ (index_number is_ranked (schema_at c n) index) (λ x. refl))
+      quiet_then _ (table_number c table) (λ n. quiet_then _ (index_number is_ranked (schema_at c n) index)
+      (λ x. look_quiet s conn (command.Rank n x id) refl))
   look_up_quiet c (request.LowerRank table index key) h =
       quiet_then _ (table_number c table) (λ n. quiet_then _ (ranked_key (schema_at c n) index key) (λ k. refl))
   look_up_quiet c (request.UpperRank table index key) h =
@@ -64,7 +70,7 @@ module _ (s : HeldDatabase) (conn : ℕ) where
   look_up_quiet c (request.Size table) h = quiet_then _ (table_number c table) (λ n. refl)
   look_up_quiet c r h = absurd (cc)
 
-  pub kept_out : (busy keeps : Bool) (c : Result Command Refusal) → busy ≡ true → (keeps ≡ false → IsQuiet s conn c)
+  kept_out : (busy keeps : Bool) (c : Result Command Refusal) → busy ≡ true → (keeps ≡ false → IsQuiet s conn c)
       → IsQuiet s conn (cond (keeps && busy) (Err Busy) c)
   kept_out true true c b h = refl
   kept_out true false c b h = h refl
@@ -74,10 +80,27 @@ module _ (s : HeldDatabase) (conn : ℕ) where
   request_quiet b (Ok r) = kept_out (is_busy s.holder conn) (keeps_out r) (bound_command s.database.catalog r) b (look_up_quiet s.database.catalog r)
   request_quiet b (Err e) = refl
 
-  -- a connection that another's sessions keep out changes nothing
-  pub busy_quiet : is_busy s.holder conn ≡ true → (line : Asked) → (answer s conn line).1 ≡ s
+  -- a connection that another's sessions keep out makes no change
+  busy_quiet : is_busy s.holder conn ≡ true → (line : Asked) → line_changes s conn line ≡ false
   busy_quiet b (text t) = request_quiet b (command_line t)
   busy_quiet b too_long = refl
+
+  pub busy_keeps : is_busy s.holder conn ≡ true → (line : Asked) → (answer s conn line).1 ≡ s
+  busy_keeps b line = line_keeps s conn line (busy_quiet b line)
+
+  -- so one that makes a change isn't kept out
+  pub change_free : (line : Asked) → line_changes s conn line ≡ true → is_busy s.holder conn ≡ false
+  change_free line changes = by_busy (is_busy s.holder conn) refl
+    where
+      by_busy : (b : Bool) → is_busy s.holder conn ≡ b → is_busy s.holder conn ≡ false
+      by_busy true is = absurd (true≢false (sym changes ∙ busy_quiet is line))
+      by_busy false is = is
+
+-- what is said to be a change is put in, and nothing else
+pub changed_lines_go_in : ChangedLinesGoIn
+changed_lines_go_in conn line reply true old new (inl p) = inr (refl, change_free old conn line (sym p.1), p.0.1)
+changed_lines_go_in conn line reply true old new (inr p) = absurd (true≢false p.2)
+changed_lines_go_in conn line reply false old new p = inl (refl, answer_keeps conn old new line reply false p refl)
 
 -- so a line that changes anything was not kept out, and not refused for memory
 pub change_kept : (conn : ℕ) (line : Asked) (reply : List ℕ) (old new : HeldDatabase) → MayGive conn old line reply new → new ≢ old
@@ -86,7 +109,7 @@ change_kept conn line reply old new (inr p) differs = absurd (differs p.1.1)
 change_kept conn line reply old new (inl p) differs = by_busy (is_busy old.holder conn) refl
   where
     by_busy : (b : Bool) → is_busy old.holder conn ≡ b → (is_busy old.holder conn ≡ false) × (new ≡ (answer old conn line).1)
-    by_busy true is = absurd (differs (p.1 ∙ busy_quiet old conn is line))
+    by_busy true is = absurd (differs (p.1 ∙ busy_keeps old conn is line))
     by_busy false is = (is, p.1)
 
 -- ---- the moves of the holder count

@@ -1,6 +1,5 @@
 mod UndoLemmas
-mod AnswerLemmas
-mod LeftOutLemmas
+pub mod AnswerLemmas
 pub mod JoinLemmas
 mod ReplayLemmas
 mod FrontLemmas

@@ -10,7 +10,7 @@ use Rattle.mi_replay.specs.Acts.{Act, asks, leaves, Acts}
 use Rattle.mi_replay.specs.Journal.{undo_line, Keeps, JournalOf}
 use Rattle.mi_replay.specs.Replayed.{replayer, replayed, unheld, IsSame, IsSameLess}
 use Rattle.mi_replay.specs.ReplayLaws.{ReplaysAreRuns, RunsHaveJournals, JournalsReplay, ReplaysEndAsRuns}
-use Rattle.mi_replay.proofs.AnswerLemmas.{busy_quiet, held_by_holder, held_by_other, without_free, without_busy}
+use Rattle.mi_replay.proofs.AnswerLemmas.{busy_keeps, held_by_holder, held_by_other, without_free, without_busy}
 use Rattle.mi_replay.proofs.AnswerLemmas.{Twin, twin_line, on, undo_left, depth_undone, less_count, less_free}
 
 -- ---- lines asked one after another
@@ -169,7 +169,7 @@ keeps_some (asks conn line reply) old new (inr p) = ([], inl (refl, p.1.1))
 keeps_some (asks conn line reply) old new (inl p) = by_busy (is_busy old.holder conn) refl
   where
     by_busy : (b : Bool) → is_busy old.holder conn ≡ b → (kept : List Asked) × Keeps old (asks conn line reply) new kept
-    by_busy true busy = ([], inl (refl, p.1 ∙ busy_quiet old conn busy line))
+    by_busy true busy = ([], inl (refl, p.1 ∙ busy_keeps old conn busy line))
     by_busy false free = (line ∷ [], inr (refl, free, p.1))
 
 pub runs_have_journals : RunsHaveJournals

@@ -1,6 +1,5 @@
 -- To be read in this order.
 pub mod Journal
-pub mod LeftOut
 pub mod Replayed
 pub mod ReplayLaws
 pub mod RunActs

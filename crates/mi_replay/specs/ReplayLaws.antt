@@ -1,15 +1,15 @@
 -- Laws of journals, as clauses state them.
-use Rattle.std.specs.Prelude.{◌≡◌, ◌≢◌, ◌⊎◌, ℕ, ◌<◌, Some, option_to_list, List, [], ◌∷◌, ◌++◌, replicate, false}
+use Rattle.std.specs.Prelude.{◌≡◌, ◌≢◌, ◌⊎◌, ℕ, ◌<◌, Some, option_to_list, List, [], ◌∷◌, ◌++◌, replicate, Bool, false, if◌then◌else◌}
 use Rattle.std.specs.List.{AllByRecursion}
 use Rattle.mi_model.specs.Database.{Database}
 use Rattle.mi_commands.specs.Asked.{Asked}
-use Rattle.mi_commands.specs.Answer.{answer, MayGive}
+use Rattle.mi_commands.specs.Answer.{answer, MayGive, MayAnswer}
 use Rattle.mi_commands.specs.Holder.{HeldDatabase, is_busy, held_by, released}
 use Rattle.mi_hub.specs.Served.{InTurn}
 use Rattle.mi_hub.specs.Ended.{ended}
 use Rattle.mi_hub.specs.Lines.{marked, ended_line, lines_of, rest_of}
-use Rattle.mi_replay.specs.Acts.{Act, leaves, AllActs}
-use Rattle.mi_replay.specs.Journal.{undo_line, JournalOf}
+use Rattle.mi_replay.specs.Acts.{Act, asks, leaves, AllActs}
+use Rattle.mi_replay.specs.Journal.{undo_line, Keeps, JournalOf}
 use Rattle.mi_replay.specs.Replayed.{replayer, replayed, memory_reply, unheld, IsSame, IsSameLess}
 
 -- Lines that the replayer asks one after another, as a hub asks those of a piece, leave what replaying them leaves, where none is refused for
@@ -26,6 +26,11 @@ RunsHaveJournals = (old new : HeldDatabase) (acts : List Act) → AllActs old ac
 abbrev pub ChangesMayBeKept : Type 0
 ChangesMayBeKept = (conn : ℕ) (line : Asked) (reply : List ℕ) (old new : HeldDatabase) → MayGive conn old line reply new → new ≢ old
     → (is_busy old.holder conn ≡ false) × (new ≡ (answer old conn line).1)
+
+-- A line of which is said that it may have changed something can be put in, and any other may stay out.
+abbrev pub ChangedLinesGoIn : Type 0
+ChangedLinesGoIn = (conn : ℕ) (line : Asked) (reply : List ℕ) (changed : Bool) (old new : HeldDatabase)
+    → MayAnswer conn old line reply changed new → Keeps old (asks conn line reply) new (if changed then line ∷ [] else [])
 
 -- A journal, asked again of the database that its run began with, gives the run's database, and as many sessions held.
 abbrev pub JournalsReplay : Type 0

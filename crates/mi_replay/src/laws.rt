@@ -1,7 +1,6 @@
 //! Laws over the definitions, each the contract of a function that does nothing: what a journal of a run is good for.
-ghost use Rattle.mi_replay.specs.LeftOut.{RefusalsChangeNothing, LookUpsChangeNothing};
 ghost use Rattle.mi_replay.specs.RunActs.{RunsAreActs, HubsReplay};
-ghost use Rattle.mi_replay.specs.ReplayLaws.{RunsHaveJournals, ChangesMayBeKept, JournalsReplay, ReplaysEndAsRuns, JournalsJoin};
+ghost use Rattle.mi_replay.specs.ReplayLaws.{RunsHaveJournals, ChangesMayBeKept, ChangedLinesGoIn, JournalsReplay, ReplaysEndAsRuns, JournalsJoin};
 ghost use Rattle.mi_replay.specs.ReplayLaws.{ReplaysAreRuns, FrontsReplay, TornFilesReplay, FilesGrowByLines};
 ghost use Rattle.mi_replay.specs.UndoneBytes.{UndoBytesTakeBack, UndoBytesAreGiven};
 
@@ -13,11 +12,9 @@ pub fn runs_have_journals()
     ensures changes { ChangesMayBeKept }
 {}
 
-/// A line that is refused changes nothing, unless a modify lost its record; nor does a look-up or a reserve. So these may stay out of a
-/// journal.
-pub fn quiet_lines_stay_out()
-    ensures refusals { RefusalsChangeNothing }
-    ensures look_ups { LookUpsChangeNothing }
+/// A line of which the executor says that it may have changed something can be put into a journal. Any other may stay out of it.
+pub fn changed_lines_go_in()
+    ensures { ChangedLinesGoIn }
 {}
 
 /// The journals of two runs, the second from where the first ends, are together the journal of both.

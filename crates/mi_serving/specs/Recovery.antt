@@ -5,7 +5,7 @@ use Rattle.mi_hub.specs.Ended.{after_newlines}
 use Rattle.mi_hub.specs.Lines.{lines_of}
 use Rattle.mi_hub.specs.declared.connection.Connection.{Connection}
 use Rattle.mi_replay.specs.Replayed.{replayer, replayed}
-use Rattle.mi_ledger.specs.Belongs.{holder_conn}
+use Rattle.mi_ledger.specs.Ledger.{holder_conn}
 use Rattle.mi_hub.specs.Run.{HubState}
 use Rattle.mi_clients.specs.Steps.{Step, Makes, GivesNone, HoldsSome}
 use Rattle.mi_serving.specs.declared.device.Keeping.{Keeping}

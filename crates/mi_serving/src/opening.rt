@@ -269,7 +269,7 @@ fn resumed<D: Sessions + Drop, L: Log + Drop>(
     ensures attached { IfOk result (λ ledger. (hub_of ledger).attached ≡ []) }
     ensures makes_stay { IfOk result (λ ledger. L.makes_stay (log_of ledger) ≡ L.makes_stay log) }
 {
-    let mut ledger = Ledger::new(alloc, hub, log);
+    let mut ledger = Ledger::new(hub, log);
     match found {
         Journaled::Nothing => {}
         Journaled::Journal(_torn) => part(alloc, &mut ledger, REPLAYER)?,
@@ -279,16 +279,12 @@ fn resumed<D: Sessions + Drop, L: Log + Drop>(
 }
 
 /// A hub with no journal.
-pub fn without<F: JournalFile + Drop, D: Sessions + Drop>(
-    alloc: Global,
-    hub: Hub<D>,
-) -> JournalLedger<F, D>
+pub fn without<F: JournalFile + Drop, D: Sessions + Drop>(hub: Hub<D>) -> JournalLedger<F, D>
     ensures hub { hub_of result ≡ hub }
     ensures settled { Keeps (told_of F.contents (device_of (log_of result))) (told_of F.stays (device_of (log_of result))) }
     ensures stays { is_staying (device_of (log_of result)) ≡ false }
 {
     Ledger::new(
-        alloc,
         hub,
         DeviceLog::new(JournalDevice::new(None, Keeping::Unsynced)),
     )

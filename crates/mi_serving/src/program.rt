@@ -83,7 +83,7 @@ fn ledger_of<P: JournalFiles, D: Sessions + Drop>(
             keeping_by(words.sync),
             header,
         ),
-        None => Ok(without(alloc, hub)),
+        None => Ok(without(hub)),
     }
 }
 

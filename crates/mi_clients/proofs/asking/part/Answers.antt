@@ -1,7 +1,7 @@
 -- The sessions are undone, and then the connection goes away.
 use Rattle.std.proofs.Common.{◌≡◌, ◌∷◌, ◌++◌, [], Some, sym, ap, subst}
 use Rattle.mi_hub.specs.Run.{HubState}
-use Rattle.mi_ledger.specs.Belongs.{holder_conn}
+use Rattle.mi_ledger.specs.Ledger.{holder_conn}
 use Rattle.mi_ledger.specs.Ledger.{hub_of}
 use Rattle.mi_clients.specs.Steps.{goes}
 use Rattle.mi_clients.proofs.StepLemmas.{makes_then, leaves_makes}

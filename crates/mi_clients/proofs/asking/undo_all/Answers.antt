@@ -1,6 +1,6 @@
 -- Each session that is undone is a step more.
 use Rattle.std.proofs.Common.{◌≡◌, ◌++◌, ◌∷◌, [], ◌∙◌, Some, refl, sym, ap, arith}
-use Rattle.mi_ledger.specs.Belongs.{holder_conn}
+use Rattle.mi_ledger.specs.Ledger.{holder_conn}
 use Rattle.mi_hub.specs.Run.{HubState}
 use Rattle.mi_clients.proofs.UndoneLemmas.{asked_leaves}
 use Rattle.std.proofs.KnownBytes.{Keeps-refl}

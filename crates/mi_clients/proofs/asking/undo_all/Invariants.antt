@@ -1,6 +1,6 @@
 use Rattle.std.proofs.Common.{◌≡◌, List, Some}
 use Rattle.mi_commands.specs.Holder.{released}
-use Rattle.mi_ledger.specs.Belongs.{holder_conn}
+use Rattle.mi_ledger.specs.Ledger.{holder_conn}
 use Rattle.mi_ledger.specs.Ledger.{hub_of, log_of, IsSettled}
 use Rattle.mi_clients.specs.Steps.{Step, Makes, AreUndos, HoldsSome}
 use Rattle.mi_clients.proofs.asking.undo_all.Given as goal

@@ -4,7 +4,7 @@ use Rattle.std.proofs.KnownBytes.{Keeps-refl}
 use Rattle.mi_commands.specs.Holder.{HeldDatabase, released}
 use Rattle.mi_hub.specs.Run.{HubState}
 use Rattle.mi_replay.specs.Replayed.{replayer}
-use Rattle.mi_ledger.specs.Belongs.{holder_conn}
+use Rattle.mi_ledger.specs.Ledger.{holder_conn}
 use Rattle.mi_ledger.specs.Ledger.{hub_of, log_of}
 use Rattle.mi_serving.specs.Recovery.{IsResumed}
 use Rattle.mi_clients.specs.Steps.{Makes, HoldsSome}

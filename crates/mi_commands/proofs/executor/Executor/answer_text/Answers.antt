@@ -10,5 +10,5 @@ returns-in-Err g c =
 
 pub returns-in-Ok : goal.returns-in-Ok
 returns-in-Ok g c =
-    given c.args.self.now c.args.conn c.args.bytes.now c.perform.new.out c.in-Ok.command c.read.new.self c.perform.new.self
+    given c.args.self.now c.args.conn c.args.bytes.now c.perform.new.out c.in-Ok.command c.perform.result c.read.new.self c.perform.new.self
     c.in-Ok.ensures.kept c.in-Ok.ensures.answer c.perform.ensures
