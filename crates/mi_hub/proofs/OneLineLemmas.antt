@@ -1,15 +1,17 @@
 -- A whole line that is asked by itself is the event of its bytes.
-use Rattle.std.proofs.Common.{◌≡◌, ℕ, List, [], ◌∷◌, ◌++◌, Bool, length, take, arith, Option, Some, option_to_list, refl, sym, ap, ◌∙◌, subst, append-nil}
+use Rattle.std.proofs.Common.{◌≡◌, ℕ, List, [], ◌∷◌, ◌++◌, Bool, length, take, arith, Option, Some, option_to_list, Result, Ok, Err}
+use Rattle.std.proofs.Common.{refl, sym, ap, ◌∙◌, subst, append-nil}
+use Rattle.std.specs.Prelude.{IfOk}
 use Rattle.std.proofs.lemmas.List.{length-append}
 use Rattle.std.proofs.Math.Seq.{take-append_seam}
 use Rattle.mi_commands.specs.Asked.{Asked}
-use Rattle.mi_commands.specs.Answer.{MayGive, MayAnswer}
+use Rattle.mi_commands.specs.Answer.{MayGive}
 use Rattle.mi_commands.specs.Holder.{HeldDatabase}
 use Rattle.mi_commands.proofs.ToldLemmas.{answer_given}
 use Rattle.mi_hub.specs.Ended.{ended}
 use Rattle.mi_hub.specs.Lines.{marked, ended_line, lines_of, rest_of, lines_from, rest_from}
 use Rattle.mi_hub.specs.Connections.{rest_at, with_rest}
-use Rattle.mi_hub.specs.Served.{Served, with_newline}
+use Rattle.mi_hub.specs.Served.{Served}
 use Rattle.mi_hub.specs.Run.{HubState, piece, Done}
 use Rattle.mi_hub.specs.OneLine.{IsWholeLine, AnswersOne, AsksLine}
 use Rattle.mi_hub.proofs.ConnectionLemmas.{with_rest-same}
@@ -75,8 +77,6 @@ asks_line conn line out changed old new here whole answered same =
       answered = answered;
     }
 
--- a reply is that of the one line
-pub answers_one : (conn : ℕ) (o : Option Asked) (lines : List Asked) (line : Asked) (reply : List ℕ) (changed : Bool) (s t : HeldDatabase)
-    → o ≡ Some line → option_to_list o ≡ lines → MayAnswer conn s line reply changed t → AnswersOne conn s lines (with_newline reply) changed t
-answers_one conn o lines line reply changed s t is found p =
-    subst (λ ls. AnswersOne conn s ls (with_newline reply) changed t) (sym (ap option_to_list is) ∙ found) (reply, refl, p)
+pub if_ok_more : {T E : Type 0} {P Q : T → Type 0} (r : Result T E) → ((v : T) → P v → Q v) → IfOk r P → IfOk r Q
+if_ok_more (Ok v) more p = more v p
+if_ok_more (Err e) more p = tt
