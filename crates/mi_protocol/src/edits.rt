@@ -25,8 +25,8 @@ enum EditList {
     Many(Vec<Edit>),
 }
 
-/// The edits of one modify, each of a column of its own, in the order of the columns; seen as their list. A single one takes no
-/// vector.
+/// The edits of one modify, each of a column of its own; those of a line are in the order of the columns. Seen as their list. A single one
+/// takes no vector.
 #[derive(Drop)]
 pub struct Edits {
     list: EditList,
@@ -80,8 +80,22 @@ fn put_edit(alloc: Global, list: &mut EditList, edit: Edit) -> Result<(), Refusa
 }
 
 impl Edits {
-    ghost use Rattle.std.specs.Prelude.{◌≡◌};
+    ghost use Rattle.std.specs.Prelude.{◌≡◌, [], ◌∷◌};
     ghost use Rattle.mi_protocol.specs.EditList.{edits_in};
+
+    /// A single edit. Takes no memory.
+    pub fn one(edit: Edit) -> Edits
+        ensures { result ≡ edit ∷ [] }
+    {
+        Edits::new(EditList::One(edit))
+    }
+
+    /// The edits of a vector. Takes no memory.
+    pub fn of(edits: Vec<Edit>) -> Edits
+        ensures { result ≡ edits.items }
+    {
+        Edits::new(EditList::Many(edits))
+    }
 
     /// These edits. Takes no memory.
     fn new(list: EditList) -> Edits
