@@ -1,6 +1,5 @@
 mod AloneLaws
 mod AnswerLemmas
-mod CallLaws
 mod ReadLemmas
 pub mod ToldLemmas
 mod UndoneLaws

@@ -6,5 +6,4 @@ pub mod Told
 pub mod Answer
 pub mod Acts
 pub mod Undone
-pub mod Calls
 pub mod Alone

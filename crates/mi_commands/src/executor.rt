@@ -39,6 +39,7 @@ impl<D: Sessions + Drop> Model for Executor<D> {
 }
 
 impl<D: Sessions + Drop> Executor<D> {
+    ghost use Rattle.mi_commands.specs.Holder as holder;
     ghost use Rattle.mi_commands.specs.Holder.{released};
     ghost use Rattle.mi_commands.specs.Performed.{performed};
     ghost use Rattle.mi_commands.specs.Answer.{command_of, done_without, TakesNone, MayGive, AnsweredOrMemory, MayAnswer};
@@ -85,6 +86,13 @@ impl<D: Sessions + Drop> Executor<D> {
             Some(holder) => Some(holder.conn),
             None => None,
         }
+    }
+
+    /// Whether another connection holds sessions.
+    pub fn keeps_out(&self, conn: u64) -> bool
+        ensures { result ≡ holder.is_busy self.now.holder conn }
+    {
+        is_busy(&self.holder, conn)
     }
 
     /// A connection goes away: the sessions that it holds are undone.

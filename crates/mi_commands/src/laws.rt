@@ -1,6 +1,5 @@
 //! Laws of the definitions, each the contract of a function that does nothing.
 ghost use Rattle.mi_commands.specs.Alone.{OneTableAnswersAlone, OneTableMayGive};
-ghost use Rattle.mi_commands.specs.Calls.{CallsAnswerAsLines};
 ghost use Rattle.mi_commands.specs.Undone.{UndoLinesTakeBack, UndoLinesAreGiven, StartLinesOpen};
 
 /// Where a catalog has one table, a line without a member `table` is answered as that table by itself answers it, without a catalog:
@@ -8,11 +7,6 @@ ghost use Rattle.mi_commands.specs.Undone.{UndoLinesTakeBack, UndoLinesAreGiven,
 pub fn one_table_answers_alone()
     ensures answers { OneTableAnswersAlone }
     ensures replies { OneTableMayGive }
-{}
-
-/// For a connection that nobody keeps out each call answers what its line says, and leaves what its line leaves.
-pub fn calls_answer_as_lines()
-    ensures { CallsAnswerAsLines }
 {}
 
 /// After a line that starts a session, and any acts that leave that session open, lines of any connections and connections that go

@@ -2,7 +2,6 @@
 //! It knows the database by its trait alone, and of a connection its number; it reads and writes no stream.
 #![tactic(auto)]
 
-mod calls;
 mod changes;
 mod executor;
 mod holder;

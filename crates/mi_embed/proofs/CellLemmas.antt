@@ -11,7 +11,7 @@ use Rattle.mi_catalog.specs.declared.index.Column.{Column}
 use Rattle.mi_catalog.specs.Fits.{fits_type, fits_record}
 use Rattle.mi_embed.specs.declared.cell.Cell.{Cell}
 use Rattle.mi_embed.specs.Cells.{as_text, before_all, value_in, values_in}
-use Rattle.mi_embed.specs.Typed.{if_row, row_in}
+use Rattle.mi_embed.specs.Asked.{if_row, row_in}
 
 none_some : {A : Type 0} {v : A} → ◌≡◌ {A = Option A} None (Some v) → ⊥
 none_some e = cc

@@ -2,3 +2,6 @@ pub mod CellLemmas
 pub mod ReadLemmas
 pub mod EditLemmas
 pub mod RowLemmas
+pub mod CallLemmas
+mod AsLinesLaws
+mod LookedLaws

@@ -5,7 +5,9 @@ pub mod Cells
 pub mod EditCells
 pub mod Told
 pub mod Asked
-pub mod Typed
+pub mod Calls
 pub mod Shown
 pub mod LookUps
 pub mod Pages
+pub mod AsLines
+pub mod Looked

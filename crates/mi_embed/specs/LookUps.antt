@@ -13,12 +13,12 @@ use Rattle.mi_request.specs.Answers.{IsAnswer}
 use Rattle.mi_commands.specs.Holder.{HeldDatabase}
 use Rattle.mi_embed.specs.declared.cell.Cell.{Cell}
 use Rattle.mi_embed.specs.declared.told.Told.{Told}
-use Rattle.mi_embed.specs.Told.{refused, told_of}
+use Rattle.mi_embed.specs.Told.{refused, number_told}
 use Rattle.mi_embed.specs.Shown.{IsShown}
 use Rattle.mi_embed.specs.Asked.{table_in, asked_index, key_or_prefix, ranked_key}
 
 abbrev pub size_by : HeldDatabase → ℕ → Result ℕ Refusal
-size_by s n = and_then (λ _. Ok (size (table_of s.database n))) (table_in s n)
+size_by s n = and_then (λ _. Ok (size (table_of s.database n))) (table_in s.database.catalog n)
 
 abbrev pub count_by : HeldDatabase → ℕ → ℕ → List Cell → List ℕ → Result ℕ Refusal
 count_by s n x cells bytes = and_then (λ key. Ok (look.count (schema_of s.database n) (table_of s.database n) x key)) (key_or_prefix s n x cells bytes)
@@ -56,7 +56,7 @@ nth_by s n x place = let t = table_of s.database n in and_then (λ _. found t (l
 
 -- What is told of a number that may be answered so: as it is defined, or for want of memory.
 abbrev pub TellsNumber : Result ℕ Refusal → Told → Type 0
-TellsNumber defined told = (answer : Result ℕ Refusal) × IsAnswer answer defined × (told ≡ told_of (λ n. n) answer)
+TellsNumber defined told = (answer : Result ℕ Refusal) × IsAnswer answer defined × (told ≡ number_told answer)
 
 -- The row that a look-up found is shown, or why there is none is told, and cells and bytes stay.
 abbrev pub TellsFound : Result Row Refusal → Told → List Cell → List Cell → List ℕ → List ℕ → Type 0

@@ -1,8 +1,10 @@
 -- What a call with values tells: a number for its answer.
-use Rattle.std.specs.Prelude.{ℕ, ◌-◌, ◌^◌, min, Bool, if◌then◌else◌, Result, Ok, Err}
+use Rattle.std.specs.Prelude.{ℕ, ◌-◌, ◌^◌, min, length, Bool, if◌then◌else◌, Result, Ok, Err}
 use Rattle.mi_value.specs.declared.refusal.Refusal.{Refusal}
 use Rattle.mi_value.specs.declared.refusal.Refusal.TheVariants.{Line, Json, Form as NoCommand, Busy, NoTable, Index, Kind, Row, Key, NoId}
 use Rattle.mi_value.specs.declared.refusal.Refusal.TheVariants.{Range, Full, Spent, Unique, Lost, Depth, Session, Memory}
+use Rattle.mi_protocol.specs.Replies as say
+use Rattle.mi_protocol.specs.Replies.{Said}
 use Rattle.mi_embed.specs.declared.told.Told.{Told}
 
 -- the number of a refusal; 0 stands for none
@@ -42,9 +44,10 @@ refused (Unique x id) = record { status = 14; index = in_32 x; number = id }
 refused (Lost x id) = record { status = 15; index = in_32 x; number = id }
 refused e = record { status = refusal_number e; index = 0; number = 0 }
 
-abbrev pub told_of : {A : Type 0} → (A → ℕ) → Result A Refusal → Told
-told_of number (Ok v) = accepted (number v)
-told_of number (Err e) = refused e
+-- a number that is answered, or why it isn't
+abbrev pub number_told : Result ℕ Refusal → Told
+number_told (Ok n) = accepted n
+number_told (Err e) = refused e
 
 -- there is no room for what is answered: so many cells or rows are wanted, and so many bytes of texts
 abbrev pub wanting : ℕ → ℕ → Told
@@ -53,3 +56,21 @@ wanting count bytes = record { status = 19; index = in_32 count; number = in_64 
 -- a page has so many rows, and others remain or don't
 abbrev pub paged : ℕ → Bool → Told
 paged count more = record { status = 0; index = if more then 1 else 0; number = count }
+
+-- what is told of what a command says: its number, the id of a row, how many rows, or the refusal; that it is done is told as 0
+abbrev pub told_of : Said → Told
+told_of (say.inserted id) = accepted id
+told_of say.done = accepted 0
+told_of (say.erased n) = accepted n
+told_of (say.shown table id row) = accepted id
+told_of (say.revised revision) = accepted revision
+told_of (say.committed n) = accepted n
+told_of (say.undone n) = accepted n
+told_of (say.pushed n) = accepted n
+told_of (say.status depth held revision) = accepted revision
+told_of (say.counted n) = accepted n
+told_of (say.ranked n) = accepted n
+told_of (say.sized n) = accepted n
+told_of (say.rows table records more) = paged (length records) more
+told_of (say.refused_modify table e) = refused e
+told_of (say.refused table e) = refused e

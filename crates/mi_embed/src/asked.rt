@@ -1,36 +1,32 @@
-//! What a call is asked by: a table and an index by their numbers, and a key as cells. It reads the catalog, and takes memory for keys alone.
-ghost use Rattle.std.specs.Prelude.{◌≡◌, ◌<◌, length, IsTrue, IfOk, MatchResult, Ok, Err};
+//! What a call is asked by: a table and an index by their numbers, and a row and a key as cells. It reads the catalog, and takes memory for
+//! rows and keys alone.
+ghost use Rattle.std.specs.Prelude.{◌≡◌, ◌<◌, ◌≤◌, length, IsTrue, IfOk, MatchResult, Ok, Err};
 ghost use Rattle.std.specs.Option.{ok_or};
-ghost use Rattle.mi_catalog.specs.Fits.{fits_key};
+ghost use Rattle.mi_catalog.specs.Fits.{fits_key, fits_record};
 ghost use Rattle.mi_catalog.specs.Fitting.{HasTable};
 ghost use Rattle.mi_catalog.specs.Kinds as kinds;
 ghost use Rattle.mi_catalog.specs.Shape.{schema_at, index_at};
 ghost use Rattle.mi_catalog.specs.declared.index.IndexKind.TheVariants as kind;
 ghost use Rattle.mi_request.specs.Answers.{IsAnswer};
+ghost use Rattle.mi_value.specs.declared.limits.TheConstants.{MAX_COLUMNS};
 ghost use Rattle.mi_embed.specs.Cells.{value_in, values_in};
-ghost use Rattle.mi_embed.specs.Asked.{table_in, index_in, key_in};
+ghost use Rattle.mi_embed.specs.Asked.{table_in, index_in, row_in, key_in};
 
-use crate::cell::{Cell, value_of};
-use crate::engine::Engine;
-use mi_catalog::{IndexKind, Schema};
-use mi_sessions::Sessions;
-use mi_value::{Key, Refusal, Value};
+use crate::cell::{Cell, value_of, values_of};
+use mi_catalog::{Catalog, IndexKind, Schema};
+use mi_value::{Key, Record, Refusal, Value};
 use std::alloc::Global;
 
-impl Engine {
-    /// The schema of a table. Refusal: `NoTable`.
-    pub(crate) fn schema(&self, table: usize) -> Result<&Schema, Refusal>
-        ensures { MatchResult result
-            (λ schema. (table_in self.now.held table ≡ Ok schema.now) × HasTable self.now.held.database.catalog table
-            × (schema.now ≡ schema_at self.now.held.database.catalog table))
-            (λ e. table_in self.now.held table ≡ Err e) }
-    {
-        let catalog = self.executor.database().catalog();
-        if table >= catalog.table_count() {
-            return Err(Refusal::NoTable);
-        }
-        Ok(catalog.table(table))
+/// The schema of a table. Refusal: `NoTable`.
+pub(crate) fn schema_of(catalog: &Catalog, table: usize) -> Result<&Schema, Refusal>
+    ensures { MatchResult result
+        (λ schema. (table_in catalog.now table ≡ Ok table) × HasTable catalog.now table × (schema.now ≡ schema_at catalog.now table))
+        (λ e. (e ≡ Refusal.NoTable) × (table_in catalog.now table ≡ Err Refusal.NoTable)) }
+{
+    if table >= catalog.table_count() {
+        return Err(Refusal::NoTable);
     }
+    Ok(catalog.table(table))
 }
 
 /// The kind of an index. Refusal: `Index`.
@@ -132,4 +128,47 @@ pub(crate) fn key_for(
     } else {
         Err(Refusal::Key)
     }
+}
+
+/// The record that cells are, as many as there are columns. Refusals: `Row` and `Memory`.
+fn packed(alloc: Global, schema: &Schema, cells: &[Cell], texts: &[u8]) -> Result<Record, Refusal>
+    requires few { length cells.now ≤ MAX_COLUMNS }
+    ensures row { IsAnswer result (ok_or (row_in schema.now.columns texts.now cells.now) Refusal.Row) }
+    ensures fits { IfOk result (λ row. IsTrue (fits_record schema.now.columns row)) }
+{
+    let Some(values) = values_of(texts, cells) else {
+        return Err(Refusal::Row);
+    };
+    let row = Record::new(alloc, values.as_slice())?;
+    if schema.fits_record(&row) {
+        Ok(row)
+    } else {
+        Err(Refusal::Row)
+    }
+}
+
+/// The record that cells are over the columns of a schema. Refusals: `Row` and `Memory`.
+#[tactic(auto, using(crate::proofs::CellLemmas::other_count))]
+pub(crate) fn row_of(
+    alloc: Global,
+    schema: &Schema,
+    cells: &[Cell],
+    texts: &[u8],
+) -> Result<Record, Refusal>
+    ensures row { IsAnswer result (ok_or (row_in schema.now.columns texts.now cells.now) Refusal.Row) }
+    ensures fits { IfOk result (λ row. IsTrue (fits_record schema.now.columns row)) }
+{
+    if cells.len() != column_count(schema) {
+        return Err(Refusal::Row);
+    }
+    packed(alloc, schema, cells, texts)
+}
+
+/// How many columns a schema has.
+fn column_count(schema: &Schema) -> usize
+    ensures all { result ≡ length schema.now.columns }
+    ensures few { result ≤ MAX_COLUMNS }
+{
+    schema.keeps_rules();
+    schema.columns().len()
 }

@@ -5,16 +5,18 @@
 
 mod asked;
 mod cell;
+mod changes;
 mod edits;
 mod engine;
 mod fault;
+pub mod laws;
 mod look_ups;
 mod pages;
 mod put;
 mod room;
 mod rows;
+mod sessions;
 mod told;
-mod typed;
 
 pub use cell::Cell;
 pub use edits::EditCell;

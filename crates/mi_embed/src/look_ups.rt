@@ -9,7 +9,7 @@ ghost use Rattle.mi_embed.specs.Asked as asked;
 ghost use Rattle.mi_embed.specs.LookUps as meaning;
 ghost use Rattle.mi_embed.specs.LookUps.{TellsFound, MayTellFound};
 
-use crate::asked::{key_for, keyed_index, ranked_index};
+use crate::asked::{key_for, keyed_index, ranked_index, schema_of};
 use crate::cell::Cell;
 use crate::engine::Engine;
 use crate::rows::shown;
@@ -25,7 +25,7 @@ impl Engine {
     pub fn size(&self, table: usize) -> Result<u64, Refusal>
         ensures { result ≡ meaning.size_by self.now.held table }
     {
-        let _ = self.schema(table)?;
+        let _ = schema_of(self.executor.database().catalog(), table)?;
         Ok(size(self.executor.database(), table))
     }
 
@@ -40,7 +40,7 @@ impl Engine {
         ensures key { IsAnswer result (asked.key_or_prefix self.now.held table index key.now texts.now) }
         ensures fits { IfOk result (λ key. FitsCatalog self.now.held.database.catalog (command.Find table index key)) }
     {
-        let schema = self.schema(table)?;
+        let schema = schema_of(self.executor.database().catalog(), table)?;
         let index = keyed_index(schema, index)?;
         let whole = schema.kind(index).is_hashed();
         key_for(self.alloc, schema, index, whole, key, texts)
@@ -66,7 +66,7 @@ impl Engine {
     pub fn rank(&self, table: usize, index: usize, id: u64) -> Result<u64, Refusal>
         ensures { result ≡ meaning.rank_by self.now.held table index id }
     {
-        let index = ranked_index(self.schema(table)?, index)?;
+        let index = ranked_index(schema_of(self.executor.database().catalog(), table)?, index)?;
         let database = self.executor.database();
         rank(database, table, index, id, &mut Steps::new())
     }
@@ -82,7 +82,7 @@ impl Engine {
         ensures key { IsAnswer result (asked.ranked_key self.now.held table index key.now texts.now) }
         ensures fits { IfOk result (λ key. FitsCatalog self.now.held.database.catalog (command.LowerRank table index key)) }
     {
-        let schema = self.schema(table)?;
+        let schema = schema_of(self.executor.database().catalog(), table)?;
         let index = ranked_index(schema, index)?;
         key_for(self.alloc, schema, index, false, key, texts)
     }
@@ -158,7 +158,7 @@ impl Engine {
             (λ r. meaning.nth_by self.now.held table index n ≡ Ok (r.0, r.1.now))
             (λ e. meaning.nth_by self.now.held table index n ≡ Err e) }
     {
-        let index = ranked_index(self.schema(table)?, index)?;
+        let index = ranked_index(schema_of(self.executor.database().catalog(), table)?, index)?;
         self.found(table, nth(self.executor.database(), table, index, n))
     }
 

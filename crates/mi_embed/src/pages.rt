@@ -10,7 +10,7 @@ ghost use Rattle.mi_embed.specs.Asked.{lower_in, upper_in};
 ghost use Rattle.mi_embed.specs.Pages as meaning;
 ghost use Rattle.mi_embed.specs.Pages.{page_limit, IsPaged, MayTellPage};
 
-use crate::asked::{key_for, sequenced_index, sorted_index};
+use crate::asked::{key_for, schema_of, sequenced_index, sorted_index};
 use crate::cell::Cell;
 use crate::engine::Engine;
 use crate::room::{put_rows, wanted};
@@ -108,7 +108,7 @@ impl Engine {
         ensures fits { IfOk result (λ ends. FitsLower self.now.held.database.catalog table index ends.0
             × FitsUpper self.now.held.database.catalog table index ends.1) }
     {
-        let schema = self.schema(table)?;
+        let schema = schema_of(self.executor.database().catalog(), table)?;
         let index = sorted_index(schema, index)?;
         let lower = lower_of(self.alloc, schema, index, lower, texts)?;
         let upper = upper_of(self.alloc, schema, index, upper, texts)?;
@@ -189,7 +189,7 @@ impl Engine {
             (λ e. IsAnswer (Err e) (meaning.list_by self.now.held table index after limit)) }
         ensures few { IfOk result (λ p. length p.rows.items ≤ limit) }
     {
-        let index = sequenced_index(self.schema(table)?, index)?;
+        let index = sequenced_index(schema_of(self.executor.database().catalog(), table)?, index)?;
         let database = self.executor.database();
         list(
             database,

@@ -1,8 +1,10 @@
 //! What a call with values tells, in numbers that C can take. Plain data.
 ghost use Rattle.std.specs.Prelude.{◌≡◌};
+ghost use Rattle.mi_protocol.specs.Replies.{said};
 ghost use Rattle.mi_embed.specs.Told as meaning;
-ghost use Rattle.mi_embed.specs.Told.{told_of};
+ghost use Rattle.mi_embed.specs.Told.{told_of, number_told};
 
+use mi_protocol::Reply;
 use mi_value::Refusal;
 
 /// Where there is no room for what is answered.
@@ -56,7 +58,7 @@ fn refusal_number(refusal: Refusal) -> u32
 
 impl Told {
     /// What is accepted, with a number.
-    pub fn accepted(number: u64) -> Told
+    pub(crate) fn accepted(number: u64) -> Told
         ensures { result ≡ meaning.accepted number }
     {
         Told {
@@ -67,7 +69,7 @@ impl Told {
     }
 
     /// What is refused.
-    pub fn refused(refusal: Refusal) -> Told
+    pub(crate) fn refused(refusal: Refusal) -> Told
         ensures { result ≡ meaning.refused refusal }
     {
         let (index, number) = match refusal {
@@ -103,9 +105,9 @@ impl Told {
         }
     }
 
-    /// An answer with a number.
-    pub fn of(answer: Result<u64, Refusal>) -> Told
-        ensures { result ≡ told_of (λ n. n) answer }
+    /// A number that is answered, or why it isn't.
+    pub fn number(answer: Result<u64, Refusal>) -> Told
+        ensures { result ≡ number_told answer }
     {
         match answer {
             Ok(number) => Told::accepted(number),
@@ -113,13 +115,27 @@ impl Told {
         }
     }
 
-    /// An answer without one, which is told as 0.
-    pub fn done(answer: Result<(), Refusal>) -> Told
-        ensures { result ≡ told_of (λ _. 0) answer }
+    /// What is told of an answer, aside what its rows are put into.
+    pub(crate) fn of(reply: &Reply<'_>) -> Told
+        ensures { result ≡ told_of (said reply.now) }
     {
-        match answer {
-            Ok(()) => Told::accepted(0),
-            Err(refusal) => Told::refused(refusal),
+        match reply {
+            Reply::Done => Told::accepted(0),
+            Reply::Inserted(n)
+            | Reply::Erased(n)
+            | Reply::Revised(n)
+            | Reply::Committed(n)
+            | Reply::Undone(n)
+            | Reply::Pushed(n)
+            | Reply::Counted(n)
+            | Reply::Ranked(n)
+            | Reply::Sized(n) => Told::accepted(*n),
+            Reply::Shown { id, .. } => Told::accepted(*id),
+            Reply::Status { revision, .. } => Told::accepted(*revision),
+            Reply::Rows { rows, more, .. } => Told::paged(rows.len(), *more),
+            Reply::RefusedModify { refusal, .. } | Reply::Refused { refusal, .. } => {
+                Told::refused(*refusal)
+            }
         }
     }
 }

@@ -2,7 +2,7 @@
 ghost use Rattle.std.specs.Prelude.{◌≡◌};
 ghost use types.Logic.{sem};
 ghost use Rattle.mi_embed.specs.State.{EngineState};
-ghost use Rattle.mi_embed.specs.Told.{told_of};
+ghost use Rattle.mi_embed.specs.Told.{number_told};
 ghost use Rattle.mi_embed.specs.LookUps as look;
 ghost use Rattle.mi_embed.specs.LookUps.{TellsNumber, TellsFound, MayTellFound};
 ghost use Rattle.weltiyo.specs.Handle.{engine_at};
@@ -12,9 +12,9 @@ use mi_embed::{Cell, Engine, Told};
 /// Tells how many records a table has.
 fn sized(engine: &mut Engine, table: usize) -> Told
     ensures same { engine.new ≡ engine.old }
-    ensures told { result ≡ told_of (λ n. n) (look.size_by engine.old.held table) }
+    ensures told { result ≡ number_told (look.size_by engine.old.held table) }
 {
-    Told::of(engine.size(table))
+    Told::number(engine.size(table))
 }
 
 /// Tells how many records a table has.
@@ -22,7 +22,7 @@ fn sized(engine: &mut Engine, table: usize) -> Told
 pub unsafe extern "C" fn weltiyo_size(at: *mut u8, table: usize) -> Told
     ghost engine: { EngineState }
     requires* { sem 𝓛 (engine_at at engine) }
-    ensures* { sem 𝓛 (engine_at at engine) ∗ ⌜ result ≡ told_of (λ n. n) (look.size_by engine.held table) ⌝ }
+    ensures* { sem 𝓛 (engine_at at engine) ∗ ⌜ result ≡ number_told (look.size_by engine.held table) ⌝ }
 {
     sized(&mut *(at as *mut Engine), table)
 }
@@ -32,7 +32,7 @@ fn counted(engine: &mut Engine, table: usize, index: usize, key: &[Cell], texts:
     ensures same { engine.new ≡ engine.old }
     ensures told { TellsNumber (look.count_by engine.old.held table index key.now texts.now) result }
 {
-    Told::of(engine.count(table, index, key, texts))
+    Told::number(engine.count(table, index, key, texts))
 }
 
 /// Tells how many records have a key, or in an ordered or ranked index the first values of one.
@@ -54,9 +54,9 @@ pub unsafe extern "C" fn weltiyo_count(
 /// Tells how many records stand before one.
 fn ranked(engine: &mut Engine, table: usize, index: usize, id: u64) -> Told
     ensures same { engine.new ≡ engine.old }
-    ensures told { result ≡ told_of (λ n. n) (look.rank_by engine.old.held table index id) }
+    ensures told { result ≡ number_told (look.rank_by engine.old.held table index id) }
 {
-    Told::of(engine.rank(table, index, id))
+    Told::number(engine.rank(table, index, id))
 }
 
 /// Tells how many records stand before one in a ranked index.
@@ -64,7 +64,7 @@ fn ranked(engine: &mut Engine, table: usize, index: usize, id: u64) -> Told
 pub unsafe extern "C" fn weltiyo_rank(at: *mut u8, table: usize, index: usize, id: u64) -> Told
     ghost engine: { EngineState }
     requires* { sem 𝓛 (engine_at at engine) }
-    ensures* { sem 𝓛 (engine_at at engine) ∗ ⌜ result ≡ told_of (λ n. n) (look.rank_by engine.held table index id) ⌝ }
+    ensures* { sem 𝓛 (engine_at at engine) ∗ ⌜ result ≡ number_told (look.rank_by engine.held table index id) ⌝ }
 {
     ranked(&mut *(at as *mut Engine), table, index, id)
 }
@@ -74,7 +74,7 @@ fn ranked_below(engine: &mut Engine, table: usize, index: usize, key: &[Cell], t
     ensures same { engine.new ≡ engine.old }
     ensures told { TellsNumber (look.lower_rank_by engine.old.held table index key.now texts.now) result }
 {
-    Told::of(engine.lower_rank(table, index, key, texts))
+    Told::number(engine.lower_rank(table, index, key, texts))
 }
 
 /// Tells how many keys of a ranked index are less than a key or the first values of one.
@@ -98,7 +98,7 @@ fn ranked_up_to(engine: &mut Engine, table: usize, index: usize, key: &[Cell], t
     ensures same { engine.new ≡ engine.old }
     ensures told { TellsNumber (look.upper_rank_by engine.old.held table index key.now texts.now) result }
 {
-    Told::of(engine.upper_rank(table, index, key, texts))
+    Told::number(engine.upper_rank(table, index, key, texts))
 }
 
 /// Tells how many keys of a ranked index are not greater than a key or the first values of one.

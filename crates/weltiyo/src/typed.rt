@@ -1,12 +1,10 @@
 //! The changes, the session steps and `get` with values in place of a line. What is told of each is `mi_embed`'s.
-ghost use Rattle.std.specs.Prelude.{◌≡◌, ℕ, ◌==◌, not};
+ghost use Rattle.std.specs.Prelude.{◌≡◌, ◌==◌, not};
 ghost use types.Logic.{sem};
 ghost use base.Fml.{fex};
-ghost use Rattle.mi_commands.specs.Calls.{start_call, undo_call, squash_call, commit_call, undo_all_call, push_call};
-ghost use Rattle.mi_value.specs.declared.edit.Edit.TheVariants as edit;
 ghost use Rattle.mi_embed.specs.State.{EngineState};
-ghost use Rattle.mi_embed.specs.Typed as typed;
-ghost use Rattle.mi_embed.specs.Typed.{Tells, TellsJust};
+ghost use Rattle.mi_embed.specs.Calls as call;
+ghost use Rattle.mi_embed.specs.Calls.{Tells};
 ghost use Rattle.mi_embed.specs.Shown.{got, TellsRow};
 ghost use Rattle.weltiyo.specs.Given.{given};
 ghost use Rattle.weltiyo.specs.Handle.{engine_at};
@@ -16,9 +14,9 @@ use mi_embed::{Cell, EditCell, Engine, Told};
 
 /// Adds a record, and tells its id.
 fn inserted(engine: &mut Engine, conn: u64, table: usize, cells: &[Cell], texts: &[u8]) -> Told
-    ensures { Tells (λ n. n) (typed.insert_by engine.old.held conn table cells.now texts.now) result engine.old engine.new }
+    ensures { Tells conn (call.insert table cells.now texts.now) result engine.old engine.new }
 {
-    Told::of(engine.insert(conn, table, cells, texts))
+    engine.insert(conn, table, cells, texts)
 }
 
 /// Adds the record that cells are to a table, and tells its id.
@@ -32,7 +30,7 @@ pub unsafe extern "C" fn weltiyo_insert(
 ) -> Told
     ghost engine: { EngineState }
     requires* { sem 𝓛 (engine_at at engine) }
-    ensures* { sem 𝓛 (fex EngineState (λ new. fex (Tells (λ n. n) (typed.insert_by engine.held conn table cells.now texts.now) result engine new)
+    ensures* { sem 𝓛 (fex EngineState (λ new. fex (Tells conn (call.insert table cells.now texts.now) result engine new)
         (λ _. engine_at at new))) }
 {
     inserted(&mut *(at as *mut Engine), conn, table, cells, texts)
@@ -64,9 +62,9 @@ pub unsafe extern "C" fn weltiyo_get(
 
 /// Opens a session, and tells the new revision.
 fn started(engine: &mut Engine, conn: u64) -> Told
-    ensures { Tells (λ n. n) (start_call engine.old.held conn) result engine.old engine.new }
+    ensures { Tells conn call.start result engine.old engine.new }
 {
-    Told::of(engine.start(conn))
+    engine.start(conn)
 }
 
 /// Opens a session, which the connection then holds, and tells the new revision.
@@ -74,16 +72,16 @@ fn started(engine: &mut Engine, conn: u64) -> Told
 pub unsafe extern "C" fn weltiyo_start(at: *mut u8, conn: u64) -> Told
     ghost engine: { EngineState }
     requires* { sem 𝓛 (engine_at at engine) }
-    ensures* { sem 𝓛 (fex EngineState (λ new. fex (Tells (λ n. n) (start_call engine.held conn) result engine new) (λ _. engine_at at new))) }
+    ensures* { sem 𝓛 (fex EngineState (λ new. fex (Tells conn call.start result engine new) (λ _. engine_at at new))) }
 {
     started(&mut *(at as *mut Engine), conn)
 }
 
 /// Undoes the newest session, and tells the new revision.
 fn undone(engine: &mut Engine, conn: u64) -> Told
-    ensures { TellsJust (undo_call engine.old.held conn) result engine.old engine.new }
+    ensures { Tells conn call.undo result engine.old engine.new }
 {
-    Told::of(engine.undo(conn))
+    engine.undo(conn)
 }
 
 /// Undoes the newest session, and tells the new revision. It takes no memory.
@@ -91,7 +89,7 @@ fn undone(engine: &mut Engine, conn: u64) -> Told
 pub unsafe extern "C" fn weltiyo_undo(at: *mut u8, conn: u64) -> Told
     ghost engine: { EngineState }
     requires* { sem 𝓛 (engine_at at engine) }
-    ensures* { sem 𝓛 (fex EngineState (λ new. fex (TellsJust (undo_call engine.held conn) result engine new) (λ _. engine_at at new))) }
+    ensures* { sem 𝓛 (fex EngineState (λ new. fex (Tells conn call.undo result engine new) (λ _. engine_at at new))) }
 {
     undone(&mut *(at as *mut Engine), conn)
 }
@@ -105,9 +103,9 @@ fn replaced(
     cells: &[Cell],
     texts: &[u8],
 ) -> Told
-    ensures { Tells (λ _. 0) (typed.replace_by engine.old.held conn table id cells.now texts.now) result engine.old engine.new }
+    ensures { Tells conn (call.replace table id cells.now texts.now) result engine.old engine.new }
 {
-    Told::done(engine.replace(conn, table, id, cells, texts))
+    engine.replace(conn, table, id, cells, texts)
 }
 
 /// Sets the record that cells are for an id.
@@ -122,7 +120,7 @@ pub unsafe extern "C" fn weltiyo_replace(
 ) -> Told
     ghost engine: { EngineState }
     requires* { sem 𝓛 (engine_at at engine) }
-    ensures* { sem 𝓛 (fex EngineState (λ new. fex (Tells (λ _. 0) (typed.replace_by engine.held conn table id cells.now texts.now) result engine new)
+    ensures* { sem 𝓛 (fex EngineState (λ new. fex (Tells conn (call.replace table id cells.now texts.now) result engine new)
         (λ _. engine_at at new))) }
 {
     replaced(&mut *(at as *mut Engine), conn, table, id, cells, texts)
@@ -138,9 +136,9 @@ fn added(
     n: i64,
     rollback: u32,
 ) -> Told
-    ensures { Tells (λ _. 0) (typed.modify_by engine.old.held conn table id (edit.Add column n) (not (rollback == 0))) result engine.old engine.new }
+    ensures { Tells conn (call.modify_add table id column n (not (rollback == 0))) result engine.old engine.new }
 {
-    Told::done(engine.modify_add(conn, table, id, column, n, rollback != 0))
+    engine.modify_add(conn, table, id, column, n, rollback != 0)
 }
 
 /// Adds a number to a column of a record; `rollback` is 0 where a conflict erases the record, and any other number where it changes nothing.
@@ -156,7 +154,7 @@ pub unsafe extern "C" fn weltiyo_modify_add(
 ) -> Told
     ghost engine: { EngineState }
     requires* { sem 𝓛 (engine_at at engine) }
-    ensures* { sem 𝓛 (fex EngineState (λ new. fex (Tells (λ _. 0) (typed.modify_by engine.held conn table id (edit.Add column n) (not (rollback == 0)))
+    ensures* { sem 𝓛 (fex EngineState (λ new. fex (Tells conn (call.modify_add table id column n (not (rollback == 0)))
         result engine new) (λ _. engine_at at new))) }
 {
     added(
@@ -172,9 +170,9 @@ pub unsafe extern "C" fn weltiyo_modify_add(
 
 /// Erases a record.
 fn erased(engine: &mut Engine, conn: u64, table: usize, id: u64) -> Told
-    ensures { Tells (λ _. 0) (typed.erase_by engine.old.held conn table id) result engine.old engine.new }
+    ensures { Tells conn (call.erase table id) result engine.old engine.new }
 {
-    Told::done(engine.erase(conn, table, id))
+    engine.erase(conn, table, id)
 }
 
 /// Erases a record.
@@ -182,16 +180,16 @@ fn erased(engine: &mut Engine, conn: u64, table: usize, id: u64) -> Told
 pub unsafe extern "C" fn weltiyo_erase(at: *mut u8, conn: u64, table: usize, id: u64) -> Told
     ghost engine: { EngineState }
     requires* { sem 𝓛 (engine_at at engine) }
-    ensures* { sem 𝓛 (fex EngineState (λ new. fex (Tells (λ _. 0) (typed.erase_by engine.held conn table id) result engine new) (λ _. engine_at at new))) }
+    ensures* { sem 𝓛 (fex EngineState (λ new. fex (Tells conn (call.erase table id) result engine new) (λ _. engine_at at new))) }
 {
     erased(&mut *(at as *mut Engine), conn, table, id)
 }
 
 /// Joins the newest session into the one below, and tells the new revision.
 fn squashed(engine: &mut Engine, conn: u64) -> Told
-    ensures { TellsJust (squash_call engine.old.held conn) result engine.old engine.new }
+    ensures { Tells conn call.squash result engine.old engine.new }
 {
-    Told::of(engine.squash(conn))
+    engine.squash(conn)
 }
 
 /// Joins the newest session into the one below, and tells the new revision. It takes no memory.
@@ -199,16 +197,16 @@ fn squashed(engine: &mut Engine, conn: u64) -> Told
 pub unsafe extern "C" fn weltiyo_squash(at: *mut u8, conn: u64) -> Told
     ghost engine: { EngineState }
     requires* { sem 𝓛 (engine_at at engine) }
-    ensures* { sem 𝓛 (fex EngineState (λ new. fex (TellsJust (squash_call engine.held conn) result engine new) (λ _. engine_at at new))) }
+    ensures* { sem 𝓛 (fex EngineState (λ new. fex (Tells conn call.squash result engine new) (λ _. engine_at at new))) }
 {
     squashed(&mut *(at as *mut Engine), conn)
 }
 
 /// Ends the sessions up to a number, and tells how many.
 fn committed(engine: &mut Engine, conn: u64, number: u64) -> Told
-    ensures { TellsJust (commit_call engine.old.held conn number) result engine.old engine.new }
+    ensures { Tells conn (call.commit number) result engine.old engine.new }
 {
-    Told::of(engine.commit(conn, number))
+    engine.commit(conn, number)
 }
 
 /// Ends the sessions up to a number, keeps their changes, and tells how many. It takes no memory.
@@ -216,7 +214,7 @@ fn committed(engine: &mut Engine, conn: u64, number: u64) -> Told
 pub unsafe extern "C" fn weltiyo_commit(at: *mut u8, conn: u64, number: u64) -> Told
     ghost engine: { EngineState }
     requires* { sem 𝓛 (engine_at at engine) }
-    ensures* { sem 𝓛 (fex EngineState (λ new. fex (TellsJust (commit_call engine.held conn number) result engine new) (λ _. engine_at at new))) }
+    ensures* { sem 𝓛 (fex EngineState (λ new. fex (Tells conn (call.commit number) result engine new) (λ _. engine_at at new))) }
 {
     committed(&mut *(at as *mut Engine), conn, number)
 }
@@ -231,9 +229,9 @@ fn inserted_before(
     index: usize,
     before: u64,
 ) -> Told
-    ensures { Tells (λ n. n) (typed.insert_before_by engine.old.held conn table cells.now texts.now index before) result engine.old engine.new }
+    ensures { Tells conn (call.insert_before table cells.now texts.now index before) result engine.old engine.new }
 {
-    Told::of(engine.insert_before(conn, table, cells, texts, index, before))
+    engine.insert_before(conn, table, cells, texts, index, before)
 }
 
 /// Adds the record that cells are to a table, in a sequenced index directly before the record of an id, and tells its id.
@@ -249,7 +247,7 @@ pub unsafe extern "C" fn weltiyo_insert_before(
 ) -> Told
     ghost engine: { EngineState }
     requires* { sem 𝓛 (engine_at at engine) }
-    ensures* { sem 𝓛 (fex EngineState (λ new. fex (Tells (λ n. n) (typed.insert_before_by engine.held conn table cells.now texts.now index before)
+    ensures* { sem 𝓛 (fex EngineState (λ new. fex (Tells conn (call.insert_before table cells.now texts.now index before)
         result engine new) (λ _. engine_at at new))) }
 {
     inserted_before(
@@ -273,9 +271,9 @@ fn modified(
     texts: &[u8],
     rollback: u32,
 ) -> Told
-    ensures { Tells (λ _. 0) (typed.modify_edits_by engine.old.held conn table id edits.now texts.now (not (rollback == 0))) result engine.old engine.new }
+    ensures { Tells conn (call.modify table id edits.now texts.now (not (rollback == 0))) result engine.old engine.new }
 {
-    Told::done(engine.modify(conn, table, id, edits, texts, rollback != 0))
+    engine.modify(conn, table, id, edits, texts, rollback != 0)
 }
 
 /// Changes columns of a record, each by an edit of its own; `rollback` is 0 where a conflict erases the record, and any other number where it
@@ -292,7 +290,7 @@ pub unsafe extern "C" fn weltiyo_modify(
 ) -> Told
     ghost engine: { EngineState }
     requires* { sem 𝓛 (engine_at at engine) }
-    ensures* { sem 𝓛 (fex EngineState (λ new. fex (Tells (λ _. 0) (typed.modify_edits_by engine.held conn table id edits.now texts.now (not (rollback == 0)))
+    ensures* { sem 𝓛 (fex EngineState (λ new. fex (Tells conn (call.modify table id edits.now texts.now (not (rollback == 0)))
         result engine new) (λ _. engine_at at new))) }
 {
     modified(
@@ -315,9 +313,9 @@ fn erased_by_key(
     key: &[Cell],
     texts: &[u8],
 ) -> Told
-    ensures { Tells (λ n. n) (typed.erase_key_by engine.old.held conn table index key.now texts.now) result engine.old engine.new }
+    ensures { Tells conn (call.erase_key table index key.now texts.now) result engine.old engine.new }
 {
-    Told::of(engine.erase_key(conn, table, index, key, texts))
+    engine.erase_key(conn, table, index, key, texts)
 }
 
 /// Erases the records of a whole key, and tells how many.
@@ -332,7 +330,7 @@ pub unsafe extern "C" fn weltiyo_erase_key(
 ) -> Told
     ghost engine: { EngineState }
     requires* { sem 𝓛 (engine_at at engine) }
-    ensures* { sem 𝓛 (fex EngineState (λ new. fex (Tells (λ n. n) (typed.erase_key_by engine.held conn table index key.now texts.now) result engine new)
+    ensures* { sem 𝓛 (fex EngineState (λ new. fex (Tells conn (call.erase_key table index key.now texts.now) result engine new)
         (λ _. engine_at at new))) }
 {
     erased_by_key(&mut *(at as *mut Engine), conn, table, index, key, texts)
@@ -348,9 +346,9 @@ fn relocated(
     has_before: u32,
     before: u64,
 ) -> Told
-    ensures { Tells (λ _. 0) (typed.relocate_by engine.old.held conn table index id (given has_before before)) result engine.old engine.new }
+    ensures { Tells conn (call.relocate table index id (given has_before before)) result engine.old engine.new }
 {
-    Told::done(engine.relocate(conn, table, index, id, given(has_before, before)))
+    engine.relocate(conn, table, index, id, given(has_before, before))
 }
 
 /// Moves a record in a sequenced index directly before the record `before`, or where `has_before` is 0 to its end.
@@ -366,7 +364,7 @@ pub unsafe extern "C" fn weltiyo_relocate(
 ) -> Told
     ghost engine: { EngineState }
     requires* { sem 𝓛 (engine_at at engine) }
-    ensures* { sem 𝓛 (fex EngineState (λ new. fex (Tells (λ _. 0) (typed.relocate_by engine.held conn table index id (given has_before before))
+    ensures* { sem 𝓛 (fex EngineState (λ new. fex (Tells conn (call.relocate table index id (given has_before before))
         result engine new) (λ _. engine_at at new))) }
 {
     relocated(
@@ -382,9 +380,9 @@ pub unsafe extern "C" fn weltiyo_relocate(
 
 /// Undoes every open session, and tells how many.
 fn all_undone(engine: &mut Engine, conn: u64) -> Told
-    ensures { TellsJust (undo_all_call engine.old.held conn) result engine.old engine.new }
+    ensures { Tells conn call.undo_all result engine.old engine.new }
 {
-    Told::of(engine.undo_all(conn))
+    engine.undo_all(conn)
 }
 
 /// Undoes every open session, and tells how many. It takes no memory.
@@ -392,16 +390,16 @@ fn all_undone(engine: &mut Engine, conn: u64) -> Told
 pub unsafe extern "C" fn weltiyo_undo_all(at: *mut u8, conn: u64) -> Told
     ghost engine: { EngineState }
     requires* { sem 𝓛 (engine_at at engine) }
-    ensures* { sem 𝓛 (fex EngineState (λ new. fex (TellsJust (undo_all_call engine.held conn) result engine new) (λ _. engine_at at new))) }
+    ensures* { sem 𝓛 (fex EngineState (λ new. fex (Tells conn call.undo_all result engine new) (λ _. engine_at at new))) }
 {
     all_undone(&mut *(at as *mut Engine), conn)
 }
 
 /// Lets go of the sessions of a connection, and tells how many.
 fn pushed(engine: &mut Engine, conn: u64) -> Told
-    ensures { TellsJust (push_call engine.old.held conn) result engine.old engine.new }
+    ensures { Tells conn call.push result engine.old engine.new }
 {
-    Told::of(engine.push(conn))
+    engine.push(conn)
 }
 
 /// Lets go of the sessions that the connection holds, which stay open, and tells how many. It takes no memory.
@@ -409,7 +407,7 @@ fn pushed(engine: &mut Engine, conn: u64) -> Told
 pub unsafe extern "C" fn weltiyo_push(at: *mut u8, conn: u64) -> Told
     ghost engine: { EngineState }
     requires* { sem 𝓛 (engine_at at engine) }
-    ensures* { sem 𝓛 (fex EngineState (λ new. fex (TellsJust (push_call engine.held conn) result engine new) (λ _. engine_at at new))) }
+    ensures* { sem 𝓛 (fex EngineState (λ new. fex (Tells conn call.push result engine new) (λ _. engine_at at new))) }
 {
     pushed(&mut *(at as *mut Engine), conn)
 }
