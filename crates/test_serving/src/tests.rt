@@ -1,4 +1,4 @@
-//! A journal that is asked again: torn lines at each byte, a damaged line, another header, and none; and its file, which is taken by another
+//! A journal that is asked again: torn lines at each byte, a reserve, a damaged line, another header, and none; and its file, which is taken by another
 //! process, moved while it is read, or longer than what was read of it.
 ghost use Rattle.std.specs.Prelude.{◌≡◌, [], IfOk};
 
@@ -39,6 +39,8 @@ fn journals_are_recovered(rt: HostRuntime) -> Result<(), Fail> {
         assert_eq!(rt; torn_of(rt.alloc(), front)?, Some(torn as u64));
     }
     assert_eq!(rt; torn_of(rt.alloc(), whole)?, Some(0));
+    let former: &[u8] = b"head\n{\"cmd\":\"reserve\",\"changes\":1,\"sessions\":1}\n";
+    assert_eq!(rt; torn_of(rt.alloc(), former)?, Some(0));
     for other in [
         b"head\n{\"cmd\":\"size\"}\n".as_slice(),
         b"head\nstart\n",
