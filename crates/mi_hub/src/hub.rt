@@ -158,7 +158,12 @@ impl<D: Sessions + Drop> Hub<D> {
     /// goes behind `replies` with its newline. It says whether tables, sessions or holder may have changed; where they haven't, all is as before.
     ///
     /// An error where the reply has no room: what was asked may be done.
-    pub fn ask_line(&mut self, conn: u64, line: &[u8], replies: &mut Vec<u8>) -> Result<bool, AllocError>
+    pub fn ask_line(
+        &mut self,
+        conn: u64,
+        line: &[u8],
+        replies: &mut Vec<u8>,
+    ) -> Result<bool, AllocError>
         requires attached { rest_at conn self.old.attached ≡ Some (Some []) }
         requires whole { IsWholeLine line.now }
         ensures ok { IfOk result (λ changed. (out : List ℕ) × (replies.new.items ≡ replies.old.items ++ out)
