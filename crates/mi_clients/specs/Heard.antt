@@ -1,10 +1,10 @@
--- What is heard of the bytes of a connection. Of a web page, which a browser lets send a request to this port, the first line alone is heard:
--- "POST / HTTP/1.1⏎Host: here⏎⏎undo⏎" is heard as "POST / HTTP/1.1⏎", and "get⏎POST⏎undo⏎" is heard whole.
+-- What of the bytes of a connection is heard: all, but of a web page the first line alone. A browser lets each page send requests to a port.
+-- "POST / HTTP/1.1⏎Host: here⏎⏎undo⏎" is heard as "POST / HTTP/1.1⏎", and "get⏎POST⏎undo⏎" whole.
 use Rattle.std.specs.Prelude.{ℕ, List, [], ◌∷◌, Bool, true, false, ◌==◌, ◌&&◌, ◌||◌, nat_lt, if◌then◌else◌}
 use Rattle.mi_hub.specs.Ended.{ended, if_none}
 
--- The bytes begin as no JSON does: with a capital letter, as each request of HTTP does, or with the byte 22, as each hello of TLS does. More
--- of them isn't looked at: a page chooses how long its path is, and of an over-long line only the beginning is kept.
+-- The bytes begin as no JSON does: with a capital letter, as each request of HTTP, or with the byte 22, as each hello of TLS. The first byte
+-- decides: a page chooses how long its path is, and of an over-long line only the beginning is kept.
 abbrev pub is_web_request : List ℕ → Bool
 is_web_request [] = false
 is_web_request (b ∷ bs) = (nat_lt 64 b && nat_lt b 91) || b == 22
