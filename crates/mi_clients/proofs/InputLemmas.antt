@@ -8,7 +8,7 @@ use Rattle.mi_value.specs.declared.limits.TheConstants.{MAX_LINE}
 use Rattle.mi_hub.specs.Ended.{ended, put_front}
 use Rattle.mi_hub.specs.Lines.{marked, without_return, unless_empty, ended_line, last_line, lines_of, rest_of, lines_from, rest_from}
 use Rattle.mi_hub.proofs.LineLemmas.{ended_nil, parts_at, marked-long, from_rests, from_unended, lines_from-nothing, rest_from-nothing, cut_in_two}
-use Rattle.mi_ledger.proofs.JournalLemmas.{whole_line}
+use Rattle.mi_hub.proofs.OneLineLemmas.{whole_line}
 use Rattle.mi_clients.specs.Lines.{SameLines, EndsAsClosed}
 
 -- where no newline stands there is none behind any front either

@@ -26,6 +26,11 @@ use Rattle.mi_clients.proofs.InputLemmas.{unended_back}
 use Rattle.mi_clients.proofs.StepLemmas.{none_more}
 use Rattle.mi_clients.proofs.RowLemmas.{same_test, turned, none_at}
 
+-- what follows from two facts of an Ok
+pub on_ok_both : {T E P Q R : Type 0} (r : Result T E) → (P → Q → R) → OnOk r P → OnOk r Q → OnOk r R
+on_ok_both (Ok v) f p q = f p q
+on_ok_both (Err e) f p q = tt
+
 -- what follows from three facts of an Ok
 pub on_ok_all : {T E P Q R W : Type 0} (r : Result T E) → (P → Q → R → W) → OnOk r P → OnOk r Q → OnOk r R → OnOk r W
 on_ok_all (Ok v) f p q s = f p q s

@@ -20,7 +20,7 @@ use Rattle.mi_hub.specs.Served.{InTurn}
 use Rattle.mi_hub.proofs.LineLemmas.{lines_from-nothing}
 use Rattle.mi_replay.specs.Journal.{undo_line}
 use Rattle.mi_ledger.specs.Ledger.{holder_conn}
-use Rattle.mi_ledger.proofs.JournalLemmas.{whole_line}
+use Rattle.mi_hub.proofs.OneLineLemmas.{whole_line}
 use Rattle.mi_clients.specs.Steps.{undo_bytes, HoldsSome}
 use Rattle.mi_clients.proofs.RowLemmas.{test_of, is_same}
 

@@ -6,8 +6,7 @@ use Rattle.mi_clients.specs.Client.{MayAsk, IsWhole}
 use Rattle.mi_clients.specs.declared.client.Client.{Client}
 use Rattle.mi_clients.specs.Steps.{AreAsks, AreUndos, asked_by}
 use Rattle.mi_clients.proofs.StepLemmas.{makes_then}
-use Rattle.mi_ledger.proofs.JournalLemmas.{on_ok_both}
-use Rattle.mi_clients.proofs.ServedLemmas.{on_ok_all, asked_still, served_read, served_whole, taken_in, asks_others, asks_alone, came_whole, went_on, on_alone, serve_asks_only}
+use Rattle.mi_clients.proofs.ServedLemmas.{on_ok_all, on_ok_both, asked_still, served_read, served_whole, taken_in, asks_others, asks_alone, came_whole, went_on, on_alone, serve_asks_only}
 use Rattle.mi_clients.proofs.StreamLemmas.{same_owes, same_then, breaks_owes}
 use Rattle.mi_clients.proofs.row.serve.Goals as goal
 

@@ -2,10 +2,9 @@
 use Rattle.std.proofs.Common.{◌++◌}
 use Rattle.std.proofs.lemmas.Result.{on_ok_weaker}
 use Rattle.mi_ledger.specs.Ledger.{hub_of}
-use Rattle.mi_ledger.proofs.JournalLemmas.{on_ok_both}
 use Rattle.mi_clients.proofs.StepLemmas.{makes_then, makes_kept}
 use Rattle.mi_clients.specs.Client.{IsSent, IsWhole}
-use Rattle.mi_clients.proofs.ServedLemmas.{serves_each, opens_all, all_left, stayers_asked}
+use Rattle.mi_clients.proofs.ServedLemmas.{on_ok_both, serves_each, opens_all, all_left, stayers_asked}
 use Rattle.mi_clients.proofs.StreamLemmas.{stayers_same, stayers_read, none_failed}
 use Rattle.mi_clients.proofs.row.serve_all.Goals as goal
 
