@@ -21,6 +21,7 @@ STAND_IN = f"{HERE}/stand_in.py"
 START = b'{"cmd":"start"}'
 INSERT = b'{"cmd":"insert","table":"side","row":{"n":%d}}'
 SIZE = b'{"cmd":"size","table":"side"}'
+RESERVE = b'{"cmd":"reserve","changes":1,"sessions":1}'
 BUSY = b'{"error":"busy","ok":false}\n'
 
 
@@ -88,6 +89,12 @@ class AWalk(unittest.TestCase):
     def test_a_lost_line(self):
         self.says(1, (INSERT % 5, inserted(0)))
         self.differs("the journal lacks it")
+
+    def test_a_reserve_may_be_there_or_not(self):
+        for kept in (False, True):
+            self.setUp()
+            a, b = self.says(1, (RESERVE, b'{"ok":true}\n'), (INSERT % 5, inserted(0)))
+            self.walked(*([a, b] if kept else [b]))
 
     def test_a_line_without_a_reply_may_be_there_or_not(self):
         a, b = self.says(1, (INSERT % 5, inserted(0)), (INSERT % 6, None))
