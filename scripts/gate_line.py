@@ -49,7 +49,8 @@ def line_of(log, of, on, minutes, day):
     if not passed or not done:
         raise NoLine("the output is of no whole run that passed")
     edits, how = done[-1]
-    return f"{START}{day}, commit `{of}`, {on}: {minutes:.0f} minutes; {passed[-1]} passed, 0 failed; {edits or 0} wrong bodies refused; {how}."
+    what = f"{passed[-1]} passed, 0 failed; {edits or 0} wrong bodies refused. {how[:1].upper()}{how[1:]}."
+    return f"{START}{day}, commit `{of}`, {on}: {minutes:.0f} minutes. {what}"
 
 
 def put(text, line):

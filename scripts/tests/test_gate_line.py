@@ -19,12 +19,12 @@ class ALine(unittest.TestCase):
         return gate_line.line_of(log, "abc", "4 processors (of a kind)", 71.6, "2026-01-02")
 
     def test_of_a_whole_run(self):
-        want = "**Last run.** 2026-01-02, commit `abc`, 4 processors (of a kind): 72 minutes; 9 passed, 0 failed; 3 wrong bodies refused; "
-        self.assertEqual(self.line(WHOLE), want + "every proof and must-fail edit was done in this run.")
+        want = "**Last run.** 2026-01-02, commit `abc`, 4 processors (of a kind): 72 minutes. 9 passed, 0 failed; 3 wrong bodies refused. "
+        self.assertEqual(self.line(WHOLE), want + "Every proof and must-fail edit was done in this run.")
 
     def test_of_a_run_that_kept_some(self):
         kept = "done in this run: 2 of the 60 proofs (of crates and of their tests) and 1 of the 3 must-fail edits; the others are kept from earlier runs"
-        self.assertTrue(self.line(WHOLE.replace("every proof and must-fail edit was done in this run", kept)).endswith(f"refused; {kept}."))
+        self.assertTrue(self.line(WHOLE.replace("every proof and must-fail edit was done in this run", kept)).endswith(f" refused. D{kept[1:]}."))
 
     def test_of_none_that_passed(self):
         for log in ("", WHOLE.replace("9 passed, 0 failed", "8 passed, 1 failed"), "9 passed, 0 failed\n",
