@@ -1,4 +1,5 @@
-"""What a web page's browser sends to the service's port: it is answered one line and let go, and no line of its body is asked."""
+"""What a web page's browser sends to the service's port, by methods in capital letters: it is answered one line and let go, and no line of its
+body is asked."""
 import os
 import shutil
 import socket
