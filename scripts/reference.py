@@ -350,9 +350,9 @@ def fits(kind, value):
     return is_text(value) and len(value.encode()) <= LONGEST_TEXT
 
 
-def is_web_request(line):
-    """Whether a service hears nothing behind a first line that begins so: as a request of HTTP does, or a hello of TLS."""
-    return line[:1] == b"\x16" or b"A" <= line[:1] <= b"Z"
+def is_foreign(line):
+    """Whether a service hears nothing behind a first line that begins so: neither with an object of JSON nor with a blank."""
+    return line[:1] not in (b"", b"{", b" ", b"\t", b"\n", b"\r")
 
 
 class Reference:

@@ -11,7 +11,7 @@ import time
 
 from stress.fuzz import Lines
 from stress.journal_walk import Said, mark, may_change
-from reference import CHANGES, LONGEST_LINE, STEPS, Index, Schema, is_web_request
+from reference import CHANGES, LONGEST_LINE, STEPS, Index, Schema, is_foreign
 from stress.service import WAIT
 
 SHORT = ["", "a", "b", "ann", "bob", "\u00e4", "\U0001f600", "z\"\\\n", "a" * 300]
@@ -71,7 +71,7 @@ class Speech(Lines):
         text = self.text(said)
         if pick.random() < 0.02:
             odd = self.damaged(text, said).replace(b"\n", b"\x0b") if pick.random() < 0.9 else text + b" " * LONGEST_LINE
-            if odd.strip(b"\r") and not may_change(odd.strip(b"\r")) and not is_web_request(odd):
+            if odd.strip(b"\r") and not may_change(odd.strip(b"\r")) and (n or not is_foreign(odd)):
                 return odd
         text += mark(number, n) if said["cmd"] in CHANGES | STEPS else b""
         return text + b"\r" if pick.random() < 0.02 else text

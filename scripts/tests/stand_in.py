@@ -23,7 +23,7 @@ TOP = os.path.dirname(os.path.dirname(os.path.dirname(os.path.realpath(__file__)
 sys.path[:0] = [f"{TOP}/scripts", f"{TOP}/clients/python"]
 
 import mi_client.schema  # noqa: E402
-from reference import Index, Reference, Schema, form, is_web_request, read  # noqa: E402
+from reference import Index, Reference, Schema, form, is_foreign, read  # noqa: E402
 
 PLANT = os.environ.get("PLANT", "")
 BOUND = 65_536
@@ -125,9 +125,9 @@ class Client:
         self.lines, self.rest, self.held, self.out, self.has_ended, self.is_first = [], b"", b"", b"", False, True
 
     def take(self, more):
-        """Bytes that have come, b"" at the end. Behind a web page's first line no more is heard."""
+        """Bytes that have come, b"" at the end. Behind a foreign first line no more is heard."""
         *lines, self.rest = (self.rest + more).split(b"\n")
-        if lines and self.is_first and is_web_request(lines[0]):
+        if lines and self.is_first and is_foreign(lines[0]):
             lines, self.rest, self.has_ended = lines[:1], b"", True
         self.lines += lines
         self.is_first = self.is_first and not lines

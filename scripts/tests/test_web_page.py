@@ -1,5 +1,4 @@
-"""What a web page's browser sends to the service's port, by methods in capital letters: it is answered one line and let go, and no line of its
-body is asked."""
+"""What a web page's browser sends to the service's port: it is answered one line and let go, and no line of its body is asked."""
 import os
 import shutil
 import socket
@@ -56,7 +55,8 @@ class WebPages(unittest.TestCase):
 
     def test_no_line_of_a_body_is_asked(self):
         before = self.size()
-        for first in (b"POST / HTTP/1.1\r\n", b"GET /?x HTTP/1.1\r\n", b"OPTIONS * HTTP/1.1\n", b"PRI * HTTP/2.0\r\n", b"A\n", b"Z\n"):
+        for first in (b"POST / HTTP/1.1\r\n", b"GET /?x HTTP/1.1\r\n", b"OPTIONS * HTTP/1.1\n", b"PRI * HTTP/2.0\r\n", b"patch / HTTP/1.1\r\n",
+                      b"!#$%&'*+-.^_`|~ / HTTP/1.1\r\n", b"7 / HTTP/1.1\r\n", b"\x00\n", b"\xff\n", b"/\n", b"[\n", b"A\n", b"z\n"):
             for shuts in (True, False):
                 self.assertEqual(self.heard(first + HEADERS + INSERT * 3, shuts=shuts), NO_JSON, first)
         self.assertEqual(self.size(), before)
@@ -91,7 +91,7 @@ class WebPages(unittest.TestCase):
 
     def test_other_first_lines_are_served_on(self):
         before = self.size()
-        for first in (b"get\n", b"\xff\n", b"/\n", b"@\n", b"[\n", b"\x15\n", b"\x17\n", b" POST / HTTP/1.1\n"):
+        for first in (b"{\n", b"{get\n", b" POST / HTTP/1.1\n", b"\tGET\n", b"\rGET\n"):
             self.assertEqual(self.heard(first + SIZE), NO_JSON + before, first)
         self.assertEqual(self.heard(SIZE + b"POST / HTTP/1.1\n" + SIZE), before + NO_JSON + before)
         self.assertEqual(self.heard(SIZE, b"POST / HTTP/1.1\n", SIZE), before + NO_JSON + before)
@@ -111,8 +111,9 @@ class WebPages(unittest.TestCase):
     @unittest.skipUnless(shutil.which("curl"), "curl isn't there")
     def test_curl(self):
         before = self.size()
-        words = ["curl", "--silent", "--max-time", "60", "--data-binary", "\n" + INSERT.decode(), f"http://127.0.0.1:{self.running.port}/"]
-        self.assertNotEqual(subprocess.run(words, stdin=subprocess.DEVNULL, capture_output=True).returncode, 0)
+        for method in ("POST", "patch", "7", "~"):
+            words = ["curl", "--silent", "--max-time", "60", "-X", method, "--data-binary", "\n" + INSERT.decode(), f"http://127.0.0.1:{self.running.port}/"]
+            self.assertNotEqual(subprocess.run(words, stdin=subprocess.DEVNULL, capture_output=True).returncode, 0, method)
         self.assertEqual(self.size(), before)
 
 

@@ -2,7 +2,7 @@
 use Rattle.std.proofs.Common.{◌≡◌, ℕ, zero, suc, ◌<◌, List, [], ◌∷◌, ◌++◌, length, take, get_or, Bool, true, false, ◌&&◌, cond, nat_eq, inl, inr, refl, sym, ap, subst, ◌∙◌}
 use Rattle.std.proofs.Common.{arith, append-nil}
 use Rattle.mi_hub.specs.Ended.{ended, put_front, if_none}
-use Rattle.mi_clients.specs.Heard.{first_line, is_web_request, heard, still_first, is_last}
+use Rattle.mi_clients.specs.Heard.{first_line, is_foreign, heard, still_first, is_last}
 use Rattle.mi_clients.specs.Lines.{SameLines, IsKept}
 use Rattle.mi_clients.specs.Input.{waiting}
 use Rattle.mi_clients.specs.Client.{Hears}
@@ -50,8 +50,8 @@ unended_join [] p h k = k
 unended_join (x ∷ w) p h k = join_by x w p (nat_eq x 10) refl h (λ none. unended_join w p none k)
 
 -- what is heard behind the beginning of a line
-pub heard_web : (first : Bool) (w p : List ℕ) → ended w ≡ [] → (first && is_web_request (w ++ p)) ≡ true → w ++ first_line p ≡ heard first (w ++ p)
-heard_web first w p h is = sym (ap (λ b. cond b (first_line (w ++ p)) (w ++ p)) is ∙ first_behind w p h)
+pub heard_foreign : (first : Bool) (w p : List ℕ) → ended w ≡ [] → (first && is_foreign (w ++ p)) ≡ true → w ++ first_line p ≡ heard first (w ++ p)
+heard_foreign first w p h is = sym (ap (λ b. cond b (first_line (w ++ p)) (w ++ p)) is ∙ first_behind w p h)
 
 -- what is kept of a piece without newlines has none
 pub unended_kept : (w p k : List ℕ) → IsKept w p k → ended p ≡ [] → ended k ≡ []
@@ -71,15 +71,15 @@ same_answer true b p q = sym (p refl)
 same_answer false true p q = q refl
 same_answer false false p q = refl
 
-last_says : (ts : List (List ℕ)) (first web : Bool) → if_none ts false (first && web) ≡ true → (first ≡ true) × (web ≡ true) × ¬ (ts ≡ [])
-last_says [] first web is = absurd (true_false false is refl)
+last_says : (ts : List (List ℕ)) (first foreign : Bool) → if_none ts false (first && foreign) ≡ true → (first ≡ true) × (foreign ≡ true) × ¬ (ts ≡ [])
+last_says [] first foreign is = absurd (true_false false is refl)
 last_says (t ∷ ts) true true is = (refl, refl, cons_none t ts)
 last_says (t ∷ ts) true false is = absurd (true_false false is refl)
-last_says (t ∷ ts) false web is = absurd (true_false false is refl)
+last_says (t ∷ ts) false foreign is = absurd (true_false false is refl)
 
-last_where : (ts : List (List ℕ)) (first web : Bool) → first ≡ true → web ≡ true → ¬ (ts ≡ []) → if_none ts false (first && web) ≡ true
-last_where [] first web p q some = absurd (some refl)
-last_where (t ∷ ts) first web p q some = ap (λ b. b && web) p ∙ q
+last_where : (ts : List (List ℕ)) (first foreign : Bool) → first ≡ true → foreign ≡ true → ¬ (ts ≡ []) → if_none ts false (first && foreign) ≡ true
+last_where [] first foreign p q some = absurd (some refl)
+last_where (t ∷ ts) first foreign p q some = ap (λ b. b && foreign) p ∙ q
 
 still_says : (ts : List (List ℕ)) (first : Bool) → if_none ts first false ≡ true → (first ≡ true) × (ts ≡ [])
 still_says [] first is = (is, refl)
@@ -90,11 +90,11 @@ still_where ts first p none = ap (λ us. if_none us first false) none ∙ p
 
 -- what a piece says of the bytes that it stands behind, in which no newline is
 module _ (w p : List ℕ) (h : ended w ≡ []) where
-  pub last_is : (first r : Bool) → (r ≡ true → (first ≡ true) × (is_web_request (w ++ p) ≡ true) × ¬ (ended p ≡ []))
-      → ((first ≡ true) × (is_web_request (w ++ p) ≡ true) × ¬ (ended p ≡ []) → r ≡ true) → r ≡ is_last first (w ++ p)
+  pub last_is : (first r : Bool) → (r ≡ true → (first ≡ true) × (is_foreign (w ++ p) ≡ true) × ¬ (ended p ≡ []))
+      → ((first ≡ true) × (is_foreign (w ++ p) ≡ true) × ¬ (ended p ≡ []) → r ≡ true) → r ≡ is_last first (w ++ p)
   last_is first r says where_so = same_answer r (is_last first (w ++ p))
-      (λ is. let all = says is in last_where (ended (w ++ p)) first (is_web_request (w ++ p)) all.0 all.1 (λ none. all.2 (unended_back w p none)))
-      (λ is. let all = last_says (ended (w ++ p)) first (is_web_request (w ++ p)) is in
+      (λ is. let all = says is in last_where (ended (w ++ p)) first (is_foreign (w ++ p)) all.0 all.1 (λ none. all.2 (unended_back w p none)))
+      (λ is. let all = last_says (ended (w ++ p)) first (is_foreign (w ++ p)) is in
       where_so (all.0, all.1, λ none. all.2 (unended_join w p h none)))
 
   pub still_is : (first r : Bool) → (r ≡ true → (first ≡ true) × (ended p ≡ [])) → ((first ≡ true) × (ended p ≡ []) → r ≡ true)
@@ -105,7 +105,7 @@ module _ (w p : List ℕ) (h : ended w ≡ []) where
 
   -- of bytes without a newline all is heard
   pub heard_unended : (first : Bool) (q : List ℕ) → ended p ≡ [] → w ++ q ≡ heard first (w ++ p) → ended q ≡ []
-  heard_unended first q none is = unended_back w q (ap ended (is ∙ by_test (first && is_web_request (w ++ p))) ∙ unended_join w p h none)
+  heard_unended first q none is = unended_back w q (ap ended (is ∙ by_test (first && is_foreign (w ++ p))) ∙ unended_join w p h none)
     where
       by_test : (b : Bool) → cond b (first_line (w ++ p)) (w ++ p) ≡ w ++ p
       by_test true = first_all (w ++ p) (unended_join w p h none)
@@ -121,9 +121,9 @@ nothing_heard : (first : Bool) (w : List ℕ) → (first ≡ true → ended w �
     → (heard first w ≡ w) × (first ≡ still_first first w) × (is_last first w ≡ true → ⊥)
 nothing_heard true w unended =
     let none = unended refl in (
-      by_test (is_web_request w),
+      by_test (is_foreign w),
       sym (ap (λ ts. if_none ts true false) none),
-      λ is. true_false (is_last true w) is (ap (λ ts. if_none ts false (is_web_request w)) none),
+      λ is. true_false (is_last true w) is (ap (λ ts. if_none ts false (is_foreign w)) none),
     )
   where
     by_test : (b : Bool) → cond b (first_line w) w ≡ w

@@ -87,7 +87,7 @@ AsksWithin old steps =
     × (length (owed old ++ given_to old.conn front) ≤ MOST_UNSENT))
 
 -- Between old and new these bytes waited of a connection or came, and it has asked these lines: they and what waits then have the lines that are
--- heard. Behind a web page's first line no more comes.
+-- heard. Behind a first line that begins as no command does no more comes.
 abbrev pub Hears : {S : Type 0} → List ℕ → List ℕ → Client S → Client S → Type 0
 Hears bytes taken old new =
     SameLines (heard old.input.is_first bytes) (taken ++ waiting new.input)

@@ -217,7 +217,7 @@ impl<S: Duplex> Client<S> {
         }
     }
 
-    /// A piece has come. Behind a web page's first line no more is read.
+    /// A piece has come. Behind a first line that begins as no command does no more is read.
     fn take(&mut self, piece: &[u8])
         requires open { self.old.phase ≡ phases.Open }
         requires lines { ended (waiting self.old.input) ≡ [] }

@@ -3,7 +3,7 @@ ghost use Rattle.std.specs.Prelude.{◌≡◌, ◌≤◌, ◌++◌, ℕ, List, [
 ghost use Rattle.mi_hub.specs.Ended.{ended};
 ghost use Rattle.mi_ledger.specs.Journals.{IsWholeLine};
 ghost use Rattle.mi_clients.specs.Lines.{SameLines, Ends, IsFilled};
-ghost use Rattle.mi_clients.specs.Heard as web;
+ghost use Rattle.mi_clients.specs.Heard as hearing;
 
 use crate::lines::{closing, heard_of, is_last, is_still_first, kept_of};
 use memchr::memchr;
@@ -12,7 +12,7 @@ use std::alloc::{AllocError, Global};
 /// Bytes that a connection has sent, from the first that wasn't asked on.
 ///
 /// Of a line that is longer than a line may be no more is kept than tells that it is over-long. Behind the first line nothing is kept, where
-/// that is a web page's.
+/// that begins as no command does.
 #[derive(Drop)]
 pub struct Input {
     bytes: Vec<u8>,
@@ -81,13 +81,13 @@ impl Input {
     }
 
     /// A piece comes behind the beginning of a line, and what was asked is let go. The answer is whether the connection has ended by it: its first
-    /// line is whole, and a web page's, and nothing behind that is heard. An error leaves what waits as it is.
+    /// line is whole and begins as no command does, and nothing behind that is heard. An error leaves what waits as it is.
     pub fn fill(&mut self, piece: &[u8]) -> Result<bool, AllocError>
         requires { ended (waiting self.old) ≡ [] }
-        ensures ok { OnOk result (SameLines (web.heard self.old.is_first (waiting self.old ++ piece.now)) (waiting self.new)) }
-        ensures first { OnOk result (self.new.is_first ≡ web.still_first self.old.is_first (waiting self.old ++ piece.now)) }
-        ensures last { IfOk result (λ last. last ≡ web.is_last self.old.is_first (waiting self.old ++ piece.now)) }
-        ensures kept { OnOk result ((part : List ℕ) × (waiting self.old ++ part ≡ web.heard self.old.is_first (waiting self.old ++ piece.now))
+        ensures ok { OnOk result (SameLines (hearing.heard self.old.is_first (waiting self.old ++ piece.now)) (waiting self.new)) }
+        ensures first { OnOk result (self.new.is_first ≡ hearing.still_first self.old.is_first (waiting self.old ++ piece.now)) }
+        ensures last { IfOk result (λ last. last ≡ hearing.is_last self.old.is_first (waiting self.old ++ piece.now)) }
+        ensures kept { OnOk result ((part : List ℕ) × (waiting self.old ++ part ≡ hearing.heard self.old.is_first (waiting self.old ++ piece.now))
             × IsFilled (waiting self.old) part (waiting self.new)) }
         ensures err { OnErr result (waiting self.new ≡ waiting self.old) }
         ensures let_go { kept self.new ≡ waiting self.new }

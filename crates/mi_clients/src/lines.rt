@@ -1,26 +1,23 @@
 //! What of bytes is heard and kept, and what makes a line of them. It holds no bytes.
 ghost use Rattle.std.specs.Prelude.{◌≡◌, ◌↔◌, ◌++◌, [], IsTrue, IsFalse, MatchOption};
 ghost use Rattle.mi_hub.specs.Ended.{ended};
-ghost use Rattle.mi_clients.specs.Heard as web;
+ghost use Rattle.mi_clients.specs.Heard as hearing;
 ghost use Rattle.mi_clients.specs.Lines.{SameLines, EndsAsClosed, IsFull, IsOverLong, IsFromNewline, IsKept};
 
 use memchr::memchr;
 use mi_value::limits::MAX_LINE;
 
-/// The first byte of a hello of TLS.
-const TLS_HELLO: u8 = 22;
-
-/// Whether what waits, and a piece behind it, begin as a web page's request does.
-fn is_web_request(waiting: &[u8], piece: &[u8]) -> bool
-    ensures { result ≡ web.is_web_request (waiting.now ++ piece.now) }
+/// Whether what waits, and a piece behind it, begin as no command does, with neither an object nor a blank: as a web page's request.
+fn is_foreign(waiting: &[u8], piece: &[u8]) -> bool
+    ensures { result ≡ hearing.is_foreign (waiting.now ++ piece.now) }
 {
     let bytes = if waiting.is_empty() { piece } else { waiting };
-    matches!(bytes, [b'A'..=b'Z' | TLS_HELLO, ..])
+    !matches!(bytes, [] | [b'{' | b' ' | b'\t' | b'\n' | b'\r', ..])
 }
 
 /// What of a piece stands up to and with its first newline; all where it has none.
 fn first_line(piece: &[u8]) -> &[u8]
-    ensures { result.now ≡ web.first_line piece.now }
+    ensures { result.now ≡ hearing.first_line piece.now }
 {
     match memchr(b'\n', piece) {
         Some(at) => {
@@ -45,9 +42,9 @@ fn has_newline(piece: &[u8]) -> bool
 /// What of a piece is heard behind what waits, the beginning of a line; `first` says that this is the first of its connection.
 pub(crate) fn heard_of<'a>(first: bool, waiting: &[u8], piece: &'a [u8]) -> &'a [u8]
     requires { ended waiting.now ≡ [] }
-    ensures { waiting.now ++ result.now ≡ web.heard first (waiting.now ++ piece.now) }
+    ensures { waiting.now ++ result.now ≡ hearing.heard first (waiting.now ++ piece.now) }
 {
-    if first && is_web_request(waiting, piece) {
+    if first && is_foreign(waiting, piece) {
         first_line(piece)
     } else {
         piece
@@ -56,9 +53,9 @@ pub(crate) fn heard_of<'a>(first: bool, waiting: &[u8], piece: &'a [u8]) -> &'a 
 
 /// Whether nothing is heard behind a piece.
 pub(crate) fn is_last(first: bool, waiting: &[u8], piece: &[u8]) -> bool
-    ensures { IsTrue result ↔ (IsTrue first × IsTrue (web.is_web_request (waiting.now ++ piece.now)) × ¬ (ended piece.now ≡ [])) }
+    ensures { IsTrue result ↔ (IsTrue first × IsTrue (hearing.is_foreign (waiting.now ++ piece.now)) × ¬ (ended piece.now ≡ [])) }
 {
-    first && is_web_request(waiting, piece) && has_newline(piece)
+    first && is_foreign(waiting, piece) && has_newline(piece)
 }
 
 /// Whether the first line of a connection is still to come behind a piece.
