@@ -32,6 +32,7 @@ public:
     static constexpr bool HAS_ALL = true;
     static bool has_range(const Range &it) { return it.index == Index::Id || it.index == Index::ByBalance || it.index == Index::ByClass; }
     static bool has_rank(Index it) { return it == Index::Id || it == Index::ByBalance; }
+    static bool has_key(Index it) { return it != Index::Line; }
 
     Outcome insert(const RowView &row, std::optional<std::int64_t> before) {
         auto &by_id = accounts_.get<ById>();

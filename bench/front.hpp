@@ -477,26 +477,28 @@ private:
             std::optional<std::int64_t> before;
             return index == Index::Line && it.id && read_place(it.before, before) && plain(table_.relocate(*it.id, before));
         }
+        if (it.cmd == "nth") return it.n && Table::has_rank(index) && one([&](auto emit) { return table_.nth(index, *it.n, emit); });
+        if (it.cmd == "list") return index == Index::Line && page([&](auto emit) { return table_.list(it.after, it.limit.value_or(MOST_ROWS), emit); });
+        Key key;
+        return read_key(index, it.key, key) && keyed(it.cmd, index, key);
+    }
+
+    /// The commands of a key.
+    bool keyed(std::string_view cmd, Index index, const Key &key) {
+        if (cmd == "find") return Table::has_key(index) && one([&](auto emit) { return table_.find(index, key, emit); });
+        if (cmd == "count") return Table::has_key(index) && reply(Outcome::of(table_.count(index, key)), "{\"count\":");
         if constexpr (Table::HAS_ALL) {
-            return keyed(it, index);
+            return unmeasured(cmd, index, key);
         }
         return false;
     }
 
-    /// The commands of an index that no workload has.
-    bool keyed(const Command &it, Index index) {
-        if (it.cmd == "nth") return it.n && Table::has_rank(index) && one([&](auto emit) { return table_.nth(index, *it.n, emit); });
-        if (it.cmd == "list") return index == Index::Line && page([&](auto emit) { return table_.list(it.after, it.limit.value_or(MOST_ROWS), emit); });
-        Key key;
-        if (!read_key(index, it.key, key)) {
-            return false;
-        }
-        if (it.cmd == "find") return one([&](auto emit) { return table_.find(index, key, emit); });
-        if (it.cmd == "count") return reply(Outcome::of(table_.count(index, key)), "{\"count\":");
-        if (it.cmd == "erase_key") return reply(Outcome::of(table_.erase_key(index, key)), "{\"erased\":");
+    /// Those that no workload has.
+    bool unmeasured(std::string_view cmd, Index index, const Key &key) {
+        if (cmd == "erase_key") return reply(Outcome::of(table_.erase_key(index, key)), "{\"erased\":");
         if (!Table::has_rank(index)) return false;
-        if (it.cmd == "lower_rank") return reply(Outcome::of(table_.lower_rank(index, key)), "{\"ok\":true,\"rank\":", "}\n");
-        if (it.cmd == "upper_rank") return reply(Outcome::of(table_.upper_rank(index, key)), "{\"ok\":true,\"rank\":", "}\n");
+        if (cmd == "lower_rank") return reply(Outcome::of(table_.lower_rank(index, key)), "{\"ok\":true,\"rank\":", "}\n");
+        if (cmd == "upper_rank") return reply(Outcome::of(table_.upper_rank(index, key)), "{\"ok\":true,\"rank\":", "}\n");
         return false;
     }
 

@@ -245,7 +245,7 @@ def point(rows, values):
 
 
 def speed_plots(about, tables):
-    """Nine plots of lines a second over the number of records, both logarithmic."""
+    """A plot for each workload, of lines a second over the number of records, both logarithmic."""
     width, height, parts = 210, 150, []
     names = list(about["systems"])
     for number, (key, title) in enumerate(workloads.TITLES.items()):
@@ -255,7 +255,7 @@ def speed_plots(about, tables):
             series[name] = [point(rows, values) for rows, values in found if values]
         left, top = 60 + number % 3 * (width + 70), 70 + number // 3 * (height + 80)
         parts += panel(left, top, width, height, title, series, "lines a second")
-    return image(3 * (width + 70) + 20, 3 * (height + 80) + 50, legend(names, 60, 24) + parts)
+    return image(3 * (width + 70) + 20, math.ceil(len(workloads.TITLES) / 3) * (height + 80) + 50, legend(names, 60, 24) + parts)
 
 
 def memory_plot(about, tables):

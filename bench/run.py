@@ -87,13 +87,14 @@ class Table:
     def __init__(self, rows, chosen, options):
         self.rows, self.systems, self.options = rows, chosen, options
         self.shortest = 0 if options.quick else SHORTEST_SECONDS
-        self.records = workloads.records(rows)
+        self.records = {name: records(rows) for name, records in workloads.TABLES.items()}
         self.work = list(workloads.all_of(rows, options.quick))
         self.cells = {(name, it.name): Cell() for name in workloads.NAMES for it in chosen}
         self.known = {}
         self.encoded = {}
         self.bytes = {it.name: [] for it in chosen}
-        self.filled = set()
+        # by which records each system's table is filled
+        self.filled = {}
 
     def cell(self, system, name):
         return self.cells[name, system.name]
@@ -110,7 +111,7 @@ class Table:
             self.filled.clear()
             try:
                 for system in order:
-                    self.fill(system, True)
+                    self.fill(system, "usual", True)
                 for work in self.work:
                     for system in order:
                         self.measure(system, work)
@@ -127,13 +128,13 @@ class Table:
             self.encoded[key] = system.encode(ops)
         return self.encoded[key]
 
-    def fill(self, system, is_timed):
+    def fill(self, system, table, is_timed):
         """Starts the system and inserts all records, again and again where that is short and timed; whether it is ready then."""
         cell, asked = self.cell(system, "insert"), []
         if cell.left_out:
             return False
         for _ in range(MOST_FILLS if is_timed else 1):
-            filled = self.fill_anew(system, cell)
+            filled = self.fill_anew(system, table, cell)
             if not filled:
                 return False
             asked.append(filled[0])
@@ -142,34 +143,35 @@ class Table:
         if is_timed:
             self.bytes[system.name].append(filled[1])
             cell.rounds.append(together(asked))
-        self.filled.add(system.name)
+        self.filled[system.name] = table
         return True
 
-    def fill_anew(self, system, cell):
+    def fill_anew(self, system, table, cell):
         """What a fresh process took to insert all records, and the bytes that it grew by for each; None where it is left out."""
         system.stop()
         system.start()
         try:
             system.ask(system.encode([("size",)]), self.options.limit)
             before = system.process.resident()
-            replies, seconds, busy = system.ask(self.lines(system, "insert", self.records), self.options.limit)
+            replies, seconds, busy = system.ask(self.lines(system, table, self.records[table]), self.options.limit)
         except systems.TooSlow as why:
             return self.leave_out(system, cell, f"{why.done:,} of {self.rows:,} inserts were done in {why.seconds:.0f} s")
         except (systems.Ended, OSError) as why:
             return self.leave_out(system, cell, str(why))
+        # (the replies to inserts have ids alone, which are the same for every table)
         self.compare(system, "insert", replies)
         return (self.rows, seconds, busy), (system.process.resident() - before) / self.rows
 
     def leave_out(self, system, cell, why):
         cell.left_out = f"{why}, in round {len(cell.rounds) + 1}" if cell.rounds else why
         system.stop()
-        self.filled.discard(system.name)
+        self.filled.pop(system.name, None)
 
     def measure(self, system, work):
         cell = self.cell(system, work.name)
         if work.name not in system.knows:
             cell.left_out = report.NO_COMMAND
-        if cell.left_out or (system.name not in self.filled and not self.fill(system, False)):
+        if cell.left_out or (self.filled.get(system.name) != work.table and not self.fill(system, work.table, False)):
             return
         try:
             if cell.units is None:

@@ -1,15 +1,13 @@
 // The table `accounts` in SQLite, in memory, by prepared statements; a session is a savepoint.
 //
 // The columns that end in `_at` say when a record came to its key, so that equals stand in that order; `line` is its place in
-// the list. SQL has no `commit` of the oldest savepoints, and no index that knows ranks: a rank is counted. All is in one transaction, so
-// that no change is one of its own.
+// the list. SQL has no `commit` of the oldest savepoints, and no index that knows ranks: a rank is counted, and the rows before the n-th
+// are walked. All is in one transaction, so that no change is one of its own.
 #include "front.hpp"
+#include "sqlite.hpp"
 
 #include <cstdio>
-#include <cstdlib>
 #include <limits>
-
-#include <sqlite3.h>
 
 constexpr const char *SCHEMA = R"(
 PRAGMA locking_mode = EXCLUSIVE;
@@ -27,77 +25,6 @@ BEGIN;
 /// How far apart the places of new records are in the list.
 constexpr std::int64_t STEP = std::int64_t{1} << 32;
 
-[[noreturn]] void stop(sqlite3 *base) {
-    std::fprintf(stderr, "sqlite: %s\n", sqlite3_errmsg(base));
-    std::exit(4);
-}
-
-class Statement {
-public:
-    Statement(sqlite3 *base, const char *text) : base_(base) {
-        if (sqlite3_prepare_v3(base, text, -1, SQLITE_PREPARE_PERSISTENT, &statement_, nullptr) != SQLITE_OK) {
-            stop(base);
-        }
-    }
-    Statement(const Statement &) = delete;
-    ~Statement() { sqlite3_finalize(statement_); }
-
-    template <class... Values>
-    Statement &with(const Values &...values) {
-        sqlite3_reset(statement_);
-        int at = 0;
-        (bind(++at, values), ...);
-        return *this;
-    }
-
-    /// The next row, if there is one; the statement is reset behind the last.
-    bool row() {
-        switch (sqlite3_step(statement_)) {
-        case SQLITE_ROW:
-            return true;
-        case SQLITE_DONE:
-            sqlite3_reset(statement_);
-            return false;
-        default:
-            stop(base_);
-        }
-    }
-
-    /// False where a unique index refuses it.
-    bool done() {
-        const int found = sqlite3_step(statement_);
-        sqlite3_reset(statement_);
-        if (found != SQLITE_DONE && (found & 0xff) != SQLITE_CONSTRAINT) {
-            stop(base_);
-        }
-        return found == SQLITE_DONE;
-    }
-
-    std::int64_t number(int column) { return sqlite3_column_int64(statement_, column); }
-    std::string_view text(int column) {
-        auto *bytes = reinterpret_cast<const char *>(sqlite3_column_text(statement_, column));
-        return {bytes, static_cast<std::size_t>(sqlite3_column_bytes(statement_, column))};
-    }
-    void end() { sqlite3_reset(statement_); }
-
-private:
-    void bind(int at, std::int64_t value) { sqlite3_bind_int64(statement_, at, value); }
-    void bind(int at, bool value) { sqlite3_bind_int(statement_, at, value); }
-    void bind(int at, std::string_view value) { sqlite3_bind_text(statement_, at, value.data(), static_cast<int>(value.size()), SQLITE_STATIC); }
-
-    sqlite3 *base_;
-    sqlite3_stmt *statement_ = nullptr;
-};
-
-sqlite3 *opened() {
-    sqlite3 *base = nullptr;
-    if (sqlite3_open_v2(":memory:", &base, SQLITE_OPEN_READWRITE | SQLITE_OPEN_CREATE | SQLITE_OPEN_NOMUTEX, nullptr) != SQLITE_OK ||
-        sqlite3_extended_result_codes(base, 1) != SQLITE_OK || sqlite3_exec(base, SCHEMA, nullptr, nullptr, nullptr) != SQLITE_OK) {
-        stop(base);
-    }
-    return base;
-}
-
 /// The counters, which an undo puts back.
 struct Counters {
     std::int64_t next_id = 0, arrivals = 0, last_place = 0;
@@ -110,8 +37,12 @@ public:
     ~Table() { sqlite3_close_v2(base_); }
 
     static constexpr bool HAS_ALL = false;
-    static bool has_range(const Range &it) { return it.index == Index::ByBalance && it.lower && it.lower->with_equals && !it.upper && !it.reverse; }
+    static bool has_range(const Range &it) {
+        const bool from = it.lower && it.lower->with_equals, below = it.upper && !it.upper->with_equals;
+        return it.index == Index::ByBalance && (it.reverse ? !it.lower && below : from && (!it.upper || below));
+    }
     static bool has_rank(Index it) { return it == Index::ByBalance; }
+    static bool has_key(Index it) { return it == Index::ByOwner || it == Index::ByBalance; }
 
     Outcome insert(const RowView &row, std::optional<std::int64_t> before) {
         if (before) {
@@ -222,16 +153,46 @@ public:
     }
 
     template <class Emit>
+    bool find(Index index, const Key &key, Emit emit) {
+        return one(index == Index::ByOwner ? find_owner_.with(key.owner) : find_balance_.with(key.number), emit);
+    }
+
+    std::int64_t count(Index index, const Key &key) {
+        Statement &counted = index == Index::ByOwner ? count_owner_.with(key.owner) : count_balance_.with(key.number);
+        counted.row();
+        const std::int64_t found = counted.number(0);
+        counted.end();
+        return found;
+    }
+
+    template <class Emit>
+    bool nth(Index, std::int64_t n, Emit emit) {
+        return one(nth_.with(n), emit);
+    }
+
+    template <class Emit>
     bool range(const Range &range, Emit emit) {
-        range_.with(range.lower->key.number, range.limit + 1);
-        std::int64_t left = range.limit;
-        bool is_row = range_.row();
-        for (; is_row && left > 0; left--) {
-            emit(RowView{range_.number(0), range_.text(1), range_.number(2), range_.number(3) != 0});
-            is_row = range_.row();
+        if (range.reverse) {
+            return walk(below_.with(range.upper->key.number, range.limit + 1), range.limit, emit);
         }
-        range_.end();
-        return is_row;
+        if (range.upper) {
+            return walk(between_.with(range.lower->key.number, range.upper->key.number, range.limit + 1), range.limit, emit);
+        }
+        return walk(range_.with(range.lower->key.number, range.limit + 1), range.limit, emit);
+    }
+
+    /// Whether records remain, or nothing where `after` isn't there.
+    template <class Emit>
+    std::optional<bool> list(std::optional<std::int64_t> after, std::int64_t limit, Emit emit) {
+        std::int64_t place = std::numeric_limits<std::int64_t>::min();
+        if (after) {
+            if (!place_of_.with(*after).row()) {
+                return {};
+            }
+            place = place_of_.number(0);
+            place_of_.end();
+        }
+        return walk(list_.with(place, limit + 1), limit, emit);
     }
 
     Outcome rank(Index, std::int64_t id) {
@@ -244,6 +205,31 @@ public:
     }
 
 private:
+    static RowView record(Statement &it) { return {it.number(0), it.text(1), it.number(2), it.number(3) != 0}; }
+
+    /// Shows the first record that a statement finds, if there is one.
+    template <class Emit>
+    static bool one(Statement &it, Emit &emit) {
+        const bool found = it.row();
+        if (found) {
+            emit(record(it));
+        }
+        it.end();
+        return found;
+    }
+
+    /// Shows the records that a statement finds, at most so many; whether others remain.
+    template <class Emit>
+    static bool walk(Statement &it, std::int64_t left, Emit &emit) {
+        bool is_row = it.row();
+        for (; is_row && left > 0; left--) {
+            emit(record(it));
+            is_row = it.row();
+        }
+        it.end();
+        return is_row;
+    }
+
     std::int64_t owner_of(std::string_view owner) {
         owner_.with(owner).row();
         const std::int64_t found = owner_.number(0);
@@ -295,7 +281,7 @@ private:
         }
     }
 
-    sqlite3 *base_ = opened();
+    sqlite3 *base_ = opened(SCHEMA);
     Counters counters_;
     std::vector<Counters> sessions_;
     std::int64_t revision_ = 0;
@@ -315,6 +301,15 @@ private:
                                " WHERE n.id = accounts.id"};
     Statement size_{base_, "SELECT count(*) FROM accounts"};
     Statement range_{base_, "SELECT id, owner, balance, vip FROM accounts WHERE balance >= ?1 ORDER BY balance, balance_at LIMIT ?2"};
+    Statement between_{base_, "SELECT id, owner, balance, vip FROM accounts WHERE balance >= ?1 AND balance < ?2 ORDER BY balance, balance_at LIMIT ?3"};
+    Statement below_{base_, "SELECT id, owner, balance, vip FROM accounts WHERE balance < ?1 ORDER BY balance DESC, balance_at DESC LIMIT ?2"};
+    Statement find_owner_{base_, "SELECT id, owner, balance, vip FROM accounts WHERE owner = ?1"};
+    Statement find_balance_{base_, "SELECT id, owner, balance, vip FROM accounts WHERE balance = ?1 ORDER BY balance_at LIMIT 1"};
+    Statement count_owner_{base_, "SELECT count(*) FROM accounts WHERE owner = ?1"};
+    Statement count_balance_{base_, "SELECT count(*) FROM accounts WHERE balance = ?1"};
+    Statement nth_{base_, "SELECT id, owner, balance, vip FROM accounts ORDER BY balance, balance_at LIMIT 1 OFFSET ?1"};
+    Statement place_of_{base_, "SELECT line FROM accounts WHERE id = ?1"};
+    Statement list_{base_, "SELECT id, owner, balance, vip FROM accounts WHERE line > ?1 ORDER BY line LIMIT ?2"};
     Statement rank_{base_, "SELECT (SELECT count(*) FROM accounts b WHERE (b.balance, b.balance_at) < (a.balance, a.balance_at))"
                            " FROM accounts a WHERE a.id = ?1"};
     Statement savepoint_{base_, "SAVEPOINT session"};

@@ -17,6 +17,8 @@ PIPE = 1 << 20
 F_SETPIPE_SZ = 1031
 WATCH_SECONDS = 0.05
 MARK = b"end of the replies"
+MOST_ROWS = 1000
+"""Of a page whose line says no number."""
 
 
 class TooSlow(Exception):
@@ -158,11 +160,20 @@ def all_resp(data):
     return found
 
 
+def one(rows):
+    """The reply that shows a record, or that there is none."""
+    return f'{{"ok":true,"row":{rows[0]}}}\n' if rows else '{"error":"id","ok":false}\n'
+
+
+def page(rows, is_more):
+    return f'{{"more":{str(is_more).lower()},"ok":true,"rows":[{",".join(rows)}]}}\n'
+
+
 class Redis:
     """A hash for each record, one for the owners, and a sorted set by the balance, whose members are the ids; commands are
-    pipelined over a socket of the file system. A range is two commands a row: the ids from the set, then the records."""
+    pipelined over a socket of the file system. What shows records is asked twice: for their ids, then for the records."""
 
-    knows = {"insert", "get", "range10", "range1000", "rank"}
+    knows = {"insert", "get", "range10", "range1000", "between", "below", "rank", "nth", "find", "find_sorted", "count", "keep"}
 
     def __init__(self, name, path, memory, about, folder):
         self.name, self.path, self.memory, self.about, self.folder, self.process = name, path, memory, about, folder, None
@@ -233,17 +244,61 @@ class Redis:
         replies, seconds, busy = self.exchange([resp("ZRANK", "by_balance", f"{id:08}") for _, id in ops], limit)
         return "".join(f'{{"ok":true,"rank":{it}}}\n' for it in all_resp(replies)).encode(), seconds, busy
 
+    def ask_nth(self, ops, limit):
+        return self.found([resp("ZRANGE", "by_balance", n, n) for _, n in ops], limit)
+
+    def ask_find_sorted(self, ops, limit):
+        return self.found([resp("ZRANGE", "by_balance", it, it, "BYSCORE", "LIMIT", 0, 1) for _, it in ops], limit)
+
+    def ask_find(self, ops, limit):
+        replies, *took = self.exchange([resp("HGET", "by_owner", owner) for _, owner in ops], limit)
+        return self.rows_of([[] if it is None else [int(it)] for it in all_resp(replies)], one, limit, took)
+
+    def ask_count(self, ops, limit):
+        replies, seconds, busy = self.exchange([resp("ZCOUNT", "by_balance", it, it) for _, it in ops], limit)
+        return "".join(f'{{"count":{it},"ok":true}}\n' for it in all_resp(replies)).encode(), seconds, busy
+
+    def ask_add(self, ops, limit):
+        commands = []
+        for _, id, more in ops:
+            commands += [resp("HINCRBY", f"a:{id}", "balance", more), resp("ZINCRBY", "by_balance", more, f"{id:08}")]
+        replies, seconds, busy = self.exchange(commands, limit)
+        said = [int(it) for it in all_resp(replies)]
+        if said[::2] != said[1::2]:
+            raise Ended("an add went wrong")
+        return b'{"ok":true}\n' * len(ops), seconds, busy
+
     def ask_range(self, ops, limit):
         asked = [resp("ZRANGE", "by_balance", lower, "+inf", "BYSCORE", "LIMIT", 0, most + 1) for _, lower, most in ops]
-        replies, seconds, busy = self.exchange(asked, limit)
-        pages = [[int(it) for it in page] for page in all_resp(replies)]
-        ids = [id for page, (_, _, most) in zip(pages, ops) for id in page[:most]]
-        replies, more_seconds, more_busy = self.exchange([self.record(id) for id in ids], limit)
-        said, rows = [], iter([self.row(id, it) for id, it in zip(ids, all_resp(replies))])
-        for page, (_, _, most) in zip(pages, ops):
-            listed = ",".join(next(rows) for _ in page[:most])
-            said.append(f'{{"more":{str(len(page) > most).lower()},"ok":true,"rows":[{listed}]}}\n')
-        return "".join(said).encode(), seconds + more_seconds, busy + more_busy
+        return self.pages(asked, [most for _, _, most in ops], limit)
+
+    def ask_between(self, ops, limit):
+        most = MOST_ROWS
+        asked = [resp("ZRANGE", "by_balance", lower, f"({upper}", "BYSCORE", "LIMIT", 0, most + 1) for _, lower, upper in ops]
+        return self.pages(asked, [most] * len(ops), limit)
+
+    def ask_below(self, ops, limit):
+        asked = [resp("ZRANGE", "by_balance", f"({upper}", "-inf", "BYSCORE", "REV", "LIMIT", 0, most + 1) for _, upper, most in ops]
+        return self.pages(asked, [most for _, _, most in ops], limit)
+
+    def found(self, asked, limit):
+        """The replies to commands each of which has at most one id."""
+        replies, *took = self.exchange(asked, limit)
+        return self.rows_of([list(map(int, it)) for it in all_resp(replies)], one, limit, took)
+
+    def pages(self, asked, mosts, limit):
+        """The replies to commands each of which has one id more than its page has at most, where there are so many."""
+        replies, *took = self.exchange(asked, limit)
+        ids = [list(map(int, it)) for it in all_resp(replies)]
+        more = iter([len(it) > most for it, most in zip(ids, mosts)])
+        return self.rows_of([it[:most] for it, most in zip(ids, mosts)], lambda rows: page(rows, next(more)), limit, took)
+
+    def rows_of(self, ids, shown, limit, took):
+        """The replies that show the records of these lists of ids, which took so long to find."""
+        replies, seconds, busy = self.exchange([self.record(id) for some in ids for id in some], limit)
+        values = iter(all_resp(replies))
+        said = "".join(shown([self.row(id, next(values)) for id in some]) for some in ids)
+        return said.encode(), took[0] + seconds, took[1] + busy
 
     def record(self, id):
         return resp("HMGET", f"a:{id}", "owner", "balance", "vip")

@@ -1,8 +1,11 @@
 """That the workloads can be compared at all, and the arithmetic of the report."""
+import collections
 import json
 import os
+import random
 import subprocess
 import sys
+import tempfile
 import unittest
 
 FOLDER = os.path.dirname(os.path.dirname(os.path.realpath(__file__)))
@@ -17,6 +20,7 @@ from stress.fuzz import ACCOUNTS  # noqa: E402
 from reference import Reference  # noqa: E402
 
 ROWS = 60
+LIMIT, MEMORY = 60, 1 << 32
 
 
 class Containers(unittest.TestCase):
@@ -31,35 +35,93 @@ class Containers(unittest.TestCase):
             self.assertEqual(answered, wanted.read())
 
 
-class Workloads(unittest.TestCase):
-    def setUp(self):
+class Answers:
+    """The reference over the table of a workload."""
+
+    def __init__(self, table):
         self.server = Reference([ACCOUNTS])
-        self.ask(workloads.records(ROWS))
+        self.ask(workloads.TABLES[table](ROWS))
+
+    @staticmethod
+    def filling(records):
+        return "".join(f'{{"id":{n},"ok":true}}\n' for n in range(len(records))).encode()
 
     def ask(self, ops):
-        replies = [json.loads(self.server.feed(1, workloads.line(it).encode())) for it in ops]
-        for op, reply in zip(ops, replies):
-            self.assertIs(reply["ok"], True, (op, reply))
-        return replies
+        return b"".join(self.server.feed(1, workloads.line(it).encode()) for it in ops)
 
     def shown(self):
         """All that can be seen of the table: each order, and the next id."""
         table = self.server.tables[0]
         return [[(id, table.rows[id]) for id in table.view(x)] for x in range(6)], table.next, self.server.revision
 
+
+class Workloads(unittest.TestCase):
+    def setUp(self):
+        self.over = {name: Answers(name) for name in workloads.TABLES}
+        self.units = {it.name: it.units for it in workloads.all_of(ROWS, True)}
+
+    def replies(self, name):
+        """The lines of a workload over the usual table, with their replies."""
+        ops = [it for unit in self.units[name] for it in unit]
+        return [(op, json.loads(self.over["usual"].ask([op]))) for op in ops]
+
+    def accepted(self, over, ops):
+        for op in ops:
+            reply = json.loads(over.ask([op]))
+            # (of the sorted numbers half are absent)
+            self.assertTrue(reply["ok"] or (op[0], reply["error"]) == ("find_sorted", "id"), (op, reply))
+
     def test_each_is_accepted_and_leaves_the_table_as_it_was(self):
-        before = self.shown()
         seen = ["insert"]
         for work in workloads.all_of(ROWS, True):
-            self.ask([("start",)] if work.within else [])
+            over = self.over[work.table]
+            before = over.shown()
+            self.accepted(over, [("start",)] if work.within else [])
             for unit in work.units:
-                self.ask(unit)
+                self.accepted(over, unit)
                 if not work.within:
-                    self.assertEqual(self.shown(), before, work.name)
-            self.ask([("undo",)] if work.within else [])
-            self.assertEqual(self.shown(), before, work.name)
+                    self.assertEqual(over.shown(), before, work.name)
+            self.accepted(over, [("undo",)] if work.within else [])
+            self.assertEqual(over.shown(), before, work.name)
             seen.append(work.name)
         self.assertEqual(seen, workloads.NAMES)
+
+    def test_each_has_a_title_an_explanation_and_sizes(self):
+        self.assertEqual(list(workloads.EXPLAINED), workloads.NAMES)
+        self.assertEqual([*workloads.UNITS], workloads.NAMES[1:])
+        self.assertEqual([*workloads.QUICK_UNITS], workloads.NAMES[1:])
+
+    def test_half_of_the_sorted_numbers_are_absent(self):
+        found = [reply["ok"] for _, reply in self.replies("find_sorted")]
+        self.assertEqual(sum(found), len(found) // 2)
+
+    def test_the_upper_bound_ends_a_bounded_range(self):
+        for (_, lower, upper), reply in self.replies("between"):
+            wanted = sum(lower <= balance < upper for _, _, balance, _ in workloads.records(ROWS))
+            self.assertEqual((len(reply["rows"]), reply["more"]), (wanted, False))
+
+    def test_a_reversed_range_begins_below_its_bound(self):
+        for (_, upper, _), reply in self.replies("below"):
+            balances = [it["balance"] for it in reply["rows"]]
+            wanted = sorted((balance for _, _, balance, _ in workloads.records(ROWS) if balance < upper), reverse=True)
+            self.assertEqual(balances, wanted[:10])
+
+    def test_what_keeps_its_place_passes_no_other_record(self):
+        over = self.over["spread"]
+        orders = [[id for id, _ in order] for order in over.shown()[0]]
+        for unit in self.units["keep"]:
+            for op in unit:
+                self.accepted(over, [op])
+                self.assertEqual([[id for id, _ in order] for order in over.shown()[0]], orders)
+
+    def test_full_adds_are_too_small_to_pass_another_record(self):
+        rows, size = 1_000_000, workloads.UNITS["keep"][1]
+        for seed in range(50):
+            unit, added = workloads.kept(rows, random.Random(seed), size), collections.Counter()
+            for _, id, more in unit[:size // 2]:
+                added[id] += abs(more)
+            self.assertEqual(len(unit), size)
+            self.assertLess(2 * max(added.values()), workloads.SPREAD // rows)
 
     def test_the_mix_has_each_kind_of_change(self):
         mix = next(it for it in workloads.all_of(10_000) if it.name == "mix")
@@ -70,6 +132,47 @@ class Workloads(unittest.TestCase):
         units = {it.name: it.units[0] for it in workloads.all_of(10_000)}
         self.assertEqual([len(units[it]) for it in ("undo", "nested", "squash")], [1002, 3000, 3000])
         self.assertTrue(all(op[0] == "squash" for op in units["squash"][2000:2999]))
+
+
+class Peers(unittest.TestCase):
+    """That each system answers each workload that it knows as the reference does."""
+
+    def compare(self, system):
+        wanted = {name: Answers(name) for name in workloads.TABLES}
+        filled = None
+        self.addCleanup(system.stop)
+        for work in workloads.all_of(ROWS, True):
+            if work.name not in system.knows:
+                continue
+            if filled != work.table:
+                filled = work.table
+                system.stop()
+                system.start()
+                records = workloads.TABLES[filled](ROWS)
+                self.assertEqual(system.ask(system.encode(records), LIMIT)[0], Answers.filling(records))
+            ops = [it for unit in work.units for it in unit]
+            ops = [("start",), *ops, ("undo",)] if work.within else ops
+            self.assertEqual(system.ask(system.encode(ops), LIMIT)[0], wanted[work.table].ask(ops), (system.name, work.name))
+
+    def peer(self, name):
+        try:
+            return systems.LineSystem(name, [build.peer(name)], MEMORY, "")
+        except build.Missing as why:
+            self.skipTest(str(why))
+
+    def test_boost(self):
+        self.compare(self.peer("boost_peer"))
+
+    def test_sqlite(self):
+        self.compare(self.peer("sqlite_peer"))
+
+    def test_redis(self):
+        try:
+            path = build.redis_server()
+        except build.Missing as why:
+            self.skipTest(str(why))
+        with tempfile.TemporaryDirectory(prefix="bench-") as folder:
+            self.compare(systems.Redis("Redis", path, MEMORY, "", folder))
 
 
 class Replies(unittest.TestCase):
