@@ -7,9 +7,9 @@
 // `by_vip` is ordered here and not hashed: a hashed index of Boost walks the records of one key whenever one of them is modified,
 // and most of the table has one key.
 #pragma once
-#include <cstdint>
+#include "account.hpp"
+
 #include <functional>
-#include <string>
 
 #include <boost/multi_index/composite_key.hpp>
 #include <boost/multi_index/hashed_index.hpp>
@@ -20,14 +20,6 @@
 #include <boost/multi_index_container.hpp>
 
 namespace mi = boost::multi_index;
-
-struct Account {
-    std::int64_t id;
-    std::string owner;
-    std::int64_t balance;
-    bool vip;
-    std::int64_t balance_at, vip_at, class_at;
-};
 
 struct ById {};
 struct ByHashedId {};

@@ -1,24 +1,15 @@
 // The workloads of the crate `mi_bench` on a Boost.MultiIndex container: the same lines are read, the same numbers drawn, and the same
 // lines written. A change that is taken back keeps a copy of the record, and one that was erased also who stood behind it in the list.
 #include "accounts.hpp"
+#include "loops.hpp"
 
 #include <cstdio>
-#include <ctime>
 #include <iostream>
 #include <optional>
 #include <string>
 #include <vector>
 
 #include <boost/version.hpp>
-
-struct Random {
-    std::uint64_t state = 1;
-
-    std::uint64_t below(std::uint64_t n) {
-        state = state * 6364136223846793005u + 1442695040888963407u;
-        return (state >> 33) % (n ? n : 1);
-    }
-};
 
 class Table {
 public:
@@ -135,18 +126,12 @@ public:
     }
 
 private:
-    static std::uint64_t on_processor() {
-        timespec now;
-        clock_gettime(CLOCK_PROCESS_CPUTIME_ID, &now);
-        return static_cast<std::uint64_t>(now.tv_sec) * 1000000000u + static_cast<std::uint64_t>(now.tv_nsec);
-    }
-
     Done repeat(const std::string &word, std::uint64_t calls) {
         Random random;
         Done done;
         if (word == "prepare") {
             for (std::uint64_t n = 0; n < calls; n++) {
-                owners_.push_back("owner " + std::to_string(n));
+                owners_.push_back(owner(static_cast<std::int64_t>(n)));
             }
             done.count = calls;
         } else if (word == "insert") {

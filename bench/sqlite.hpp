@@ -1,4 +1,7 @@
-// A prepared statement of SQLite, which ends itself.
+// The table `accounts` in SQLite, in memory, and a prepared statement, which ends itself.
+//
+// The columns that end in `_at` say when a record came to its key, so that equals stand in that order; `line` is its place in
+// the list. All is in one transaction, so that no change is one of its own.
 #pragma once
 #include <cstdint>
 #include <cstdio>
@@ -6,6 +9,22 @@
 #include <string_view>
 
 #include <sqlite3.h>
+
+constexpr const char *SCHEMA = R"(
+PRAGMA locking_mode = EXCLUSIVE;
+PRAGMA temp_store = MEMORY;
+CREATE TABLE accounts(
+    id INTEGER PRIMARY KEY, owner TEXT NOT NULL UNIQUE, balance INTEGER NOT NULL, vip INTEGER NOT NULL,
+    balance_at INTEGER NOT NULL, vip_at INTEGER NOT NULL, class_at INTEGER NOT NULL, line INTEGER NOT NULL);
+CREATE INDEX by_balance ON accounts(balance, balance_at);
+CREATE INDEX by_vip ON accounts(vip, vip_at);
+CREATE INDEX by_class ON accounts(vip DESC, balance, class_at);
+CREATE INDEX line ON accounts(line);
+BEGIN;
+)";
+
+/// How far apart the places of new records are in the list.
+constexpr std::int64_t STEP = std::int64_t{1} << 32;
 
 [[noreturn]] inline void stop(sqlite3 *base) {
     std::fprintf(stderr, "sqlite: %s\n", sqlite3_errmsg(base));
@@ -70,11 +89,11 @@ private:
     sqlite3_stmt *statement_ = nullptr;
 };
 
-/// A base in memory, over which this was done.
-inline sqlite3 *opened(const char *schema) {
+/// The table, empty.
+inline sqlite3 *opened() {
     sqlite3 *base = nullptr;
     if (sqlite3_open_v2(":memory:", &base, SQLITE_OPEN_READWRITE | SQLITE_OPEN_CREATE | SQLITE_OPEN_NOMUTEX, nullptr) != SQLITE_OK ||
-        sqlite3_extended_result_codes(base, 1) != SQLITE_OK || sqlite3_exec(base, schema, nullptr, nullptr, nullptr) != SQLITE_OK) {
+        sqlite3_extended_result_codes(base, 1) != SQLITE_OK || sqlite3_exec(base, SCHEMA, nullptr, nullptr, nullptr) != SQLITE_OK) {
         stop(base);
     }
     return base;

@@ -1,29 +1,12 @@
 // The table `accounts` in SQLite, in memory, by prepared statements; a session is a savepoint.
 //
-// The columns that end in `_at` say when a record came to its key, so that equals stand in that order; `line` is its place in
-// the list. SQL has no `commit` of the oldest savepoints, and no index that knows ranks: a rank is counted, and the rows before the n-th
+// SQL has no `commit` of the oldest savepoints, and no index that knows ranks: a rank is counted, and the rows before the n-th
 // are walked. All is in one transaction, so that no change is one of its own.
 #include "front.hpp"
 #include "sqlite.hpp"
 
 #include <cstdio>
 #include <limits>
-
-constexpr const char *SCHEMA = R"(
-PRAGMA locking_mode = EXCLUSIVE;
-PRAGMA temp_store = MEMORY;
-CREATE TABLE accounts(
-    id INTEGER PRIMARY KEY, owner TEXT NOT NULL UNIQUE, balance INTEGER NOT NULL, vip INTEGER NOT NULL,
-    balance_at INTEGER NOT NULL, vip_at INTEGER NOT NULL, class_at INTEGER NOT NULL, line INTEGER NOT NULL);
-CREATE INDEX by_balance ON accounts(balance, balance_at);
-CREATE INDEX by_vip ON accounts(vip, vip_at);
-CREATE INDEX by_class ON accounts(vip DESC, balance, class_at);
-CREATE INDEX line ON accounts(line);
-BEGIN;
-)";
-
-/// How far apart the places of new records are in the list.
-constexpr std::int64_t STEP = std::int64_t{1} << 32;
 
 /// The counters, which an undo puts back.
 struct Counters {
@@ -281,7 +264,7 @@ private:
         }
     }
 
-    sqlite3 *base_ = opened(SCHEMA);
+    sqlite3 *base_ = opened();
     Counters counters_;
     std::vector<Counters> sessions_;
     std::int64_t revision_ = 0;

@@ -17,48 +17,87 @@ these words, and names each stage's dearest functions too.
 It needs valgrind and strip (valgrind can't read the program's debugging notes, so a copy without them is run), and the proved
 program: one that was compiled without proofs can't be run under valgrind."""
 import argparse
+import functools
 import json
 import os
 import re
 import subprocess
 import tempfile
+import typing
 from collections import defaultdict
 
 import program
 
 ROWS = 100
+SPREAD = 10**9
 
 
 def line(cmd, **members):
     return json.dumps({"cmd": cmd, **members}, separators=(",", ":"))
 
 
-def row(n, rows):
-    return {"owner": f"owner {n}", "balance": n * 79 % rows, "vip": n % 3 == 0}
+def row(n, rows, apart=1):
+    return {"owner": f"owner {n}", "balance": n * 79 % rows * apart, "vip": n % 3 == 0}
+
+
+class Kind(typing.NamedTuple):
+    """Its name, the n-th of its lines, what the last reply holds, and how far apart the balances of the table are."""
+
+    name: str
+    nth: typing.Callable[[int], str]
+    holds: str
+    apart: int = 1
+
+
+def ranges_over(rows):
+    """Pages, each as one line."""
+    of = functools.partial(line, "range", index="by_balance")
+    return [
+        ("range, empty", of(lower={"ge": [rows + 7]}, limit=10), '"rows":[]'),
+        ("range of 10", of(lower={"ge": [7]}, limit=10), '"rows":[{'),
+        ("range of 1,000", of(lower={"ge": [7]}, limit=1000), '"rows":[{'),
+        ("range, bounded", of(lower={"ge": [7]}, upper={"lt": [17]}), '"more":false,"ok":true,"rows":[{'),
+        ("range, reversed", of(upper={"lt": [rows - 7]}, reverse=True, limit=10), '"rows":[{'),
+        ("list of 10", line("list", index="line", after=7, limit=10), '"rows":[{'),
+    ]
 
 
 def kinds_over(rows):
-    """Each kind: its name, the n-th of its lines, and what the last reply holds. But for the inserts they leave the table as it was, or
-    change what stands elsewhere in it."""
+    """Each kind. But for the inserts they leave the table as it was, or change what stands elsewhere in it."""
     same = [
         ("undo, refused", line("undo"), '"session"'),
         ("size", line("size"), '"size"'),
         ("get, absent", line("get", id=rows + 7), '"id"'),
         ("get, a row", line("get", id=7), '"row"'),
+        ("find, hashed", line("find", index="by_owner", key=["owner 7"]), '"row"'),
         ("rank", line("rank", index="by_balance", id=7), '"rank"'),
         ("nth, refused", line("nth", index="by_balance", n=rows + 7), '"id"'),
+        ("nth, a row", line("nth", index="by_balance", n=7), '"row"'),
         ("count", line("count", index="by_balance", key=[7]), '"count"'),
         ("insert, unique", line("insert", row=row(7, rows)), '"unique"'),
-        ("range, empty", line("range", index="by_balance", lower={"ge": [rows + 7]}, limit=10), '"rows":[]'),
-        ("range of 10", line("range", index="by_balance", lower={"ge": [7]}, limit=10), '"rows":[{'),
-        ("range of 1,000", line("range", index="by_balance", lower={"ge": [7]}, limit=1000), '"rows":[{'),
+        *ranges_over(rows),
     ]
-    found = [(name, lambda _, it=it: it, holds) for name, it, holds in same]
+    found = [Kind(name, lambda _, it=it: it, holds) for name, it, holds in same]
     changed = ("start", "modify", "undo")
     return found + [
-        ("insert", lambda n: line("insert", row={"owner": f"new {n}", "balance": n * 61 % rows, "vip": n % 2 == 0}), '"ok":true'),
-        ("modify", lambda n: line("modify", id=n * 31 % rows, add={"balance": 1 + n % 5}), '"ok":true'),
-        ("modify and back", lambda n: line(changed[n % 3], **({"id": n * 31 % rows, "add": {"balance": 9}} if n % 3 == 1 else {})), '"ok":true'),
+        Kind("insert", lambda n: line("insert", row={"owner": f"new {n}", "balance": n * 61 % rows, "vip": n % 2 == 0}), '"ok":true'),
+        Kind("modify", lambda n: line("modify", id=n * 31 % rows, add={"balance": 1 + n % 5}), '"ok":true'),
+        Kind("modify and back", lambda n: line(changed[n % 3], **({"id": n * 31 % rows, "add": {"balance": 9}} if n % 3 == 1 else {})), '"ok":true'),
+        *spread_over(rows),
+    ]
+
+
+def spread_over(rows):
+    """Those over balances that are spread over a billion: a small number added moves no row, and between two balances there is none."""
+    apart = SPREAD // rows
+
+    def find(n, beside):
+        return line("find", index="by_balance", key=[n * 31 % rows * apart + beside])
+
+    return [
+        Kind("find, sorted", lambda n: find(n, 0), '"row"', apart),
+        Kind("find, sorted, absent", lambda n: find(n, apart // 2), '"error":"id"', apart),
+        Kind("modify, keeps place", lambda n: line("modify", id=n * 31 % rows, add={"balance": 1 + n % 5}), '"ok":true', apart),
     ]
 
 
@@ -171,7 +210,10 @@ class Counter:
         self.folder, self.rows, self.lines = folder, rows, lines
         self.program = f"{folder}/mi_server"
         subprocess.run(["strip", "--strip-debug", "-o", self.program, path], check=True)
-        self.filled = [line("insert", row=row(n, rows)) for n in range(rows)]
+
+    def filled(self, apart):
+        """The lines that fill the table."""
+        return [line("insert", row=row(n, self.rows, apart)) for n in range(self.rows)]
 
     def run(self, lines, words=()):
         """What callgrind counts of a run, and the replies."""
@@ -184,11 +226,10 @@ class Counter:
 
     def a_line(self, kind, words=()):
         """What one line of a kind takes."""
-        name, nth, holds = kind
-        lines = [nth(n) for n in range(2 * self.lines)]
-        once, _ = self.run(self.filled + lines[:self.lines], words)
-        twice, replies = self.run(self.filled + lines, words)
-        if holds not in replies[-1]:
+        filled, lines = self.filled(kind.apart), [kind.nth(n) for n in range(2 * self.lines)]
+        once, _ = self.run(filled + lines[:self.lines], words)
+        twice, replies = self.run(filled + lines, words)
+        if kind.holds not in replies[-1]:
             raise SystemExit(f"wire_count: {lines[-1]} was answered {replies[-1]}")
         return twice.less(once, self.lines)
 
@@ -199,7 +240,7 @@ def shown(profile):
 
 def tell_stages(counter, kind, profile, with_functions):
     found = by_stage(profile, counter.a_line(kind, [f"--toggle-collect={CONFLICTS}"]))
-    print(f"{kind[0]:16} {shown(profile)}  " + " ".join(f"{sum(found[it].values()):9,.0f}" for it in NAMES), flush=True)
+    print(f"{kind.name:20} {shown(profile)}  " + " ".join(f"{sum(found[it].values()):9,.0f}" for it in NAMES), flush=True)
     for stage in NAMES if with_functions else ():
         dearest = sorted(found[stage].items(), key=lambda it: -it[1])[:6]
         for name, cost in dearest:
@@ -220,17 +261,17 @@ def main():
         raise SystemExit("wire_count: the program compiled without proofs can't be run under valgrind; make build makes the proved one")
     lines = given.lines - given.lines % 3
     print(f"{program.title(path)}, {given.rows:,} rows, the difference of {lines} lines and {2 * lines}")
-    print(f"{'line':16} {'instructions':>12} {'allocations':>12}" + ("  " + " ".join(f"{it:>9}" for it in NAMES) if given.stages else ""))
+    print(f"{'line':20} {'instructions':>12} {'allocations':>12}" + ("  " + " ".join(f"{it:>9}" for it in NAMES) if given.stages else ""))
     with tempfile.TemporaryDirectory() as folder:
         counter = Counter(path, folder, given.rows, lines)
         for kind in kinds_over(given.rows):
-            if given.kind and given.kind not in kind[0]:
+            if given.kind and given.kind not in kind.name:
                 continue
             profile = counter.a_line(kind)
             if given.stages:
                 tell_stages(counter, kind, profile, bool(given.kind))
             else:
-                print(f"{kind[0]:16} {shown(profile)}", flush=True)
+                print(f"{kind.name:20} {shown(profile)}", flush=True)
 
 
 if __name__ == "__main__":

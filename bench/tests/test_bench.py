@@ -11,10 +11,12 @@ import unittest
 FOLDER = os.path.dirname(os.path.dirname(os.path.realpath(__file__)))
 sys.path[:0] = [FOLDER, f"{os.path.dirname(FOLDER)}/scripts"]
 
+import bench  # noqa: E402
 import build  # noqa: E402
 import report  # noqa: E402
 import run  # noqa: E402
 import systems  # noqa: E402
+import wire_count  # noqa: E402
 import workloads  # noqa: E402
 from stress.fuzz import ACCOUNTS  # noqa: E402
 from reference import Reference  # noqa: E402
@@ -132,6 +134,39 @@ class Workloads(unittest.TestCase):
         units = {it.name: it.units[0] for it in workloads.all_of(10_000)}
         self.assertEqual([len(units[it]) for it in ("undo", "nested", "squash")], [1002, 3000, 3000])
         self.assertTrue(all(op[0] == "squash" for op in units["squash"][2000:2999]))
+
+
+class Kinds(unittest.TestCase):
+    """The lines of `scripts/wire_count.py` and `scripts/bench.py`, asked of the reference."""
+
+    def filled(self, lines):
+        server = Reference([ACCOUNTS])
+        self.assertTrue(all(b'"ok":true' in it for it in self.asked(server, lines)))
+        return server
+
+    def asked(self, server, lines):
+        return [server.feed(1, f"{it}\n".encode()) for it in lines]
+
+    def order(self, server):
+        return [server.tables[0].view(x) for x in range(6)]
+
+    def test_wire_count_is_answered_what_it_waits_for(self):
+        for kind in wire_count.kinds_over(ROWS):
+            server = self.filled([wire_count.line("insert", row=wire_count.row(n, ROWS, kind.apart)) for n in range(ROWS)])
+            before = self.order(server)
+            replies = self.asked(server, [kind.nth(n) for n in range(2 * ROWS)])
+            self.assertTrue(all(kind.holds.encode() in it for it in replies), kind.name)
+            if kind.name not in ("insert", "modify"):
+                self.assertEqual(self.order(server), before, kind.name)
+
+    def test_bench_is_answered_what_it_waits_for(self):
+        for first, *others in (bench.kinds(ROWS), bench.spread_kinds(ROWS)):
+            server = self.filled(first.lines)
+            for kind in others:
+                before = self.order(server)
+                self.assertTrue(all(kind.holds in it for it in self.asked(server, kind.lines)), kind.name)
+                if kind.name != "modify":
+                    self.assertEqual(self.order(server), before, kind.name)
 
 
 class Peers(unittest.TestCase):
