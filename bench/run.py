@@ -284,12 +284,12 @@ def about_run(options, chosen, left):
     }
 
 
-def check_boost(chosen):
-    """The peer whose replies count as right is asked what the reference answers."""
-    for it in chosen:
-        if it.name == "Boost":
-            compared = check_peer.check(it.words[0], 1, 5)
-            print(f"the Boost peer answers {compared:,} random lines as scripts/reference.py does", file=sys.stderr, flush=True)
+def check_peers(chosen):
+    """The peers, whose replies count as right, are asked what the reference answers."""
+    for it in chosen[1:]:
+        if it.name in check_peer.PEERS:
+            compared = check_peer.check(it.name, it.words[0], 1, 5)
+            print(f"{it.name} answers {sum(compared.values()):,} random lines as scripts/reference.py does", file=sys.stderr, flush=True)
 
 
 def unmeasured(tables, name):
@@ -305,7 +305,7 @@ def main():
     for it in left:
         print(f"left out: {it}", file=sys.stderr)
     about = about_run(options, chosen, left)
-    check_boost(chosen)
+    check_peers(chosen)
     tables = []
     try:
         for rows in numbers_of_rows(options, chosen[0]):

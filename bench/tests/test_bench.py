@@ -1,5 +1,6 @@
 """That the workloads can be compared at all, and the arithmetic of the report."""
 import collections
+import importlib.util
 import json
 import os
 import random
@@ -11,7 +12,6 @@ import unittest
 FOLDER = os.path.dirname(os.path.dirname(os.path.realpath(__file__)))
 sys.path[:0] = [FOLDER, f"{os.path.dirname(FOLDER)}/scripts"]
 
-import bench  # noqa: E402
 import build  # noqa: E402
 import report  # noqa: E402
 import run  # noqa: E402
@@ -20,6 +20,11 @@ import wire_count  # noqa: E402
 import workloads  # noqa: E402
 from stress.fuzz import ACCOUNTS  # noqa: E402
 from reference import Reference  # noqa: E402
+
+# (by its file: `import bench` may find the folder)
+described = importlib.util.spec_from_file_location("lines_a_second", f"{build.TOP}/scripts/bench.py")
+bench = importlib.util.module_from_spec(described)
+described.loader.exec_module(bench)
 
 ROWS = 60
 LIMIT, MEMORY = 60, 1 << 32
