@@ -159,7 +159,7 @@ class Kinds(unittest.TestCase):
         for kind in wire_count.kinds_over(ROWS):
             server = self.filled([wire_count.line("insert", row=wire_count.row(n, ROWS, kind.apart)) for n in range(ROWS)])
             before = self.order(server)
-            replies = self.asked(server, [kind.nth(n) for n in range(2 * ROWS)])
+            replies = self.asked(server, [kind.nth(n) for n in range(ROWS)])
             self.assertTrue(all(kind.holds.encode() in it for it in replies), kind.name)
             if kind.name not in ("insert", "modify"):
                 self.assertEqual(self.order(server), before, kind.name)
@@ -169,7 +169,8 @@ class Kinds(unittest.TestCase):
             server = self.filled(first.lines)
             for kind in others:
                 before = self.order(server)
-                self.assertTrue(all(kind.holds in it for it in self.asked(server, kind.lines)), kind.name)
+                # (of pairs and of threes whole ones)
+                self.assertTrue(all(kind.holds in it for it in self.asked(server, kind.lines[:60])), kind.name)
                 if kind.name != "modify":
                     self.assertEqual(self.order(server), before, kind.name)
 
@@ -177,11 +178,19 @@ class Kinds(unittest.TestCase):
 class Peers(unittest.TestCase):
     """That each system answers each workload that it knows as the reference does."""
 
+    @classmethod
+    def setUpClass(cls):
+        over = {name: Answers(name) for name in workloads.TABLES}
+        cls.wanted = []
+        for work in workloads.all_of(ROWS, True):
+            ops = [it for unit in work.units for it in unit]
+            ops = [("start",), *ops, ("undo",)] if work.within else ops
+            cls.wanted.append((work, ops, over[work.table].ask(ops)))
+
     def compare(self, system):
-        wanted = {name: Answers(name) for name in workloads.TABLES}
         filled = None
         self.addCleanup(system.stop)
-        for work in workloads.all_of(ROWS, True):
+        for work, ops, wanted in self.wanted:
             if work.name not in system.knows:
                 continue
             if filled != work.table:
@@ -190,9 +199,7 @@ class Peers(unittest.TestCase):
                 system.start()
                 records = workloads.TABLES[filled](ROWS)
                 self.assertEqual(system.ask(system.encode(records), LIMIT)[0], Answers.filling(records))
-            ops = [it for unit in work.units for it in unit]
-            ops = [("start",), *ops, ("undo",)] if work.within else ops
-            self.assertEqual(system.ask(system.encode(ops), LIMIT)[0], wanted[work.table].ask(ops), (system.name, work.name))
+            self.assertEqual(system.ask(system.encode(ops), LIMIT)[0], wanted, (system.name, work.name))
 
     def peer(self, name):
         try:

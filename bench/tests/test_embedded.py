@@ -14,7 +14,7 @@ import library  # noqa: E402
 from stress.fuzz import ACCOUNTS  # noqa: E402
 from reference import Reference  # noqa: E402
 
-ROWS, CALLS = 60, 200
+ROWS, CALLS = 30, 100
 HIGHEST, SPREAD = 1000003, 10**9
 BY_BALANCE, LINE = 2, 5
 WHOLE = 2**64
