@@ -5,9 +5,11 @@ kept by the proved service or program where they are there, else by the bench's 
 commands that it knows, and shows nothing of the server's own time."""
 import os
 import random
+import select
 import socket
 import subprocess
 import sys
+import tempfile
 import threading
 import time
 
@@ -17,15 +19,23 @@ from stress import service
 sys.path[:0] = [f"{program.TOP}/clients/python", f"{program.TOP}/bench"]
 
 import build  # noqa: E402
-from mi_client import Database  # noqa: E402
+from mi_client import Database, Ended  # noqa: E402
 
 SHOP = f"{program.TOP}/examples/shop.toml"
 NAMES = ["pen", "pencil", "ink", "paper", "ruler", "eraser", "stapler", "folder", "notebook", "marker", "glue", "tape", "clip", "scissors", "chalk"]
 MILLION = 1_000_000
+WAIT = 60
+"""Seconds that a reply or the address of `weltiyo web` may take."""
+FILLING, SURE = 900, 10
+"""Seconds that a million rows may take, and after how many it is judged whether they will."""
 BATCH = 500
 """Lines that the peer is handed at once: fewer bytes than its pipes take."""
 OWN = {b"revision": b'{"depth":0,"held":0,"ok":true,"revision":0}\n', b"service": b'{"error":"form","ok":false}\n'}
 """What the peer doesn't know, and the bridge answers in its place."""
+
+
+class NotReady(Exception):
+    """A server or `weltiyo web` that has ended, or would take too long, and why."""
 
 
 class Small:
@@ -108,7 +118,10 @@ class Bridge:
         self.door = socket.create_server(("127.0.0.1", 0))
         self.port = self.door.getsockname()[1]
 
-    def fill(self, lines):
+    def come(self):
+        """The rows go by the peer's pipes: nobody connects for them."""
+
+    def fill(self, lines, _):
         for batch in batches(lines):
             self.answers(batch)
         threading.Thread(target=self.serve, daemon=True).start()
@@ -139,22 +152,39 @@ class Bridge:
         self.door.close()
 
 
-class Proved:
-    """The service, or the program for one client, over the built-in table."""
+class Served:
+    """The service, or the program for two clients, over the built-in table."""
 
     def __init__(self, named, words, title):
-        self.port, self.title = program.free_port(), title
+        self.port, self.title, self.filler = program.free_port(), title, None
         words = [named, "--listen", str(self.port), *words]
         self.process = subprocess.Popen(words, stdin=subprocess.DEVNULL, stdout=subprocess.DEVNULL, preexec_fn=program.end_with_parent)
 
-    def fill(self, lines):
-        with Database.connect(self.port, wait=20) as db:
-            for _ in db.ask_lines(lines):
-                pass
+    def come(self):
+        """Connects for the rows."""
+        self.filler = Database.connect(self.port, timeout=WAIT, wait=20)
+
+    def fill(self, lines, count):
+        n, began = 0, 0.0
+        try:
+            for n, _ in enumerate(self.filler.ask_lines(lines), 1):
+                began = began or time.monotonic()
+                if n % 1000 == 0:
+                    self.judge(n, count, time.monotonic() - began)
+        except Ended as why:
+            raise NotReady(f"{self.title} answered {n:,} of {count:,} lines that insert rows, and then none for {WAIT} s, or it ended: {why}") from None
+        self.filler.close()
+
+    def judge(self, n, count, took):
+        if took > SURE and took / n * count > FILLING:
+            raise NotReady(f"{self.title} takes {n / took:,.0f} rows a second, so {count:,} would take {took / n * count / 60:.0f} minutes; --rows N asks for fewer, "
+                           "and a proved program is faster")
 
     def stop(self):
         self.process.kill()
         self.process.wait()
+        if self.filler:
+            self.filler.close()
 
 
 def batches(lines):
@@ -168,37 +198,86 @@ def batches(lines):
         yield batch
 
 
-def large(count=MILLION):
-    """A server of so many accounts. Raises build.Missing where there is none."""
+def of_many():
+    """A server that is fast enough for a million rows. Raises build.Missing where there is none."""
     if service.is_there():
-        made = Proved(service.path(), [], "the service")
-    elif os.environ.get("MI_SERVER") or program.is_fresh():
-        made = Proved(program.program(), ["--clients", "2"], "the program")
-    else:
-        made = Bridge()
-    made.fill(accounts(count))
-    return made
+        return Served(service.path(), [], "the service")
+    if os.environ.get("MI_SERVER") or program.is_fresh():
+        return Served(program.program(), ["--clients", "2"], "the program")
+    return Bridge()
+
+
+class Large:
+    """A server of so many accounts, with `weltiyo web` before it. The program answers once all its clients have come, so the window comes before
+    the rows go. Raises build.Missing and NotReady."""
+
+    def __init__(self, count=MILLION):
+        self.count, self.server, self.web = count, of_many(), None
+        self.title = self.server.title
+
+    def __enter__(self):
+        try:
+            self.server.come()
+            self.web = Web(self.server.port, "--timeout", str(FILLING))
+            self.server.fill(accounts(self.count), self.count)
+            return self.web.ready()
+        except BaseException:
+            self.__exit__()
+            raise
+
+    def __exit__(self, *_):
+        if self.web:
+            self.web.__exit__()
+        self.server.stop()
 
 
 class Web:
-    """`weltiyo web`."""
+    """`weltiyo web`. It has an address once it is ready."""
 
     def __init__(self, port, *words, schema=None):
         env = {**os.environ, "PYTHONPATH": f"{program.TOP}/clients/python"}
         words = [sys.executable, "-m", "mi_client", "web", "--connect", str(port), *(["--schema", schema] if schema else []), *words]
-        self.process = subprocess.Popen(words, stdout=subprocess.PIPE, text=True, env=env, preexec_fn=program.end_with_parent)
-        self.says = self.process.stdout.readline().strip()
-        self.address = self.process.stdout.readline().strip()
+        self.says = self.address = self.token = ""
+        self.port, self.errors = 0, tempfile.TemporaryFile()
+        self.process = subprocess.Popen(words, stdout=subprocess.PIPE, stderr=self.errors, env=env, bufsize=0, preexec_fn=program.end_with_parent)
+
+    def ready(self):
+        """Waits until it has printed its address. Raises NotReady."""
+        said, end = b"", time.monotonic() + WAIT
+        while said.count(b"\n") < 2:
+            if not select.select([self.process.stdout], [], [], max(0, end - time.monotonic()))[0]:
+                raise NotReady(f"`weltiyo web` prints no address within {WAIT} s{self.complaint()}")
+            more = self.process.stdout.read(4096)
+            if not more:
+                raise NotReady(f"`weltiyo web` has ended with status {self.process.wait()}{self.complaint()}")
+            said += more
+        self.says, self.address = said.decode().split("\n")[:2]
         self.port = int(self.address.split(":")[2].split("/")[0])
         self.token = self.address.partition("#")[2]
+        return self
+
+    def complaint(self):
+        self.errors.seek(0)
+        said = self.errors.read().decode(errors="replace").strip()
+        return f": {said}" if said else ""
 
     def __enter__(self):
-        return self
+        try:
+            return self.ready()
+        except BaseException:
+            self.__exit__()
+            raise
 
     def __exit__(self, *_):
         self.process.terminate()
         self.process.wait()
         self.process.stdout.close()
+        self.errors.close()
+
+
+def load():
+    """How busy the machine is, beside what was measured on it."""
+    return f"load {os.getloadavg()[0]:.1f} on {len(os.sched_getaffinity(0))} processors"
 
 
 def until(true, seconds=20):

@@ -1,8 +1,9 @@
 """The window of `weltiyo web` in a real browser (Debian's chromium and chromium-driver; where they lack nothing is tried, and that is said).
 
-    stress window [--short] [--part views|undo|foreign|return|access|million|pictures] [--rows N] [--browser chromium|firefox]
+    stress window [--short] [--part views|undo|foreign|return|access|million|pictures] [--rows N] [--browser chromium|firefox] [--late MS]
 
 Without --part all run, one behind another; --short leaves out `million` and `pictures`. With --browser firefox Debian's firefox-esr is taken.
+With --late each look at the page comes late by up to so many milliseconds, as on a busy machine: what is awaited must still be there then.
 
     views     over examples/shop.toml: each index of each table, a record marked in all of them with its rank, searches that are checked as they
               are typed, the distribution zoomed into its rows, the service, the line at the bottom, and all of it by the keyboard alone
@@ -15,6 +16,7 @@ Without --part all run, one behind another; --short leaves out `million` and `pi
     pictures  writes those of the guide into docs/img"""
 import argparse
 import os
+import random
 import statistics
 import time
 
@@ -30,6 +32,26 @@ from stress.webdriver import Browser, Failed
 from stress.window_kit import SHOP, Small, Web
 
 SEEN = 'performance.getEntriesByName("first view").length'
+KEEPS = """
+window.shown = []; window.marked = {};
+new MutationObserver((all) => all.forEach((it) => it.addedNodes.forEach((one) => shown.push(one.textContent)))).observe(document.querySelector("#lines"), { childList: true });
+const sight = (row) => { const a = row.getBoundingClientRect(), b = row.closest(".scroll").getBoundingClientRect(); return a.bottom > b.top && a.top < b.bottom; };
+const nameOf = (row) => row.closest(".panel").getAttribute("aria-label").slice(6), names = new Map();
+function mark(row) {
+  const word = row.dataset.mark, it = names.get(row);
+  if (it) { it.count--; it.until = performance.now(); names.delete(row); }
+  if (!word || !row.isConnected || !sight(row)) return;
+  const now = marked[`${nameOf(row)} ${word}`] ||= { index: nameOf(row), word, since: performance.now(), count: 0 };
+  now.count++;
+  names.set(row, now);
+}
+new MutationObserver((all) => all.forEach((it) => it.type === "attributes" ? mark(it.target) : it.removedNodes.forEach((one) => { if (names.has(one)) mark(one); })))
+  .observe(document.querySelector("#panels"), { subtree: true, childList: true, attributeFilter: ["data-mark"] });
+"""
+"""Keeps each text that the line at the bottom shows, and since when and until when an index has a row in sight with a mark: both may be gone again
+before the driver looks."""
+SETTLED = "const done = arguments[0]; requestAnimationFrame(() => requestAnimationFrame(() => done(true)))"
+"""Behind what has been scrolled or sized, and drawn."""
 IMAGES = f"{program.TOP}/docs/img"
 
 
@@ -50,6 +72,8 @@ class Page:
         browser.go("about:blank")
         browser.said()  # (an earlier page may still have looked for its server)
         browser.go(web.address)
+        browser.wait("return document.querySelector('#panels')")
+        browser.run(KEEPS)
         browser.wait(f"return {SEEN}")
 
     def panel(self, name):
@@ -81,6 +105,29 @@ class Page:
             self.browser.wait("return (document.querySelector(arguments[0]) || {textContent: ''}).textContent.includes(arguments[1])", selector, part, seconds=seconds)
         except Failed:
             raise Differs(f"{selector} says {self.text(selector)!r}, and not {part!r}") from None
+
+    def wait_line(self, *parts):
+        """Waits until the line at the bottom has shown a text with these parts; others may have come behind it."""
+        code = "return shown.some((it) => [...arguments].every((one) => it.includes(one)))"
+        if not window_kit.until(lambda: self.browser.run(code, *parts)):
+            raise Differs(f"the line at the bottom hasn't shown {parts}, but {self.browser.run('return shown.slice(-9)')}")
+
+    def wait_is(self, code, *given, about, seconds=20):
+        """Waits until a script of the page returns something true."""
+        try:
+            return self.browser.wait(code, *given, seconds=seconds)
+        except Failed:
+            raise Differs(f"{about} isn't so within {seconds} s") from None
+
+    def settle(self, name):
+        """Waits until an index that was scrolled has its rows."""
+        self.browser.run_later(SETTLED)
+        self.wait_is("return document.querySelector(arguments[0] + ' .grid').getAttribute('aria-busy') === 'false'", self.panel(name), about=f"that {name} has its rows")
+
+    def scroll(self, name, where):
+        """Scrolls an index to a place of its bar, which is a script's expression of `it`."""
+        self.browser.run(f"const it = document.querySelector(arguments[0] + ' .scroll'); it.scrollTop = {where}", self.panel(name))
+        self.settle(name)
 
     def wait_rows(self, name, true, about, seconds=20):
         if not window_kit.until(lambda: true(self.rows(name)), seconds):
@@ -168,6 +215,23 @@ def searched(page):
     page.search("by_name", name="paper 2")
     page.wait_text(f"{page.panel('by_name')} .found", "1 record has this key")
     page.wait_rows("by_name", lambda rows: any(it["pointed"] and it["cells"][1] == "paper 2" for it in rows), "a name is found")
+    searched_late(page)
+
+
+LATE = """const real = window.fetch; window.fetch = async (path, how) => {
+    if (path === "/ask" && JSON.parse(how.body).lines.some((it) => it.includes('"by_name"') && it.includes('"lower"'))) await new Promise((go) => setTimeout(go, 3000));
+    return real(path, how); }; window.timely = () => { window.fetch = real; }"""
+"""The rows at a key of by_name come behind the time at which the page asks by itself again."""
+
+
+def searched_late(page):
+    """A search whose rows come late goes to its key all the same."""
+    page.search("by_name", name="chalk 1")
+    page.wait_rows("by_name", lambda rows: any(it["pointed"] and it["cells"][1] == "chalk 1" for it in rows), "the first name is found")
+    page.browser.run(LATE)
+    page.search("by_name", name="paper 2")
+    page.wait_rows("by_name", lambda rows: any(it["pointed"] and it["cells"][1] == "paper 2" for it in rows), "a name whose rows come late is found")
+    page.browser.run("timely()")
 
 
 def of_sales(page):
@@ -196,12 +260,12 @@ def typed(browser, page):
         raise Differs("Tab doesn't come to the list")
     browser.press("ArrowDown", "ArrowDown", "ArrowDown")
     page.wait_text("#said", "Record 2. rank 2 in id")
-    active = browser.run("const it = document.getElementById(document.activeElement.getAttribute('aria-activedescendant')); return it.children[1].textContent")
-    must(active, "2", "what a screen reader is on")
+    page.wait_is("const it = document.getElementById(document.activeElement.getAttribute('aria-activedescendant')); return it && it.children[1].textContent === '2'",
+                 about="that a screen reader is on record 2")
     browser.press("End")
     page.wait_rows("by_stock", lambda rows: any(it["pointed"] and it["cells"][1] == "59" for it in rows), "the last record by End")
     browser.press("/")
-    must(browser.run("return document.activeElement.name"), "id", "what / goes to")
+    page.wait_is("return document.activeElement.name === 'id'", about="that / goes to the first search")
 
 
 def distributed(browser, page):
@@ -242,23 +306,30 @@ def told_by_the_service(browser, server):
 
 
 def copied(browser, page):
+    """The page asks rows and ranks behind a search, so its line may not be the newest any more: what is copied is what stands there at the click."""
+    asked, answered = '{"cmd":"count","table":"item","index":"by_stock","key":[7]}', '{"count":0,"ok":true}'
     page.search("by_stock", stock="7")
-    page.wait_text("#lines", '"cmd":"count","table":"item","index":"by_stock","key":[7]')
-    page.wait_text("#lines", '{"count":')
+    page.wait_line(asked, answered)
     browser.click("#unfold")
     page.wait_text("#lines", "ms at the server")
+    page.wait_text("#lines", asked)
     browser.click("#unfold")
-    browser.run("navigator.clipboard.writeText = (text) => { window.written = text; return Promise.resolve(); }")
+    browser.run("""navigator.clipboard.writeText = (text) => { window.written = text; return Promise.resolve(); };
+        document.querySelector("#copy").addEventListener("click", () => { window.stood = document.querySelector("#lines").textContent; }, { capture: true })""")
     browser.click("#copy")
     lines = browser.wait("return window.written").split("\n")
-    must((lines[0][:16], lines[1][:9]), ('> {"cmd":"count"', '{"count":'), "what is copied")
+    stood = browser.run("return stood")
+    must((lines[0][:2], stood.startswith(lines[0][2:]), lines[1][:400] in stood), ("> ", True, True), f"what is copied, {lines[:2]}, of {stood!r}")
+    page.wait_text("#said", "Copied.")
 
 
 def odd(server, page):
     """What another connection inserts comes by itself; a text is shown as a text, and a number with all its digits."""
-    page.table("item")
     browser = page.browser
     browser.run("window.ran = false")
+    page.search("by_stock", stock="")
+    for name in ("by_name", "by_stock"):
+        page.scroll(name, "0")
     with server.connect() as db:
         db.insert({"name": "<img src=x onerror='window.ran = true'>\u202e\n", "stock": 9007199254740993}, table="item")
         db.insert({"name": "least", "stock": -(2**63)}, table="item")
@@ -266,7 +337,7 @@ def odd(server, page):
     page.wait_rows("by_stock", lambda rows: rows[0]["cells"][2] == "-9223372036854775808", "the least number")
     page.search("by_stock", stock="9007199254740993")
     page.wait_text(f"{page.panel('by_stock')} .found", "1 record has this key, at place 61")
-    page.wait_text("#lines", '"key":[9007199254740993]')
+    page.wait_line('"key":[9007199254740993]')
     page.wait_rows("by_stock", lambda rows: any(it["pointed"] and it["cells"][2] == "9007199254740993" for it in rows), "a number that doubles don't have")
     must(browser.run("return window.ran"), False, "whether the text was run")
 
@@ -285,11 +356,11 @@ def undo(browser, _):
         before = server.connect()
         wanted = before.list("log", table="sale").rows
         page.button("Undo")
-        seen = marks(browser, page)
+        seen, times = marks(browser, page)
         must(seen, {"log": {"moved", "changed", "back", "gone"}, "id": {"changed", "back", "gone"}, "by_count": {"moved", "back", "gone"}}, "the marks")
+        must(min(times) >= 1900, True, f"whether each mark stays for two seconds, of {times}")
         page.wait_text("#said", "Undone: 1 back, 1 changed back, 1 gone, 1 moved back")
-        if not window_kit.until(lambda: not any(it["mark"] for name in ("id", "by_count", "log") for it in page.rows(name)), 5):
-            raise Differs("marks stay")
+        must([it["mark"] for name in ("id", "by_count", "log") for it in page.rows(name) if it["mark"]], [], "the marks that stay")
         again = before.list("log", table="sale").rows
         must([it["id"] for it in again][:3], [1000, 1001, 1002], "the list as it was")
         must(wanted == again, False, "the undo changed something")
@@ -297,7 +368,7 @@ def undo(browser, _):
         squashed(browser, page)
         must(page.complaints(), [], "the console")
     server.stop()
-    return "start, insert, change, erase, move, squash and undo; marks of four kinds, which go after two seconds"
+    return f"start, insert, change, erase, move, squash and undo; marks of four kinds, which stay for {min(times) / 1000:.1f} to {max(times) / 1000:.1f} s"
 
 
 def changed(browser, page):
@@ -317,7 +388,7 @@ def changed(browser, page):
     page.wait_text("#sessions", "this window4")
     must(page.text("#tables li:nth-child(2)"), "sale40", "the rows while the session is open")
     for index in ("id", "log"):
-        browser.run("document.querySelector(arguments[0] + ' .scroll').scrollTop = 0", page.panel(index))
+        page.scroll(index, "0")
     browser.run("document.querySelectorAll(arguments[0] + ' [name]').forEach((it) => { it.value = ''; })", page.panel("by_count"))
     # (all of the rows are in sight, so that each mark is)
     browser.size(1900, 1500)
@@ -326,16 +397,13 @@ def changed(browser, page):
 
 
 def marks(browser, page):
-    """The marks of each index while they are there."""
-    seen = {}
-    end = time.monotonic() + 3
-    while time.monotonic() < end and not (seen and all(not it["mark"] for it in page.rows("id"))):
-        for name in ("id", "by_count", "log"):
-            for it in page.rows(name):
-                if it["mark"]:
-                    seen.setdefault(name, set()).add(it["mark"])
+    """The marks that each index has had, once all are gone, and how many milliseconds each was there."""
+    found = page.wait_is("const all = Object.values(marked); return all.length > 0 && all.every((it) => it.count === 0) && all", about="that marks come and go")
     browser.size(1280, 800)
-    return seen
+    seen = {}
+    for it in found:
+        seen.setdefault(it["index"], set()).add(it["word"])
+    return seen, [round(it["until"] - it["since"]) for it in found]
 
 
 def squashed(browser, page):
@@ -390,7 +458,7 @@ def returning(browser, _):
         took = time.monotonic() - began
         page.wait_text("#sessions", "no session open")
         page.wait_rows("by_name", lambda rows: [it["cells"][1] for it in rows][:2] == ["ink 1", "paper 1"], "the rows of the new server")
-        must(browser.run("return document.querySelector('#alarm').hidden"), True, "whether the alarm is gone")
+        page.wait_is("return document.querySelector('#alarm').hidden", about="that the alarm is gone")
         page.complaints()
     server.stop()
     return f"the page says that the server is gone, and goes on {took:.1f} s behind its return, with its rows and no session"
@@ -412,6 +480,7 @@ def access(browser, options):
         for scheme, width in [looks[0], looks[3]] if options.short else looks:
             browser.scheme(scheme)
             browser.size(width, 800)
+            page.wait_is("return document.documentElement.dataset.theme === arguments[0]", scheme, about=f"that the page is {scheme}")
             for view in ("rows", "plot", "service", "dialog"):
                 found = looked_at(browser, page, view)
                 faults += [f"{scheme}, {width} px, {view}: {it}" for it in found["faults"]]
@@ -425,11 +494,21 @@ def access(browser, options):
     return f"{len(window_access.NAMES)} rules over {tried} elements of four views, in light and dark, down to {browser.narrowest} pixels; the least contrast of a text is {least:.2f}"
 
 
+READY = {
+    "rows": "document.querySelectorAll('#panels .row').length > 20 && !document.querySelector('#panels .grid:not([aria-busy=false])')",
+    "plot": "document.querySelectorAll('.bars button').length > 3 && !document.querySelector('.bars[aria-busy], #sheet-plot .grid:not([aria-busy=false])')",
+    "service": "document.querySelectorAll('#plots svg').length > 2 && document.querySelector('#service-note').textContent",
+    "dialog": "document.querySelector('#dialog').open",
+}
+"""When a view has all that is looked at."""
+
+
 def looked_at(browser, page, view):
     browser.click(f"#tab-{'rows' if view == 'dialog' else view}")
     if view == "dialog":
         page.button("Insert…")
-    time.sleep(0.3)
+    browser.run_later(SETTLED)
+    page.wait_is(f"return {READY[view]}", about=f"that {view} is there whole")
     browser.run(MARKED)
     found = browser.run(window_access.RULES)
     browser.run("document.querySelector('#dialog').close()")
@@ -438,6 +517,8 @@ def looked_at(browser, page, view):
 
 # A million rows
 
+MOST_LINES = 96
+"""What a jump may ask in an index: three pages, of which two are in sight at most."""
 RECORD = """window.gaps = []; window.isOver = false; let last = 0;
     const step = (now) => { if (last) gaps.push(now - last); last = now; if (!isOver) requestAnimationFrame(step); }; requestAnimationFrame(step);"""
 SCROLL = """const [scroll, by, frames, done] = arguments; const gaps = []; let last = 0, n = 0;
@@ -446,31 +527,26 @@ SCROLL = """const [scroll, by, frames, done] = arguments; const gaps = []; let l
 
 
 def million(browser, options):
-    try:
-        server = window_kit.large(options.rows)
-    except window_kit.build.Missing as why:
-        return f"left out: no server of a million rows: {why}"
-    try:
-        with Web(server.port) as web:
-            page = Page(browser, web)
-            first = [first_view(browser, web) for _ in range(7)]
-            idle = frames(browser, "id", 0)
-            moving = {index: frames(browser, index, 90) for index in ("id", "by_balance")}
-            wheel = wheeled(browser, page)
-            rows = browser.run("return document.querySelectorAll('.row').length")
-            jumped(browser, page, options.rows)
-            walked(browser, page)
-            asked = lines_of_a_page(browser, page)
-            browser.click("#tab-plot")
-            browser.wait("return performance.getEntriesByName('plot drawn').length")
-            total = browser.run('return [...document.querySelectorAll(".bars button")].reduce((n, it) => n + Number(/: ([\\d,]+) record/.exec(it.getAttribute("aria-label"))[1].replaceAll(",", "")), 0)')
-            must(total, options.rows, "the records of all bars")
-            must(page.complaints(), [], "the console")
-        return (f"{options.rows:,} rows by {server.title}: first view {min(first):.0f} to {max(first):.0f} ms, median {statistics.median(first):.0f}; "
-                f"frames: still {idle}, scrolling id {moving['id']}, by_balance {moving['by_balance']}, by the wheel {wheel}; "
-                f"{rows} rows in the document, {asked} lines for a jump")
-    finally:
-        server.stop()
+    large = window_kit.Large(options.rows)
+    with large as web:
+        page = Page(browser, web)
+        first = [first_view(browser, web) for _ in range(7)]
+        idle = frames(browser, "id", 0)
+        moving = {index: frames(browser, index, 90) for index in ("id", "by_balance")}
+        wheel = wheeled(browser, page)
+        rows = browser.run("return document.querySelectorAll('.row').length")
+        jumped(browser, page, options.rows)
+        walked(browser, page, options.rows)
+        asked = lines_of_a_page(browser, page, options.rows)
+        must(asked <= MOST_LINES, True, f"whether a jump asks for what is in sight alone, of {asked} lines")
+        browser.click("#tab-plot")
+        browser.wait("return performance.getEntriesByName('plot drawn').length")
+        total = browser.run('return [...document.querySelectorAll(".bars button")].reduce((n, it) => n + Number(/: ([\\d,]+) record/.exec(it.getAttribute("aria-label"))[1].replaceAll(",", "")), 0)')
+        must(total, options.rows, "the records of all bars")
+        must(page.complaints(), [], "the console")
+    return (f"{options.rows:,} rows by {large.title}: first view {min(first):.0f} to {max(first):.0f} ms, median {statistics.median(first):.0f}; "
+            f"frames: still {idle}, scrolling id {moving['id']}, by_balance {moving['by_balance']}, by the wheel {wheel}; "
+            f"{rows} rows in the document, {asked} lines for a jump; {window_kit.load()}")
 
 
 def first_view(browser, web):
@@ -499,25 +575,30 @@ def wheeled(browser, page):
 
 def jumped(browser, page, rows):
     """The bar's middle and end, and the row of a place that is searched."""
-    browser.run("const it = document.querySelector(arguments[0] + ' .scroll'); it.scrollTop = it.scrollHeight", page.panel("by_balance"))
+    page.scroll("by_balance", "it.scrollHeight")
     page.wait_rows("by_balance", lambda found: bool(found) and found[-1]["cells"][0] == f"{rows - 1:,}" and found[-1]["cells"][1] != "", "the last place")
-    browser.run("const it = document.querySelector(arguments[0] + ' .scroll'); it.scrollTop = it.scrollHeight / 2", page.panel("by_balance"))
+    page.scroll("by_balance", "it.scrollHeight / 2")
     page.wait_rows("by_balance", lambda found: bool(found) and abs(int(found[0]["cells"][0].replace(",", "")) - rows // 2) < rows // 100 and found[0]["cells"][1] != "", "the middle")
     page.search("id", id=str(rows // 3))
     page.wait_text(f"{page.panel('id')} .found", f"1 record has this key, at place {rows // 3:,}")
     page.wait_rows("id", lambda found: any(it["pointed"] and it["cells"][1] == str(rows // 3) for it in found), "the row that was searched")
 
 
-def walked(browser, page):
+DEEP = 5000
+"""A row beyond what a list keeps."""
+
+
+def walked(browser, page, rows):
     """A list and an ordered index go on as they are scrolled, beyond what they keep, and back. Accounts stand in the list as they were inserted."""
-    deep = 0
+    goal = min(DEEP, rows * 9 // 10)
     for index, true in (("line", lambda rows: all(it["cells"][0].replace(",", "") == it["cells"][1] for it in rows)), ("by_class", is_in_order)):
-        for turn in range(70):
+        deep = 0
+        for _ in range(70):
             deep = to_edge(browser, page, index, "it.scrollHeight", true)
-            if index == "line" and deep > 6000:
+            if index == "line" and deep > goal:
                 break
-        must(deep > 5000, True, f"whether {index} goes on")
-        for turn in range(90):
+        must(deep > goal, True, f"whether {index} goes on")
+        for _ in range(90):
             if to_edge(browser, page, index, "0", true) == 0:
                 break
         else:
@@ -531,25 +612,26 @@ def is_in_order(rows):
 
 def to_edge(browser, page, index, where, true):
     """Scrolls to an edge of what is known, and waits until more is. Answers how deep the first row in sight is, by the id of a list."""
-    browser.run(f"const it = document.querySelector(arguments[0] + ' .scroll'); it.scrollTop = {where}", page.panel(index))
-    time.sleep(0.12)
-    browser.wait("return document.querySelector(arguments[0] + ' .grid').getAttribute('aria-busy') === 'false'", page.panel(index))
+    page.scroll(index, where)
     rows = page.rows(index)
     must(bool(rows) and true(rows), True, f"whether {index} is in order, of {rows}")
     if index == "line":
         return int(rows[0]["cells"][1])
     first = browser.run("return document.querySelector(arguments[0] + ' .row:not([hidden]) .says') === null && document.querySelector(arguments[0] + ' .scroll').scrollTop === 0", page.panel(index))
-    return 0 if where == "0" and first else 5001
+    return 0 if where == "0" and first else DEEP + 1
 
 
-def lines_of_a_page(browser, page):
-    """How many lines a jump in one index asks."""
-    time.sleep(1)
+def lines_of_a_page(browser, page, rows):
+    """How many places of an index a jump in it asks, near the one to which it goes."""
+    page.settle("by_balance")
+    near = "sent.filter((it) => it.cmd === 'nth' && it.index === 'by_balance' && Math.abs(it.n - arguments[0]) < arguments[1])"
     browser.run("""window.sent = []; const real = window.fetch;
         window.fetch = (path, how) => { if (path === "/ask") sent.push(...JSON.parse(how.body).lines.map(JSON.parse)); return real(path, how); };
         const it = document.querySelector(arguments[0] + " .scroll"); it.scrollTop = it.scrollHeight * 0.7""", page.panel("by_balance"))
-    browser.wait("return sent.some((it) => it.index === 'by_balance')")
-    return browser.run("const n = sent.find((it) => it.index === 'by_balance').n; return sent.filter((it) => it.cmd === 'nth' && it.index === 'by_balance' && Math.abs(it.n - n) < 1000).length")
+    page.settle("by_balance")
+    given = rows * 7 // 10, max(100, rows // 100)
+    page.wait_is(f"return {near}.length", *given, about="that a jump asks rows")
+    return browser.run(f"return new Set({near}.map((it) => it.n)).size", *given)
 
 
 # Pictures
@@ -564,9 +646,8 @@ def written(browser, taken):
 
 def pictures(browser, options):
     """Those of the guide: a record marked in each index, and a distribution zoomed in."""
-    server = window_kit.large(options.rows)
     try:
-        with Web(server.port) as web:
+        with window_kit.Large(options.rows) as web:
             browser.size(1400, 660)
             page = Page(browser, web)
             page.search("by_balance", balance="5000")
@@ -575,20 +656,21 @@ def pictures(browser, options):
             browser.run("document.querySelector(arguments[0]).scrollIntoView({ inline: 'start', block: 'nearest' })", page.panel("by_balance"))
             pointed = next(it for it in page.rows("by_balance") if it["pointed"])
             page.click_row("by_balance", pointed["cells"][1])
-            page.wait_rows("by_class", lambda rows: any(it["pointed"] for it in rows), "it is marked in by_class")
-            time.sleep(0.5)
+            for index in ("by_class", "line"):
+                page.wait_rows(index, lambda rows: any(it["pointed"] for it in rows), f"it is marked in {index}")
+                page.settle(index)
             taken = {"rows": browser.png()}
             browser.click("#tab-plot")
             browser.wait('return document.querySelectorAll(".bars button").length > 3')
             browser.run('document.querySelector(".bars button").click()')
-            browser.wait('return document.querySelectorAll(".trail li").length === 2')
+            page.wait_is('return document.querySelectorAll(".trail li").length === 2 && !document.querySelector(".bars[aria-busy]")', about="that a bar zooms")
             browser.hover(600, 250)
-            time.sleep(0.5)
+            browser.run_later(SETTLED)
+            page.wait_is(f"return {READY['plot']}", about="that the distribution is there whole")
             taken["distribution"] = browser.png()
         written(browser, taken)
     finally:
         browser.size(1280, 800)
-        server.stop()
     return "docs/img/window-rows.png and docs/img/window-distribution.png"
 
 
@@ -597,12 +679,51 @@ LONG = ("million", "pictures")
 BROWSERS = {"chromium": Browser, "firefox": Firefox}
 
 
+def come_late(browser, seconds):
+    """From here on each look at the page is late by a random time."""
+    run, pick = browser.run, random.Random(1)
+
+    def late(*given):
+        time.sleep(pick.random() * seconds)
+        return run(*given)
+
+    browser.run = late
+
+
+def seen(browser, name):
+    """Where a picture is of what a part saw, if the browser still gives one."""
+    path = f"{program.TOP}/out/window-{name}.png"
+    os.makedirs(os.path.dirname(path), exist_ok=True)
+    try:
+        browser.picture(path)
+    except (Failed, OSError) as why:
+        return f"the browser gives no picture: {why}"
+    return f"what it saw is {os.path.relpath(path)}"
+
+
+def tried(browser, name, options):
+    """Runs a part, and prints what it says. Answers whether it has passed."""
+    began = time.monotonic()
+    try:
+        print(f"{name}: {PARTS[name](browser, options)} ({time.monotonic() - began:.0f} s)", flush=True)
+    except window_kit.build.Missing as why:
+        print(f"{name}: left out: no server of a million rows: {why}", flush=True)
+    except window_kit.NotReady as why:
+        print(f"window: {name}: {why}", flush=True)
+        return False
+    except (Differs, Failed) as why:
+        print(f"window: {name}: {why}\n{seen(browser, name)}", flush=True)
+        return False
+    return True
+
+
 def main():
     parser = argparse.ArgumentParser(description=__doc__, formatter_class=argparse.RawDescriptionHelpFormatter)
     parser.add_argument("--part", choices=list(PARTS))
     parser.add_argument("--short", action="store_true")
     parser.add_argument("--browser", choices=list(BROWSERS), default="chromium")
     parser.add_argument("--rows", type=int, default=window_kit.MILLION)
+    parser.add_argument("--late", type=int, default=0, metavar="MS")
     options = parser.parse_args()
     lacks = webdriver.lacking() if options.browser == "chromium" else marionette.lacking()
     if lacks:
@@ -610,12 +731,6 @@ def main():
         return 0
     chosen = [options.part] if options.part else [it for it in PARTS if not (options.short and it in LONG)]
     with BROWSERS[options.browser]() as browser:
-        for name in chosen:
-            began = time.monotonic()
-            try:
-                print(f"{name}: {PARTS[name](browser, options)} ({time.monotonic() - began:.0f} s)", flush=True)
-            except (Differs, Failed) as why:
-                browser.picture(f"{program.TOP}/out/window-{name}.png")
-                print(f"window: {name}: {why}\nwhat it saw is out/window-{name}.png", flush=True)
-                return 1
-    return 0
+        if options.late:
+            come_late(browser, options.late / 1000)
+        return 0 if all(tried(browser, name, options) for name in chosen) else 1
