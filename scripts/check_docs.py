@@ -347,8 +347,6 @@ class Documents:
         lacks = webdriver.lacking()
         if lacks:
             self.skipped.append(f"scripts/stress window needs {' and '.join(lacks)}, which `apt-get install {' '.join(lacks)}` brings")
-        elif not os.environ.get("WINDOW"):
-            self.skipped.append("scripts/stress window runs by `make window-tests`, or here with WINDOW=1")
         else:
             self.check("scripts/stress window", self.short, "window")
 

@@ -13,7 +13,9 @@ import program
 from stress.webdriver import ELEMENT, WAIT, Browser, Failed
 
 PREFERENCES = {"browser.shell.checkDefaultBrowser": False, "datareporting.policy.dataSubmissionEnabled": False, "app.update.auto": False,
-               "network.dns.localDomains": "evil.example", "devtools.jsonview.enabled": False, "browser.startup.page": 0, "toolkit.telemetry.reportingpolicy.firstRun": False}
+               "network.dns.localDomains": "evil.example", "devtools.jsonview.enabled": False, "browser.startup.page": 0,
+               "toolkit.telemetry.reportingpolicy.firstRun": False, "security.warn_submit_secure_to_insecure": False}
+"""(The last one: a form that another page sends to a name that leads here goes out, in place of a question to the user.)"""
 
 
 def lacking():

@@ -172,12 +172,13 @@ class Served:
                 if n % 1000 == 0:
                     self.judge(n, count, time.monotonic() - began)
         except Ended as why:
-            raise NotReady(f"{self.title} answered {n:,} of {count:,} lines that insert rows, and then none for {WAIT} s, or it ended: {why}") from None
+            raise NotReady(f"{self.title} answered {n:,} of {count:,} lines that insert rows, and then no more: {why}") from None
         self.filler.close()
 
     def judge(self, n, count, took):
-        if took > SURE and took / n * count > FILLING:
-            raise NotReady(f"{self.title} takes {n / took:,.0f} rows a second, so {count:,} would take {took / n * count / 60:.0f} minutes; --rows N asks for fewer, "
+        needs = took / n * count
+        if took > SURE and needs > FILLING:
+            raise NotReady(f"{self.title} takes {n / took:,.0f} rows a second, so {count:,} would take {needs / 60:.0f} minutes; --rows N asks for fewer, "
                            "and a proved program is faster")
 
     def stop(self):

@@ -34,8 +34,12 @@ from stress.window_kit import SHOP, Small, Web
 SEEN = 'performance.getEntriesByName("first view").length'
 KEEPS = """
 window.shown = []; window.marked = {};
-new MutationObserver((all) => all.forEach((it) => it.addedNodes.forEach((one) => shown.push(one.textContent)))).observe(document.querySelector("#lines"), { childList: true });
-const sight = (row) => { const a = row.getBoundingClientRect(), b = row.closest(".scroll").getBoundingClientRect(); return a.bottom > b.top && a.top < b.bottom; };
+new MutationObserver((all) => all.forEach((it) => it.addedNodes.forEach((one) => shown.push(one.textContent))))
+  .observe(document.querySelector("#lines"), { childList: true });
+function sight(row) {
+  const a = row.getBoundingClientRect(), b = row.closest(".scroll").getBoundingClientRect();
+  return a.bottom > b.top && a.top < b.bottom;
+}
 const nameOf = (row) => row.closest(".panel").getAttribute("aria-label").slice(6), names = new Map();
 function mark(row) {
   const word = row.dataset.mark, it = names.get(row);
@@ -45,7 +49,8 @@ function mark(row) {
   now.count++;
   names.set(row, now);
 }
-new MutationObserver((all) => all.forEach((it) => it.type === "attributes" ? mark(it.target) : it.removedNodes.forEach((one) => { if (names.has(one)) mark(one); })))
+const gone = (row) => { if (names.has(row)) mark(row); };
+new MutationObserver((all) => all.forEach((it) => it.type === "attributes" ? mark(it.target) : it.removedNodes.forEach(gone)))
   .observe(document.querySelector("#panels"), { subtree: true, childList: true, attributeFilter: ["data-mark"] });
 """
 """Keeps each text that the line at the bottom shows, and since when and until when an index has a row in sight with a mark: both may be gone again
@@ -122,7 +127,8 @@ class Page:
     def settle(self, name):
         """Waits until an index that was scrolled has its rows."""
         self.browser.run_later(SETTLED)
-        self.wait_is("return document.querySelector(arguments[0] + ' .grid').getAttribute('aria-busy') === 'false'", self.panel(name), about=f"that {name} has its rows")
+        self.wait_is("return document.querySelector(arguments[0] + ' .grid').getAttribute('aria-busy') === 'false'", self.panel(name),
+                     about=f"that {name} has its rows")
 
     def scroll(self, name, where):
         """Scrolls an index to a place of its bar, which is a script's expression of `it`."""
@@ -218,9 +224,11 @@ def searched(page):
     searched_late(page)
 
 
-LATE = """const real = window.fetch; window.fetch = async (path, how) => {
-    if (path === "/ask" && JSON.parse(how.body).lines.some((it) => it.includes('"by_name"') && it.includes('"lower"'))) await new Promise((go) => setTimeout(go, 3000));
-    return real(path, how); }; window.timely = () => { window.fetch = real; }"""
+LATE = """const real = window.fetch, isLate = (it) => it.includes('"by_name"') && it.includes('"lower"');
+    window.fetch = async (path, how) => {
+        if (path === "/ask" && JSON.parse(how.body).lines.some(isLate)) await new Promise((go) => setTimeout(go, 3000));
+        return real(path, how); };
+    window.timely = () => { window.fetch = real; }"""
 """The rows at a key of by_name come behind the time at which the page asks by itself again."""
 
 
@@ -260,8 +268,8 @@ def typed(browser, page):
         raise Differs("Tab doesn't come to the list")
     browser.press("ArrowDown", "ArrowDown", "ArrowDown")
     page.wait_text("#said", "Record 2. rank 2 in id")
-    page.wait_is("const it = document.getElementById(document.activeElement.getAttribute('aria-activedescendant')); return it && it.children[1].textContent === '2'",
-                 about="that a screen reader is on record 2")
+    page.wait_is("""const it = document.getElementById(document.activeElement.getAttribute('aria-activedescendant'));
+        return it && it.children[1].textContent === '2'""", about="that a screen reader is on record 2")
     browser.press("End")
     page.wait_rows("by_stock", lambda rows: any(it["pointed"] and it["cells"][1] == "59" for it in rows), "the last record by End")
     browser.press("/")
@@ -315,7 +323,8 @@ def copied(browser, page):
     page.wait_text("#lines", asked)
     browser.click("#unfold")
     browser.run("""navigator.clipboard.writeText = (text) => { window.written = text; return Promise.resolve(); };
-        document.querySelector("#copy").addEventListener("click", () => { window.stood = document.querySelector("#lines").textContent; }, { capture: true })""")
+        const stands = () => { window.stood = document.querySelector("#lines").textContent; };
+        document.querySelector("#copy").addEventListener("click", stands, { capture: true })""")
     browser.click("#copy")
     lines = browser.wait("return window.written").split("\n")
     stood = browser.run("return stood")
@@ -368,7 +377,8 @@ def undo(browser, _):
         squashed(browser, page)
         must(page.complaints(), [], "the console")
     server.stop()
-    return f"start, insert, change, erase, move, squash and undo; marks of four kinds, which stay for {min(times) / 1000:.1f} to {max(times) / 1000:.1f} s"
+    stay = f"{min(times) / 1000:.1f} to {max(times) / 1000:.1f} s"
+    return f"start, insert, change, erase, move, squash and undo; marks of four kinds, which stay for {stay}"
 
 
 def changed(browser, page):
@@ -398,7 +408,8 @@ def changed(browser, page):
 
 def marks(browser, page):
     """The marks that each index has had, once all are gone, and how many milliseconds each was there."""
-    found = page.wait_is("const all = Object.values(marked); return all.length > 0 && all.every((it) => it.count === 0) && all", about="that marks come and go")
+    found = page.wait_is("const all = Object.values(marked); return all.length > 0 && all.every((it) => it.count === 0) && all",
+                         about="that marks come and go")
     browser.size(1280, 800)
     seen = {}
     for it in found:
@@ -496,7 +507,8 @@ def access(browser, options):
 
 READY = {
     "rows": "document.querySelectorAll('#panels .row').length > 20 && !document.querySelector('#panels .grid:not([aria-busy=false])')",
-    "plot": "document.querySelectorAll('.bars button').length > 3 && !document.querySelector('.bars[aria-busy], #sheet-plot .grid:not([aria-busy=false])')",
+    "plot": "document.querySelectorAll('.bars button').length > 3 && !document.querySelector('.bars[aria-busy], "
+            "#sheet-plot .grid:not([aria-busy=false])')",
     "service": "document.querySelectorAll('#plots svg').length > 2 && document.querySelector('#service-note').textContent",
     "dialog": "document.querySelector('#dialog').open",
 }
@@ -663,7 +675,8 @@ def pictures(browser, options):
             browser.click("#tab-plot")
             browser.wait('return document.querySelectorAll(".bars button").length > 3')
             browser.run('document.querySelector(".bars button").click()')
-            page.wait_is('return document.querySelectorAll(".trail li").length === 2 && !document.querySelector(".bars[aria-busy]")', about="that a bar zooms")
+            page.wait_is('return document.querySelectorAll(".trail li").length === 2 && !document.querySelector(".bars[aria-busy]")',
+                         about="that a bar zooms")
             browser.hover(600, 250)
             browser.run_later(SETTLED)
             page.wait_is(f"return {READY['plot']}", about="that the distribution is there whole")

@@ -215,6 +215,15 @@ class Coming(unittest.TestCase):
                 self.assertRegex(ran.stdout.readline(), r"^http://127\.0\.0\.1:\d+/#[\w-]{43}\n$")
                 ran.terminate()
 
+    def test_the_tool_says_that_another_client_is_awaited(self) -> None:
+        """The program answers once all its clients have come."""
+        with Server(kit.program(), clients=3) as server, server.connect():
+            ran = kit.ran("web", "--connect", str(server.port), "--timeout", "0.5")
+            server.process.kill()  # (it waits for its third client)
+        self.assertEqual((ran.returncode, ran.stdout), (1, ""))
+        self.assertIn(f"weltiyo web: port {server.port} gave no reply for 0.5 seconds", ran.stderr)
+        self.assertIn("it waits for another client", ran.stderr)
+
     def test_the_tool_says_what_it_lacks(self) -> None:
         ran = kit.ran("web", "--connect", "1")
         self.assertEqual((ran.returncode, ran.stdout), (1, ""))
