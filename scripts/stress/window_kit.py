@@ -3,6 +3,7 @@
 A small server is the service where it is there, else a second reading of its definitions in Python (`tests/stand_in.py`). A million rows are
 kept by the proved service or program where they are there, else by the bench's Boost peer behind a port: it answers the same bytes to the
 commands that it knows, and shows nothing of the server's own time."""
+import contextlib
 import os
 import random
 import select
@@ -88,7 +89,8 @@ class Telling:
             threading.Thread(target=self.talk, args=ends, daemon=True).start()
 
     def talk(self, front, back):
-        with front, back, front.makefile("rb") as lines, back.makefile("rb") as replies:
+        with front, back, front.makefile("rb") as lines, back.makefile("rb") as replies, contextlib.suppress(OSError):
+            # (the server behind may end first)
             for line in lines:
                 if b'"service"' in line:
                     front.sendall(self.STATUS)
