@@ -1,7 +1,8 @@
 #!/usr/bin/env python3
 """Reads journals: files of the lines that changed a database, in the order in which they were executed.
 
-    journal.py check FILE [--replay PROGRAM [--schema FILE]]    whether each line is whole and a change's; with --replay, whether its reply is one of a change
+    journal.py check FILE [--replay PROGRAM [--schema FILE]]    whether each line is whole and a change's; with --replay, whether its reply is one of a
+                                                                change, and the schema the header's
     journal.py stat FILE                                        lines by command, sessions, sizes
     journal.py compact FILE [--to NEW]                          a shorter journal of the same database, in a new file that is then renamed
 
@@ -15,8 +16,8 @@ were held. So the database is the same, the open sessions are, and as many of th
 locked, and a file that another program has locked is refused; so are a file whose place the new one takes, and the new one until its name
 stays. Where --to names no file yet, one that has come meanwhile keeps its name, and the status is 4. Symbolic links are followed.
 
-Statuses: 0; 2 where the words are wrong; 3 where the journal is damaged, with the number of the first such line, from 1; 4 where a
-file can't be read or written, or is in use. A torn end is said, and is no damage."""
+Statuses: 0; 2 where the words are wrong, or name another schema than the journal's; 3 where the journal is damaged, with the number of the first
+such line, from 1; 4 where a file can't be read or written, or is in use. A torn end is said, and is no damage."""
 import argparse
 import bisect
 import collections
@@ -34,6 +35,8 @@ import threading
 import time
 
 from reference import CHANGES, LONGEST_LINE, MOST_SESSIONS, STEPS, Refusal, form, is_count, is_text, read
+
+sys.path.insert(0, f"{os.path.dirname(os.path.dirname(os.path.realpath(__file__)))}/clients/python")
 
 FORMAT = 1
 DIGITS = re.compile("[0-9a-f]+")
@@ -61,6 +64,10 @@ class Progress:
             self.next = time.monotonic() + 1
             share = 100 * done // max(self.size, 1)
             print(f"{self.what}: {done / 1e6:.0f} of {self.size / 1e6:.0f} MB, {share} %", file=sys.stderr, flush=True)
+
+
+class OtherSchema(Exception):
+    """A journal is of another schema than the one that is named."""
 
 
 Line = collections.namedtuple("Line", "number start end name members")
@@ -220,10 +227,23 @@ def check(path, replay, schema):
     with open(path, "rb") as file:
         journal = Journal(file, "checking")
         count = sum(1 for it in journal.lines() if may_be_kept(it))
+    if replay:
+        check_schema(path, journal.schema, schema)
     asked = "" if replay else "; its lines weren't asked (--replay PROGRAM asks them)"
     print(f"{path}: {count} lines, schema {journal.schema}, ok as a file{torn_note(journal)}{asked}", flush=True)
     if replay:
         replay_check(path, replay, schema, count + 1)
+
+
+def check_schema(path, digest, schema):
+    """Whether a header's hash is that of a schema's file, or of the built-in table."""
+    from mi_client.journals import bytes_hash
+    from mi_client.meaning import hash_of
+    from mi_client.schema import Schema
+
+    named = Schema.read(schema) if schema else Schema.built_in()
+    if digest not in (hash_of(named), bytes_hash(schema)):
+        raise OtherSchema(f"{path}: the journal is of another schema than {schema or 'the built-in table accounts'}: --schema FILE names its own")
 
 
 def may_be_change(reply):
@@ -359,12 +379,19 @@ def words():
     checking = steps.add_parser("check", help="whether each line is whole and a change's")
     checking.add_argument("file")
     checking.add_argument("--replay", metavar="PROGRAM", help="asks this mi_server the lines, each of which is to be done")
-    checking.add_argument("--schema", metavar="FILE", help="the schema that it is asked with; the hash in the header isn't compared with it")
+    checking.add_argument("--schema", metavar="FILE", help="the schema that it is asked with, whose hash the header is to have")
     steps.add_parser("stat", help="lines by command, sessions, sizes").add_argument("file")
     compacting = steps.add_parser("compact", help="a shorter journal of the same database")
     compacting.add_argument("file")
     compacting.add_argument("--to", metavar="NEW", help="its name, where the old one is to stay")
     return parser
+
+
+def nobody_reads_on():
+    """The status then, as of `| head`: that of a program which the signal ends. Nothing is said, neither at Python's own end."""
+    with contextlib.suppress(OSError, ValueError):
+        os.dup2(os.open(os.devnull, os.O_WRONLY), sys.stdout.fileno())
+    return 128 + signal.SIGPIPE
 
 
 def main(given):
@@ -379,9 +406,15 @@ def main(given):
             stat(args.file)
         else:
             compact(args.file, args.to)
+        sys.stdout.flush()
     except Damaged as damaged:
         print(f"{args.file}: {damaged}", file=sys.stderr)
         return 3
+    except BrokenPipeError:
+        return nobody_reads_on()
+    except (OtherSchema, ValueError) as error:
+        print(error, file=sys.stderr)
+        return 2
     except BlockingIOError:
         print(f"{args.file}: in use by another program", file=sys.stderr)
         return 4

@@ -11,8 +11,6 @@ fault, which the scripts are to find:
     dies     it ends by itself, a while after its connections"""
 import argparse
 import fcntl
-import hashlib
-import json
 import os
 import selectors
 import socket
@@ -22,6 +20,7 @@ import time
 TOP = os.path.dirname(os.path.dirname(os.path.dirname(os.path.realpath(__file__))))
 sys.path[:0] = [f"{TOP}/scripts", f"{TOP}/clients/python"]
 
+import mi_client.meaning  # noqa: E402
 import mi_client.schema  # noqa: E402
 from reference import Index, Reference, Schema, form, is_foreign, read  # noqa: E402
 
@@ -42,9 +41,8 @@ def stop(status, why):
     os._exit(status)
 
 
-def schemas_of(file):
-    """The schemas of the reference that a file says."""
-    found = mi_client.schema.Schema.read(file) if file else mi_client.schema.Schema.built_in()
+def schemas_of(found):
+    """The same tables as schemas of the reference."""
     made = []
     for table in found.tables:
         names = [it.name for it in table.columns]
@@ -140,11 +138,9 @@ class Client:
 
 class Service:
     def __init__(self, options):
-        schemas = schemas_of(options.schema)
-        self.reference = Reference(schemas)
-        told = json.dumps([[it.name, it.columns, [vars(x) for x in it.indexes]] for it in schemas]).encode()
-        digest = hashlib.sha256(told).hexdigest()
-        wanted = f'{{"journal":1,"revision":0,"schema":"{digest}"}}'.encode()
+        schema = mi_client.schema.Schema.read(options.schema) if options.schema else mi_client.schema.Schema.built_in()
+        self.reference = Reference(schemas_of(schema), schema.first_revision)
+        wanted = f'{{"journal":1,"revision":{schema.first_revision},"schema":"{mi_client.meaning.hash_of(schema)}"}}'.encode()
         self.journal = Journal(options.journal, self.reference, wanted, options.sync)
         self.listener = socket.create_server(("127.0.0.1", options.listen), backlog=128)
         self.listener.setblocking(False)

@@ -23,7 +23,8 @@ import program  # noqa: E402
 from stress import service  # noqa: E402
 from reference import Reference  # noqa: E402
 
-HASH = "a" * 64
+HASH = "4a97872940a86388d00bd4dd133ac68c2bb50dead4fefa2fb1b161a892770f4b"
+"""That of the built-in table, as `docs/OPERATING.md` has it."""
 UNDO = b'{"cmd":"undo"}'
 NOT_ASKED = "; its lines weren't asked (--replay PROGRAM asks them)"
 
@@ -331,6 +332,19 @@ class Check(Files):
             self.ran("check", self.path, "--schema", "/no/such")
         self.assertEqual(ended.exception.code, 2)
 
+    def test_another_schema_than_the_journals(self):
+        """The program isn't asked then."""
+        shop, none = f"{TOP}/examples/shop.toml", self.answers(0)
+        for digest, words, name in [("a" * 64, [], "the built-in table accounts"), (HASH, ["--schema", shop], shop)]:
+            with open(self.path, "wb") as file:
+                file.write(first_line(schema=digest) + START + b"\n")
+            said = f"{self.path}: the journal is of another schema than {name}: --schema FILE names its own\n"
+            self.assertEqual(self.ran("check", self.path, "--replay", none, *words), (2, said))
+        for file in ("none", "j"):
+            status, said = self.ran("check", self.path, "--replay", none, "--schema", f"{self.folder}/{file}")
+            self.assertEqual(status, {"none": 4, "j": 2}[file], said)
+            self.assertIn(f"{self.folder}/{file}", said)
+
     def test_a_program_that_answers_too_few(self):
         self.write([START, UNDO])
         for program_, said in [("/bin/true", 0), (self.answers(2), 2), (self.answers(4), 4)]:
@@ -345,6 +359,16 @@ class Check(Files):
             file.write("#!/bin/sh\ncat > /dev/null\n" + "echo '{\"ok\":true,\"revision\":1}'\n" * count)
         os.chmod(path, 0o755)
         return path
+
+    def test_nobody_reads_on(self):
+        self.write([START])
+        reads, writes = os.pipe()
+        os.close(reads)
+        for words in (["stat", self.path], ["check", self.path]):
+            whole, how = [sys.executable, f"{TOP}/scripts/journal.py", *words], {"stderr": subprocess.PIPE, "timeout": 60}
+            ran = subprocess.run(whole, stdout=writes, env={**os.environ, "PYTHONUNBUFFERED": ""}, **how)
+            self.assertEqual((ran.returncode, ran.stderr), (141, b""), words)
+        os.close(writes)
 
     def test_no_file(self):
         self.assertEqual(self.ran("stat", f"{self.folder}/none")[0], 4)

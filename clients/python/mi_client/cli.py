@@ -1,7 +1,10 @@
 """The command `weltiyo`: the prompt, and the tools by their names. `python3 -m mi_client` is the same."""
 from __future__ import annotations
 
+import contextlib
 import importlib
+import os
+import signal
 import sys
 from typing import List, Optional
 
@@ -28,7 +31,28 @@ def usage() -> str:
 
 
 def main(words: Optional[List[str]] = None) -> int:
-    words = sys.argv[1:] if words is None else words
+    try:
+        status = ran(sys.argv[1:] if words is None else words)
+        sys.stdout.flush()
+        return status
+    except SystemExit:
+        with contextlib.suppress(BrokenPipeError):
+            sys.stdout.flush()
+            raise
+        return broken_pipe()
+    except BrokenPipeError:
+        return broken_pipe()
+
+
+def broken_pipe() -> int:
+    """The status where nobody reads on, as of `| head`: that of a program which the signal ends. Nothing is said, neither at Python's own end."""
+    with contextlib.suppress(OSError, ValueError):
+        os.dup2(os.open(os.devnull, os.O_WRONLY), sys.stdout.fileno())
+    return 128 + signal.SIGPIPE
+
+
+def ran(words: List[str]) -> int:
+    """What the tool that is named answers. Raises SystemExit, and BrokenPipeError."""
     if words[:1] == ["--version"]:
         print(f"weltiyo {mi_client.__version__}")
         return 0

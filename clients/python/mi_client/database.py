@@ -3,7 +3,6 @@ since one asks at a time. Processes may not: after a fork the connection stays w
 from __future__ import annotations
 
 import contextlib
-import errno
 import os
 import socket
 import subprocess
@@ -16,7 +15,7 @@ from typing import Any, Iterable, Iterator, List, Optional, Sequence, Type, Type
 from mi_client.calls import Request
 from mi_client.channel import Channel
 from mi_client.dialect import Dialect
-from mi_client.errors import Ended
+from mi_client.errors import Ended, nobody_listens
 from mi_client.old_forms import Openness
 from mi_client.pipeline import WINDOW, LinesAhead, Pipeline
 from mi_client.schema import Schema
@@ -62,11 +61,11 @@ class Database(Walks):
                 stream = socket.create_connection((host, port), timeout=timeout)
                 if joins_itself(stream):
                     stream.close()  # (where nobody listens the system may have chosen this very port, and joined the two ends)
-                    raise ConnectionRefusedError(errno.ECONNREFUSED, os.strerror(errno.ECONNREFUSED))
+                    raise nobody_listens(host, port)
                 break
             except ConnectionRefusedError:
                 if time.monotonic() >= end:
-                    raise
+                    raise nobody_listens(host, port) from None
                 time.sleep(0.02)
         stream.setsockopt(socket.IPPROTO_TCP, socket.TCP_NODELAY, 1)
         return cls(Channel.of_socket(stream, timeout), [stream], None, read)
@@ -317,7 +316,7 @@ def schema_of(path: Union[None, str, os.PathLike[str]]) -> Optional[Schema]:
     try:
         return Schema.read(path) if os.path.isfile(path) else None
     except (OSError, ValueError) as error:
-        warnings.warn(f"{os.fspath(path)}: the server takes this schema, and the client can't read it: {error}", stacklevel=3)
+        warnings.warn(f"the server takes this schema, and the client can't read it: {error}", stacklevel=3)
         return None
 
 

@@ -1,6 +1,7 @@
 """What a call can raise. These are plain exceptions that can be pickled, so a worker's refusal gets back from a process pool."""
 from __future__ import annotations
 
+import errno
 from typing import Any, Dict, Optional, Tuple
 
 
@@ -40,6 +41,12 @@ class Ended(ConnectionError):
 
     def __init__(self, why: str = "") -> None:
         super().__init__(why or "the connection is at its end")
+
+
+def nobody_listens(host: str, port: int) -> ConnectionRefusedError:
+    """What is raised where a port has no server."""
+    what = f"nothing listens on port {port} of {host}. Start a server there, as mi_service --listen {port}, or name the port of one that runs"
+    return ConnectionRefusedError(errno.ECONNREFUSED, what)
 
 
 class TooManyEqual(Exception):

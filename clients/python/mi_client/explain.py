@@ -86,10 +86,11 @@ FORMS: Dict[str, Tuple[Callable[[Any], bool], str]] = {
     "limit": (_is_whole(1, 1000), "1 to 1000"),
     "changes": (_is_whole(0, 1_000_000), "0 to 1000000"),
     "sessions": (_is_whole(0, 1024), "0 to 1024"),
-    "lower": (_is_bound("ge", "gt"), 'an object of "ge" or "gt" with an array'),
-    "upper": (_is_bound("le", "lt"), 'an object of "le" or "lt" with an array'),
 }
 """What each member of a command has to be, and in words."""
+
+BOUNDS = {"lower": ("ge", "gt"), "upper": ("le", "lt")}
+"""The words of each bound."""
 
 
 def _faults_of_form(members: Mapping[str, Any]) -> Iterator[str]:
@@ -103,9 +104,21 @@ def _faults_of_form(members: Mapping[str, Any]) -> Iterator[str]:
             yield f"{cmd} has no member {name}; it has {_listed(known)}"
         elif name in FORMS and not FORMS[name][0](value):
             yield f"{name} is {value if type(value) is int else kind_of(value)}; {FORMS[name][1]} wanted"
+        elif name in BOUNDS and not _is_bound(*BOUNDS[name])(value):
+            yield _bound_fault(name, value)
     for name in COMMANDS[cmd].members:
         if not name.startswith("[") and name not in members:
             yield f"{name} is missing"
+
+
+def _bound_fault(name: str, value: Any) -> str:
+    """Why a bound is none, and how it is written; a word of the other side is told as that."""
+    words, other = BOUNDS[name], "upper" if name == "lower" else "lower"
+    given: Dict[str, Any] = dict(value) if isinstance(value, Mapping) else {}
+    has = f"has {_listed([json.dumps(it) for it in given])}" if isinstance(value, Mapping) else f"is {kind_of(value)}"
+    whose = f", which {'is' if len(given) == 1 else 'are'} for {other}" if given and set(given) <= set(BOUNDS[other]) else ""
+    key = next((it for it in given.values() if isinstance(it, (list, tuple))), [10])
+    return f'{name} {has}{whose}; "{words[0]}" or "{words[1]}" wanted, as {name}={{"{words[0]}": {json.dumps(key, ensure_ascii=False)}}}'
 
 
 def _listed(names: Sequence[str]) -> str:

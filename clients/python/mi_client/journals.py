@@ -2,10 +2,12 @@
 service may go on with it meanwhile."""
 from __future__ import annotations
 
+import hashlib
 import json
-from typing import Iterator
+from typing import Any, Dict, Iterator, Optional
 
 from mi_client.database import Database
+from mi_client.meaning import hash_of
 from mi_replica.lines import belongs
 
 FORMAT = 1
@@ -15,16 +17,48 @@ class Damaged(ValueError):
     """A line of a journal that the service would refuse. Its message begins with the place."""
 
 
+class OtherSchema(ValueError):
+    """A journal is of another schema than the one that is named."""
+
+
+def header_of(line: bytes, path: str) -> Dict[str, Any]:
+    """The members of a journal's first line. Raises Damaged."""
+    try:
+        found = json.loads(line)
+    except (ValueError, RecursionError):
+        found = None
+    if not isinstance(found, dict) or found.get("journal") != FORMAT or not line.endswith(b"\n"):
+        raise Damaged(f"{path}:1: no header of a journal of format {FORMAT}")
+    return found
+
+
+def check_schema(path: str, db: Database, file: Optional[str]) -> None:
+    """Raises OtherSchema where the header has another schema's hash than the one that a server was started with, by this file or as built in; and
+    Damaged and OSError."""
+    with open(path, "rb") as journal:
+        header = header_of(journal.readline(), path)
+    if db.schema is None:
+        raise OtherSchema(f"{path}: the schema is compared with the journal's, so --schema names a file that can be read twice")
+    if header.get("schema") not in (hash_of(db.schema), bytes_hash(file)):
+        other = file or "the built-in table accounts"
+        raise OtherSchema(f"{path}: the journal is of another schema than {other}: name the one that the service was started with by --schema FILE")
+    if header.get("revision") != db.schema.first_revision:
+        raise Damaged(f"{path}:1: the header begins with the revision {header.get('revision')}, and its schema with {db.schema.first_revision}")
+
+
+def bytes_hash(file: Optional[str]) -> str:
+    """What stands for a schema in the checkpoints of a ledger's member over `mi_server`, which tells no hash: digits of its bytes' SHA-256."""
+    data = b""
+    if file is not None:
+        with open(file, "rb") as schema:
+            data = schema.read()
+    return hashlib.sha256(data).hexdigest()[:16]
+
+
 def lines_of(path: str) -> Iterator[bytes]:
     """The whole lines behind the header, with their newlines. What stands behind the last newline is torn, and no line."""
     with open(path, "rb") as file:
-        header = file.readline()
-        try:
-            found = json.loads(header)
-        except (ValueError, RecursionError):
-            found = None
-        if not isinstance(found, dict) or found.get("journal") != FORMAT or not header.endswith(b"\n"):
-            raise Damaged(f"{path}:1: no header of a journal of format {FORMAT}")
+        header_of(file.readline(), path)
         for number, line in enumerate(file, 2):
             if not line.endswith(b"\n"):
                 return

@@ -9,7 +9,7 @@ from xml.sax.saxutils import escape
 
 from mi_client.errors import Ended, Refused, TooManyEqual
 from mi_client.loading import load_rows
-from mi_client.opening import add_source, opened, source_words, why
+from mi_client.opening import add_source, opened, source_words, status_of, why
 from mi_client.rowfiles import read_json_lines, reading
 from mi_client.sampling import Bars, Line, along, distribution
 from mi_client.show import width_of
@@ -147,7 +147,9 @@ def main(words: Optional[List[str]] = None) -> int:
                 out.write(text)
         else:
             print(text)
+    except BrokenPipeError:
+        raise  # (nobody reads what is written)
     except (Ended, OSError, Refused, ValueError, TooManyEqual, RuntimeError) as error:
         print(f"weltiyo plot: {why(error, options)}", file=sys.stderr)
-        return 1
+        return status_of(error)
     return 0

@@ -199,7 +199,7 @@ class Prompt:
                     count += 1
                     if said:
                         print(said, flush=True)
-        except Ended:
+        except (Ended, BrokenPipeError):
             raise
         except (OSError, UnicodeDecodeError) as error:
             return f"not run: {error}"
@@ -300,6 +300,8 @@ def main(words: Optional[List[str]] = None) -> int:
     except KeyboardInterrupt:
         print("\nweltiyo: interrupted while a reply was awaited, so the connection is closed", file=sys.stderr)
         return 130
+    except BrokenPipeError:
+        raise  # (nobody reads what is written)
     except (Ended, OSError, ValueError) as error:
         print(f"weltiyo: {why(error, options)}", file=sys.stderr)
         return 1

@@ -11,10 +11,11 @@ import re
 import shutil
 import sys
 import tempfile
-from typing import IO, Any, Callable, Dict, Iterator, List, NamedTuple, Optional, Sequence
+from typing import IO, Any, Callable, Dict, Iterator, List, NamedTuple, Optional, Sequence, Tuple
 
 from mi_client.schema import Table
 from mi_client.utf8 import text_of
+from mi_client.whole_files import part_of, place_of, replacing
 
 Row = Dict[str, Any]
 WHOLE = re.compile(r"[+-]?[0-9]+")
@@ -52,12 +53,18 @@ def reading(path: str, again: bool = False) -> Iterator[IO[bytes]]:
 
 
 @contextlib.contextmanager
-def writing(path: str, resumed: bool = False) -> Iterator[IO[bytes]]:
+def writing(path: str, kept: int = 0, is_gone_on_with: bool = False) -> Iterator[IO[bytes]]:
+    """A file to write, which is whole at the end of the block or stays as it was; a device, a pipe or the standard output is written as it comes.
+    The first `kept` bytes are those of a run before."""
+    place = None if path == "-" else place_of(path)
     if path == "-":
         yield sys.stdout.buffer
         sys.stdout.flush()
+    elif place is None:
+        with open(path, "wb") as file:
+            yield file
     else:
-        with open(path, "ab" if resumed else "wb") as file:
+        with replacing(place, kept, is_gone_on_with) as file:
             yield file
 
 
@@ -112,22 +119,22 @@ def read_json_lines(file: IO[bytes], name: str, table: Optional[str]) -> Iterato
             yield Item(f"{name}:{n}", table, found.get("id"), {it: value for it, value in found.items() if it != "id"}, done)
 
 
-def whole_lines(path: str) -> List[Any]:
-    """The last whole line of a file that is to be gone on with, as [its value], or [] where there is none. What stands behind
-    the last newline was written when the run before broke off, and is cut away."""
-    if not os.path.isfile(path):
-        return []
-    with open(path, "rb+") as file:
+def whole_lines(path: str) -> Tuple[List[Any], int]:
+    """The last whole line of a dump that is to be gone on with, as [its value], or [] where there is none; and how many bytes its whole lines are:
+    of the part that the run before has left, else of the file. What stands behind the last newline was written when that broke off. Raises Faulty."""
+    part = part_of(path)
+    source = part if part is not None and os.path.isfile(part) else path
+    if part is None or not os.path.isfile(source):
+        return [], 0
+    with open(source, "rb") as file:
         size = file.seek(0, os.SEEK_END)
         at, tail = size, b""
         while at > 0 and tail.count(b"\n") < 2:
             at = max(0, at - 65_536)
             file.seek(at)
             tail = file.read(size - at)
-        whole = tail.rfind(b"\n") + 1
-        found = [dumped(it, path) for it in tail[:whole].splitlines()[-1:]]
-        file.truncate(at + whole)
-    return found
+    whole = tail.rfind(b"\n") + 1
+    return [dumped(it, source) for it in tail[:whole].splitlines()[-1:]], at + whole if whole else 0
 
 
 def dumped(line: bytes, path: str) -> Any:
@@ -144,14 +151,23 @@ def dumped(line: bytes, path: str) -> Any:
 # CSV
 
 
+class _Encoded:
+    """A file that takes text. It is closed by its owner alone."""
+
+    def __init__(self, file: IO[bytes]) -> None:
+        self._file = file
+
+    def write(self, text: str) -> None:
+        self._file.write(text.encode())
+
+
 class CsvWriter:
     """Rows below a line of names, the id first. Flags are written true and false."""
 
     def __init__(self, file: IO[bytes], table: Table) -> None:
-        self._names = ["id", *(it.name for it in table.columns)]
-        self._text = io.TextIOWrapper(file, encoding="utf-8", newline="", write_through=True)
-        self._csv = csv.writer(self._text, lineterminator="\n")
-        self._quoted = csv.writer(self._text, lineterminator="\n", quoting=csv.QUOTE_ALL)
+        self._names, text = ["id", *(it.name for it in table.columns)], _Encoded(file)
+        self._csv = csv.writer(text, lineterminator="\n")
+        self._quoted = csv.writer(text, lineterminator="\n", quoting=csv.QUOTE_ALL)
         self._csv.writerow(self._names)
 
     def write(self, row: Row) -> None:
@@ -159,10 +175,6 @@ class CsvWriter:
         # (to readers a carriage return ends a line, and the writer quotes it only where its own lines end in one)
         sheet = self._quoted if any(isinstance(it, str) and "\r" in it for it in values) else self._csv
         sheet.writerow([("true" if it else "false") if isinstance(it, bool) else it for it in values])
-
-    def end(self) -> None:
-        """Leaves the file open for its owner."""
-        self._text.detach()
 
 
 def read_csv(file: IO[bytes], name: str, table: Table) -> Iterator[Item]:

@@ -73,6 +73,8 @@ class Table:
     """The index `id` first, then as written."""
     max_rows: int = 1_000_000
     first_id: int = 0
+    first_arrival: int = 0
+    """Where the counter of changes begins."""
 
     def index(self, name: str) -> Optional[Index]:
         return next((it for it in self.indexes if it.name == name), None)
@@ -88,6 +90,8 @@ class Table:
 @dataclass(frozen=True)
 class Schema:
     tables: Tuple[Table, ...]
+    first_revision: int = 0
+    """The revision before the first session."""
 
     @classmethod
     def built_in(cls) -> Schema:
@@ -96,9 +100,9 @@ class Schema:
 
     @classmethod
     def read(cls, path: Union[str, os.PathLike[str]]) -> Schema:
-        """The schema of a file. Raises OSError, or ValueError where it is none."""
+        """The schema of a file. Raises OSError, or ValueError, which names the file and the line, where it is none."""
         with open(path, "rb") as file:
-            return cls._of_bytes(file.read())
+            return cls._of_bytes(file.read(), os.fsdecode(path))
 
     @classmethod
     def of_text(cls, text: str) -> Schema:
@@ -111,16 +115,16 @@ class Schema:
         return given if given is None or isinstance(given, Schema) else cls.read(given)
 
     @classmethod
-    def _of_bytes(cls, data: bytes) -> Schema:
+    def _of_bytes(cls, data: bytes, file: str = "") -> Schema:
         try:
             root = _plain(toml_places.read(data))
             written = root["table"]
             tables = [_table(root, written)] if isinstance(written, str) else [_table(it, it["name"]) for it in written]
         except toml_places.Fault as fault:
-            raise ValueError(f"line {fault.line}: {fault.why}") from None
+            raise ValueError(f"{file}:{fault.line}: {fault.why}" if file else f"line {fault.line}: {fault.why}") from None
         except (KeyError, TypeError, AttributeError) as error:
-            raise ValueError(f"this is no schema: {error}") from None
-        return cls(tuple(tables))
+            raise ValueError(f"{file}{': ' if file else ''}this is no schema: {error}") from None
+        return cls(tuple(tables), root.get("first_revision", 0))
 
     def table(self, name: Optional[str] = None) -> Optional[Table]:
         """The table of this name, or the first one."""
@@ -153,4 +157,6 @@ def _table(written: Dict[str, Any], name: str) -> Table:
     for it in written.get("index", []):
         parts = tuple(Part(part.lstrip("-"), part.startswith("-")) for part in it.get("key", []))
         indexes.append(Index(it["name"], it["kind"], parts, it.get("unique", False)))
-    return Table(name, columns, tuple(indexes), written.get("max_rows", 1_000_000), written.get("first_id", 0))
+    return Table(
+        name, columns, tuple(indexes), written.get("max_rows", 1_000_000), written.get("first_id", 0), written.get("first_arrival", 0)
+    )

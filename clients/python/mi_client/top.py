@@ -11,7 +11,7 @@ from typing import Callable, List, NamedTuple, Optional, Tuple
 from mi_client import process
 from mi_client.database import Database
 from mi_client.errors import Ended, Refused
-from mi_client.opening import add_source, opened, source_words, why
+from mi_client.opening import add_source, opened, source_words, status_of, why
 from mi_client.process import Usage
 from mi_client.show import table
 from mi_client.sockets import UNTOLD, Traffic
@@ -159,9 +159,11 @@ def watch(options: argparse.Namespace, shown: Callable[[Sample, Sample], None]) 
                 count += 1
     except KeyboardInterrupt:
         print()
+    except BrokenPipeError:
+        raise  # (nobody reads what is written)
     except (Ended, OSError, Refused, ValueError) as error:
         print(f"weltiyo: {why(error, options)}", file=sys.stderr)
-        return 1
+        return status_of(error)
     return 0
 
 

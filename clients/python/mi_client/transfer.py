@@ -12,12 +12,13 @@ from mi_client.calls import Bound, Row
 from mi_client.database import Database
 from mi_client.errors import Ended, NeedsSchema, Refused, TooManyEqual
 from mi_client.loading import Loaded, Reference, References, Stopped, behind_loaded, check_ids, load_rows
-from mi_client.opening import add_server, add_source, opened, source_words, why
+from mi_client.opening import add_server, add_source, opened, source_words, status_of, why
 from mi_client.progress import Progress
 from mi_client.rowfiles import (
     CsvWriter, Item, format_of, has_rows, json_line, length_of, read_csv, read_json_lines, reading, whole_lines, writing,
 )
 from mi_client.schema import Table
+from mi_client.whole_files import part_of
 
 T = TypeVar("T")
 KEEPS = """A load gives the rows back, and what follows from them. It keeps ids where they are those that the server counts; else it
@@ -49,18 +50,23 @@ def dumped_tables(db: Database, named: Optional[str]) -> List[Optional[str]]:
     return [it.name for it in db.schema.tables]
 
 
-def dump(db: Database, options: argparse.Namespace) -> int:
-    last = whole_lines(options.file) if options.resume else []
+def dump(db: Database, options: argparse.Namespace, is_gone_on_with: bool = True) -> int:
+    """Where it breaks off what came by then stays as the part of a file, if it may be gone on with."""
+    last, kept = whole_lines(options.file) if options.resume else ([], 0)
     tables = dumped_tables(db, options.table)
     lower: Optional[Bound] = None
     if last:
+        if last[0].get("table") not in tables:
+            other = last[0].get("table")
+            raise ValueError(f"{options.file}: its last row is of the table {other}, so it isn't a dump of these tables that broke off")
         tables = tables[tables.index(last[0].get("table")):]
         lower = {"gt": [last[0]["id"]]}
     rows = 0
     sources = [(it, rows_in_order(db, it, options.order, None if n else lower)) for n, it in enumerate(tables)]
     total = sum(db.size(it) for it in tables)
     lines = begun((json_line(row, table) for table, source in sources for row in source), options, "jsonl", bool(last))
-    with writing(options.file, bool(last)) as file, Progress(total) as progress:
+    with writing(options.file, kept, is_gone_on_with) as file, Progress(total) as progress:
+        options.part = part_of(options.file)
         for line in lines:
             file.write(line)
             rows += 1
@@ -69,8 +75,8 @@ def dump(db: Database, options: argparse.Namespace) -> int:
 
 
 def begun(rows: Iterator[T], options: argparse.Namespace, kind: str, resumed: bool) -> Iterator[T]:
-    """The same, the first of which has come: what is refused or breaks off there does so before the file is emptied. Raises ValueError
-    where there is none and the file has rows, unless that is wanted."""
+    """The same, the first of which has come: what is refused or breaks off there does so before a file is begun. Raises ValueError where there is
+    none and the file has rows, unless that is wanted."""
     first = list(itertools.islice(rows, 1))
     if not first and not resumed and not getattr(options, "force", False) and has_rows(options.file, kind):
         raise ValueError(f"there is no row to write, and {options.file} has some: --force empties it")
@@ -92,8 +98,6 @@ def export(db: Database, options: argparse.Namespace) -> int:
                 file.write(json_line(row, None))
             rows += 1
             progress.step(1)
-        if sheet:
-            sheet.end()
     return rows
 
 
@@ -131,12 +135,20 @@ def items_of(db: Database, file: IO[bytes], options: argparse.Namespace) -> Iter
 
 def writer_options(name: str, about: str) -> argparse.ArgumentParser:
     parser = argparse.ArgumentParser(prog=f"weltiyo {name}", description=about, epilog=KEEPS)
-    add_source(parser)
+    add_source(parser, "and empties a file that has rows")
     parser.add_argument("--table", help="this table alone")
     parser.add_argument("--order", metavar="INDEX", default="id", help="the rows in the order of this index (id)")
     parser.add_argument("--hold", action="store_true", help="holds a session meanwhile, so that no other connection changes anything")
-    parser.add_argument("--force", action="store_true", help="empties a file that has rows, where there is none to write")
     return parser
+
+
+def reference(text: str) -> Reference:
+    """What --references names. Raises ArgumentTypeError."""
+    try:
+        return Reference.of(text)
+    except ValueError:
+        raise argparse.ArgumentTypeError(f"{text!r} names no column and table: TABLE.COLUMN=TABLE is wanted, as payment.from=account, where the "
+                                         "column from of payment has ids of account") from None
 
 
 def reader_options(name: str, about: str) -> argparse.ArgumentParser:
@@ -145,7 +157,7 @@ def reader_options(name: str, about: str) -> argparse.ArgumentParser:
     parser.add_argument("--table", help="loads all rows into this table; else into the one that each names, or the first")
     parser.add_argument("--keep-going", action="store_true", help="leaves refused rows out and tells them, in place of stopping")
     parser.add_argument("--renumber", action="store_true", help="loads rows that get other ids than they have in the file")
-    parser.add_argument("--references", type=Reference.of, action="append", default=[], metavar="TABLE.COLUMN=TABLE",
+    parser.add_argument("--references", type=reference, action="append", default=[], metavar="TABLE.COLUMN=TABLE",
                         help="the same, and lets a column that holds ids of a table follow, as payment.from=account; may stand more than once")
     parser.add_argument("--resume", action="store_true", help="goes on behind the rows of the file that the tables have; those left out among them stay out")
     parser.add_argument("--dump", metavar="FILE", dest="then", help="dumps the tables to this file behind it")
@@ -159,12 +171,20 @@ def ran(name: str, options: argparse.Namespace, work: Callable[[Database, argpar
         with opened(options) as db:
             with db.session() if getattr(options, "hold", False) else contextlib.nullcontext():
                 return work(db, options)
+    except BrokenPipeError:
+        raise  # (nobody reads what is written)
     except (Refused, Ended, OSError, ValueError, TooManyEqual, Stopped) as error:
-        print(f"weltiyo {name}: {why(error, options)}", file=sys.stderr)
-        return 1
+        print(f"weltiyo {name}: {why(error, options)}{gone_on_with(options)}", file=sys.stderr)
+        return status_of(error)
     except KeyboardInterrupt:
-        print(f"weltiyo {name}: interrupted" + ("; --resume goes on" if hasattr(options, "resume") else ""), file=sys.stderr)
+        print(f"weltiyo {name}: interrupted{gone_on_with(options) or ('; --resume goes on' if name in ('load', 'import') else '')}", file=sys.stderr)
         return 130
+
+
+def gone_on_with(options: argparse.Namespace) -> str:
+    """What is said of a dump that breaks off behind its first row."""
+    part = getattr(options, "part", None)
+    return f"; {part} has the rows that came by then, and --resume goes on behind them" if part else ""
 
 
 def written(db: Database, options: argparse.Namespace) -> int:
@@ -181,13 +201,14 @@ def read(db: Database, options: argparse.Namespace) -> int:
     if done.other_ids:
         print(f"{done.other_ids} of them have other ids than they had", file=sys.stderr)
     if options.then:
-        dump(db, argparse.Namespace(file=options.then, table=None, order="id", resume=False, force=options.force))
+        dump(db, argparse.Namespace(file=options.then, table=None, order="id", resume=False, force=options.force), is_gone_on_with=False)
     return 1 if done.refused else 0
 
 
 def main_dump(words: Optional[List[str]] = None) -> int:
     parser = writer_options("dump", "Writes the rows of all tables as JSON lines.")
-    parser.add_argument("--resume", action="store_true", help="goes on behind the last whole line of the file")
+    parser.add_argument("--resume", action="store_true",
+                        help="goes on behind the last whole line of FILE.part, which a dump that broke off has left, else of the file")
     parser.add_argument("file", nargs="?", default="-", help="- is the standard output (as without)")
     options = source_words(parser, words)
     if options.resume and options.order != "id":

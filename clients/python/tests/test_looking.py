@@ -146,12 +146,12 @@ class Top(unittest.TestCase):
             self.assertRegex(line, r'^(# (HELP|TYPE) weltiyo_[a-z_]+ .+|weltiyo_[a-z_]+(\{table="\w+"\})? [0-9.]+)$')
 
     def test_programs(self) -> None:
-        ran = kit.ran("top", "--program", kit.program(), "--count", "2", "--every", "0.05")
+        ran = kit.ran("top", "--force", "--program", kit.program(), "--count", "2", "--every", "0.05")
         self.assertEqual((ran.returncode, ran.stderr, ran.stdout.count("sessions  0 open")), (0, "", 2))
-        ran = kit.ran("metrics", "--program", kit.program())
+        ran = kit.ran("metrics", "--force", "--program", kit.program())
         self.assertEqual((ran.returncode, ran.stderr, ran.stdout.count("weltiyo_rows{")), (0, "", 1))
         path = f"{kit.folder(self)}/weltiyo.prom"
-        self.assertEqual(kit.ran("metrics", "--program", kit.program(), "--every", "0.01", "--count", "2", "--file", path).returncode, 0)
+        self.assertEqual(kit.ran("metrics", "--force", "--program", kit.program(), "--every", "0.01", "--count", "2", "--file", path).returncode, 0)
         with open(path, encoding="utf-8") as file:
             self.assertTrue(file.read().startswith("# HELP weltiyo_rows"))
         self.assertEqual(kit.ran("top", "--connect", "1").returncode, 1)
@@ -242,7 +242,7 @@ class Plots(unittest.TestCase):
         picture = f"{kit.folder(self)}/out.svg"
         self.assertEqual(kit.ran("plot", "--load", path, "--svg", picture, "--column", "balance", "by_balance").stdout, "")
         xml.etree.ElementTree.parse(picture)
-        self.assertEqual(kit.ran("plot", "--program", kit.program(), "by_owner").returncode, 1)
+        self.assertEqual(kit.ran("plot", "--force", "--program", kit.program(), "by_owner").returncode, 1)
 
 
 if __name__ == "__main__":

@@ -197,7 +197,7 @@ class Files(unittest.TestCase):
         for words in (["dump", "--table", "itme"], ["dump", "--order", "by_stok"], ["dump", "--order", "by_stock"], ["export", "--order", "x"]):
             with open(path, "w", encoding="utf-8") as file:
                 file.write("before")
-            self.assertEqual(kit.ran(*words, "--program", kit.program(), "--schema", schema, path).returncode, 1)
+            self.assertEqual(kit.ran(*words, "--force", "--program", kit.program(), "--schema", schema, path).returncode, 1)
             with open(path, encoding="utf-8") as file:
                 self.assertEqual(file.read(), "before", words)
 

@@ -151,7 +151,7 @@ class Showing(unittest.TestCase):
 
     def test_what_goes_wrong(self) -> None:
         ran = kit.ran("--schema", "/no/such/file")
-        self.assertEqual((ran.returncode, ran.stderr), (1, "weltiyo: the server ended with status 3: schema: file\n"))
+        self.assertEqual((ran.returncode, ran.stderr), (1, "weltiyo: the server ended with status 3: schema: file: /no/such/file: No such file or directory\n"))
         self.assertEqual(kit.ran("--run", "/no/such/file").returncode, 1)
         ran = kit.ran("fly")
         self.assertEqual((ran.returncode, ran.stderr.splitlines()[0]), (2, "weltiyo: there is no tool fly"))

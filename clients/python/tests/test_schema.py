@@ -1,5 +1,6 @@
 """What the client knows of a schema: tables and keys, and why a command is refused. The words are the server's."""
 import json
+import os
 import unittest
 from typing import Any, Dict
 
@@ -100,7 +101,15 @@ class Explaining(unittest.TestCase):
             ({"cmd": "get", "id": -1}, "id is -1; a whole number from 0 wanted"),
             ({"cmd": "get", "id": 0, "reverse": True}, "get has no member reverse; it has id, table"),
             ({"cmd": "range", "index": "by_stock", "limit": 1001}, "limit is 1001; 1 to 1000 wanted"),
-            ({"cmd": "range", "index": "by_stock", "lower": {"le": [1]}}, 'lower is an object; an object of "ge" or "gt" with an array wanted'),
+            ({"cmd": "range", "index": "by_stock", "lower": {"le": [1]}},
+             'lower has "le", which is for upper; "ge" or "gt" wanted, as lower={"ge": [1]}'),
+            ({"cmd": "range", "index": "by_stock", "upper": {"ge": [1], "gt": [2]}},
+             'upper has "ge", "gt", which are for lower; "le" or "lt" wanted, as upper={"le": [1]}'),
+            ({"cmd": "range", "index": "by_stock", "lower": {"ge": [1], "gt": [2]}},
+             'lower has "ge", "gt"; "ge" or "gt" wanted, as lower={"ge": [1]}'),
+            ({"cmd": "range", "index": "by_stock", "lower": {"from": "\u00e4"}}, 'lower has "from"; "ge" or "gt" wanted, as lower={"ge": [10]}'),
+            ({"cmd": "range", "index": "by_stock", "lower": {}}, 'lower has none; "ge" or "gt" wanted, as lower={"ge": [10]}'),
+            ({"cmd": "range", "index": "by_stock", "upper": 5}, 'upper is an int; "le" or "lt" wanted, as upper={"le": [10]}'),
             ({"cmd": "range", "index": "by_stock", "reverse": 1}, "reverse is 1; true or false wanted"),
             ({"cmd": "find", "index": "by_stock", "key": 1}, "key is 1; an array wanted"),
             ({"cmd": "insert", "row": [1]}, "row is a list; an object wanted"),
@@ -150,6 +159,31 @@ class Reading(unittest.TestCase):
         for text, words in [("table =", "line 1"), ("", "no schema"), ("table = 5", "no schema"), ('table = "a"', "no schema")]:
             with self.assertRaisesRegex(ValueError, words):
                 Schema.of_text(text)
+            path = kit.written(self, text)
+            with self.assertRaisesRegex(ValueError, f"^{path}:{'1: ' if 'line' in words else ' this is no schema: '}"):
+                Schema.read(path)
+
+    def test_a_file_that_is_no_utf8(self) -> None:
+        """The file is told, the line and the byte."""
+        path = f"{kit.folder(self)}/schema.toml"
+        with open(path, "wb") as file:
+            file.write(b'table = "t" # caf\xc3\xa9\n# caf\xe9\n')
+        said = f"{path}:2: the byte 0xE9, number 6 of the line, isn't UTF-8"
+        with self.assertRaises(ValueError) as raised:
+            Schema.read(path)
+        self.assertEqual(str(raised.exception), said)
+        for words in (["dump", "--connect", "1"], ["load", os.devnull], ["--connect", "1"]):
+            ran = kit.ran(*words, "--schema", path)
+            self.assertEqual(ran.returncode, 1)
+            self.assertIn(said, ran.stderr)
+
+    def test_a_schema_that_the_server_refuses(self) -> None:
+        """The tools name the file behind the server's word, and the line where the client reads it as little."""
+        for text, words in [('table = "t"', "this is no schema: 'column'"), ('table = "t"\ncolumn = []', "weltiyo-lint tells the line")]:
+            path = kit.written(self, text)
+            ran = kit.ran("load", os.devnull, "--schema", path)
+            self.assertEqual(ran.returncode, 1)
+            self.assertRegex(ran.stderr, f"^weltiyo load: the server ended with status 3: schema: (shape|limit): {path}: {words}\n$")
 
 
 if __name__ == "__main__":

@@ -3,6 +3,7 @@ import argparse
 import json
 import os
 import socket
+import threading
 import unittest
 
 import kit
@@ -10,9 +11,13 @@ from kit import ANN, BOB
 from test_service import SERVICE
 
 from mi_client import Schema, Server, explain, rowfiles
+from mi_client.meaning import hash_of
 from mi_client.opening import add_server
+from mi_client.schema import BUILT_IN
+from mi_replica import checkpoint, member
 
-HEADER = '{"journal":1,"revision":0,"schema":"00"}'
+HEADER = '{"journal":1,"revision":0,"schema":"4a97872940a86388d00bd4dd133ac68c2bb50dead4fefa2fb1b161a892770f4b"}'
+"""That of the built-in table, as `docs/OPERATING.md` has it."""
 
 
 class Sources(unittest.TestCase):
@@ -43,8 +48,25 @@ class Sources(unittest.TestCase):
         self.assertEqual(self.read(self.backup), "a backup\n")
         self.assertEqual(kit.ran("dump", "--connect", "1", "--journal", "x").returncode, 2)
 
+    def test_a_program_without_rows(self) -> None:
+        """It was just started, so there is nothing to read. One that brings rows of its own is read."""
+        path, own = kit.program(), f"{self.folder}/own"
+        for words in (["dump", self.backup], ["export", self.backup], ["top", "--count", "1"], ["metrics"], ["plot", "id"]):
+            ran = kit.ran(*words, "--program", path)
+            self.assertEqual((ran.returncode, ran.stdout), (2, ""), words)
+            said = f"^weltiyo[a-z ]*: {path} was just started, and its tables are empty: .*--connect PORT.*--journal FILE.*--force"
+            self.assertRegex(ran.stderr, said)
+            self.assertEqual(self.read(self.backup), "a backup\n")
+            self.assertEqual(kit.ran(*words, "--program", path, "--force").returncode, 0, words)
+            self.write(self.backup, "a backup\n")
+        self.write(own, f'#!/bin/sh\n(echo \'{json.dumps({"cmd": "insert", "row": ANN})}\'; cat) | {path} | (read -r _; cat)\n')
+        os.chmod(own, 0o755)
+        ran = kit.ran("dump", "--program", own)
+        self.assertEqual((ran.returncode, ran.stderr), (0, "1 rows written\n"))
+
     def test_no_rows_over_some(self) -> None:
-        for words in (["dump", "--program", kit.program(), self.backup], ["export", "--program", kit.program(), self.backup],
+        path = self.journal('{"cmd":"start"}')
+        for words in (["dump", "--journal", path, self.backup], ["export", "--journal", path, self.backup],
                       ["load", os.devnull, "--dump", self.backup]):
             ran = kit.ran(*words)
             self.assertEqual((ran.returncode, ran.stderr.splitlines()[-1]),
@@ -84,7 +106,9 @@ class Sources(unittest.TestCase):
         path, other = self.journal(json.dumps({"cmd": "insert", "row": ANN})), f"{self.folder}/other"
         os.symlink(path, other)
         before = self.read(path)
-        for words in (["dump", other], ["export", path], ["metrics", "--file", path], ["plot", "by_balance", "--svg", path]):
+        os.symlink(path, f"{self.folder}/rows.part")
+        for words in (["dump", other], ["export", path], ["metrics", "--file", path], ["plot", "by_balance", "--svg", path],
+                      ["dump", f"{self.folder}/rows"]):
             ran = kit.ran(*words, "--journal", path)
             self.assertEqual((ran.returncode, self.read(path)), (2, before), words)
             self.assertIn("the journal is read, and isn't the file to write", ran.stderr)
@@ -104,6 +128,80 @@ class Sources(unittest.TestCase):
             self.assertEqual((ran.returncode, ran.stderr), (1, f"weltiyo dump: {path}:1: no header of a journal of format 1\n"))
         self.assertEqual(kit.ran("dump", "--journal", f"{self.folder}/none", self.backup).returncode, 1)
         self.assertEqual(self.read(self.backup), "a backup\n")
+
+    def test_another_schema_than_the_journals(self) -> None:
+        """However well its lines fit. The file stays, and the status is 2 as for other wrong words."""
+        path = self.journal('{"cmd":"start"}')
+        shop, more = f"{kit.TOP}/examples/shop.toml", kit.written(self, BUILT_IN.replace('"accounts"\n', '"accounts"\nmax_rows = 7\n'))
+        for tool in (["dump", self.backup], ["export", self.backup], ["top", "--count", "1"], ["metrics"], ["plot", "id"]):
+            for schema in (shop, more):
+                ran = kit.ran(*tool, "--journal", path, "--schema", schema)
+                self.assertEqual((ran.returncode, ran.stdout), (2, ""), (tool, ran.stderr))
+                self.assertIn(f"{path}: the journal is of another schema than {schema}", ran.stderr)
+                self.assertIn("--schema FILE", ran.stderr)
+        self.write(path, HEADER.replace("4a97", "0000") + "\n")
+        self.assertIn("than the built-in table accounts", kit.ran("dump", "--journal", path, self.backup).stderr)
+        self.write(path, HEADER.replace('"revision":0', '"revision":5') + "\n")
+        ran = kit.ran("dump", "--journal", path, self.backup)
+        self.assertEqual((ran.returncode, ran.stderr),
+                         (1, f"weltiyo dump: {path}:1: the header begins with the revision 5, and its schema with 0\n"))
+        self.assertEqual(self.read(self.backup), "a backup\n")
+
+    def test_the_checkpoint_of_a_member_over_mi_server(self) -> None:
+        """Its header has the schema's bytes for its meaning."""
+        path, schema = f"{self.folder}/checkpoint", kit.written(self, BUILT_IN)
+        for file in (None, schema):
+            with open(path, "wb") as made:
+                made.write(checkpoint.header(0, member.schema_hash(file)) + b'{"cmd":"start"}\n')
+            words = ["dump", "--journal", path, *(["--schema", file] if file else [])]
+            self.assertEqual(kit.ran(*words).returncode, 0)
+        self.assertEqual(kit.ran("dump", "--journal", path).returncode, 2)
+
+    def test_a_schema_that_is_read_once(self) -> None:
+        path, pipe = self.journal('{"cmd":"start"}'), f"{self.folder}/pipe"
+        os.mkfifo(pipe)
+        threading.Thread(target=self.write, args=(pipe, BUILT_IN), daemon=True).start()
+        ran = kit.ran("dump", "--table", "accounts", "--journal", path, "--schema", pipe)
+        self.assertEqual((ran.returncode, ran.stdout), (2, ""))
+        self.assertIn("a file that can be read twice", ran.stderr)
+
+    def test_the_hash_is_the_services(self) -> None:
+        """Of what a schema means, and of nothing else in its file."""
+        odd = """format = 2 # with a note
+first_revision = 7
+[[table]]
+name = "b"
+max_rows = 3
+first_arrival = 9
+column = [{ type = "flag", name = "z" }, { name = "a", type = "int" }, { name = "t", type = "text" }]
+[[table.index]]
+key = ["-a", "z", "-t"]
+name = "i"
+kind = "ranked"
+unique = true
+[[table.index]]
+name = "s"
+kind = "sequenced"
+[[table]]
+first_id = 1000
+name = "a"
+column = [{ name = "x", type = "text" }]
+index = [{ name = "h", kind = "hashed", key = ["x"] }]
+"""
+        schemas = [None, f"{kit.TOP}/examples/shop.toml", f"{kit.TOP}/examples/accounts.toml", kit.written(self, odd)]
+        digests = set()
+        for n, schema in enumerate(schemas):
+            path = f"{self.folder}/journal{n}"
+            with Server(service=SERVICE, schema=schema, journal=path):
+                header = json.loads(self.read(path))
+            read = Schema.read(schema) if schema else Schema.built_in()
+            self.assertEqual((header["schema"], header["revision"]), (hash_of(read), read.first_revision))
+            digests.add(header["schema"])
+        self.assertEqual(len(digests), len(schemas))
+        again = odd.replace(" # with a note", "").replace("max_rows = 3\nfirst_arrival = 9", "first_arrival = 9\nmax_rows = 3")
+        self.assertEqual(hash_of(Schema.of_text(again)), hash_of(Schema.of_text(odd)))
+        for old, new in [("= 7", "= 8"), ("= 9", "= 8"), ("= 3", "= 4"), ("1000", "1001"), ("-t", "t"), ("true", "false"), ("ranked", "ordered")]:
+            self.assertNotEqual(hash_of(Schema.of_text(odd.replace(old, new))), hash_of(Schema.of_text(odd)), old)
 
     def test_the_journal_of_a_running_service(self) -> None:
         path = f"{self.folder}/journal"
@@ -125,7 +223,7 @@ class Sources(unittest.TestCase):
             for path, words in [
                 (shop, "the server refuses the table item as table: this schema isn't its own; name it by --schema FILE"),
                 (kit.written(self, other), "the server's rows of accounts have balance, id, owner, vip, and not id, owner: this schema isn't"),
-                (kit.written(self, 'table = "accounts"\nindex = 5'), "this is no schema"),
+                (kit.written(self, 'table = "accounts"\nindex = 5'), ".*/schema.toml: this is no schema"),
             ]:
                 for tool in (["dump", self.backup], ["export", "--format", "csv", self.backup], ["load", self.backup], ["plot", "id"], []):
                     ran = kit.ran(*tool, "--connect", str(server.port), "--schema", path)

@@ -1,13 +1,18 @@
 """Dump, load, export, import: rows go out and come back, page by page, and what was stopped is gone on with."""
+import asyncio
+import errno
 import io
 import json
+import os
+import socket
 import unittest
 from argparse import Namespace
 from typing import Any, Iterator, List
 
 import kit
 
-from mi_client import transfer
+from mi_client import Database, transfer
+from mi_client.aio import AsyncDatabase
 from mi_client.opening import opened
 from mi_client.progress import Progress, clock_time
 from mi_client.rowfiles import Item
@@ -105,6 +110,19 @@ class Files(unittest.TestCase):
             transfer.dump(db, Namespace(file=part, table=None, order="id", resume=True))
             self.assertEqual(self.read(part), whole)
 
+    def test_a_dump_that_may_not_be_gone_on_with(self) -> None:
+        db = kit.start(self, TWO)
+        self.lines(self.dump, [{"id": 0, "row": {"item": 7}, "table": "other"}])
+        with self.assertRaisesRegex(ValueError, "dump.jsonl: its last row is of the table other, so it isn't a dump of these tables that broke off"):
+            transfer.dump(db, Namespace(file=self.dump, table=None, order="id", resume=True))
+
+    def test_references_that_are_none(self) -> None:
+        for text in ("foo", "payment=account", "payment.from", ".from=account"):
+            ran = kit.ran("load", "--references", text, self.dump)
+            self.assertEqual(ran.returncode, 2)
+            said = f"argument --references: {text!r} names no column and table: TABLE.COLUMN=TABLE is wanted, as payment.from=account"
+            self.assertIn(said, ran.stderr)
+
     def test_in_another_order(self) -> None:
         db = kit.start(self, TWO)
         for n in range(6):
@@ -149,10 +167,11 @@ class Files(unittest.TestCase):
         self.assertEqual(list(second.walk_range("id")), list(first.walk_range("id")))
 
     def test_export(self) -> None:
-        ran = kit.ran("export", "--program", kit.program(), "--table", "none", "--schema", self.schema)
+        ran = kit.ran("export", "--force", "--program", kit.program(), "--table", "none", "--schema", self.schema)
         self.assertEqual((ran.returncode, ran.stderr), (1, "weltiyo export: table: there is no table none; tables are item, sale\n"))
-        self.assertEqual(self.run_tool("export", "--program", kit.program(), "--format", "csv", said="0 rows written\n"), "id,name,stock,sold\n")
-        self.run_tool("export", "--program", kit.program(), "--order", "by_name", status=1,
+        words = ["export", "--force", "--program", kit.program()]
+        self.assertEqual(self.run_tool(*words, "--format", "csv", said="0 rows written\n"), "id,name,stock,sold\n")
+        self.run_tool(*words, "--order", "by_name", status=1,
                       said="weltiyo export: by_name is hashed and has no order; take another index, or `id`\n")
 
     def test_json_lines_that_are_none(self) -> None:
@@ -216,6 +235,26 @@ class Drawing(unittest.TestCase):
 
 
 class Ports(unittest.TestCase):
+    def test_a_port_where_nobody_listens(self) -> None:
+        """It is told with its host, and what is to be done."""
+        with socket.socket() as unheard:
+            unheard.bind(("127.0.0.1", 0))
+            port = unheard.getsockname()[1]
+            said = (f"nothing listens on port {port} of 127.0.0.1. Start a server there, as mi_service --listen {port}, "
+                    "or name the port of one that runs")
+            for words in ([], ["dump"], ["load", os.devnull], ["top"], ["plot", "id"]):
+                ran = kit.ran(*words, "--connect", str(port))
+                self.assertEqual((ran.returncode, ran.stdout, ran.stderr.partition(": ")[2]), (1, "", f"{said}\n"), words)
+            with self.assertRaisesRegex(ConnectionRefusedError, said) as raised:
+                Database.connect(port)
+            self.assertEqual(raised.exception.errno, errno.ECONNREFUSED)
+            with self.assertRaisesRegex(ConnectionRefusedError, said):
+                asyncio.run(AsyncDatabase.connect(port))
+        for text in ("65536", "-1", "x", "127.0.0.1:8000"):
+            ran = kit.ran("dump", f"--connect={text}")
+            self.assertEqual((ran.returncode, ran.stderr.rpartition("error: ")[2]),
+                             (2, f"argument --connect: {text!r} is no port: a number from 0 to 65535 is wanted\n"))
+
     def test_port_0_starts_no_server(self) -> None:
         words = ["--connect", "0", "--program", kit.program(), f"{kit.folder(self)}/none"]
         self.assertEqual(transfer.main_load(words), 1)
