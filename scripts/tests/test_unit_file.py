@@ -40,6 +40,9 @@ class UnitFile(unittest.TestCase):
             self.assertEqual(service.asked(stream, b'{"cmd":"size"}\n'), b'{"ok":true,"size":0}\n')
         self.assertEqual(os.listdir(f"{self.folder}/{self.said['StateDirectory']}"), ["journal"])
 
+    def test_no_limit_of_files_kills_it(self):
+        self.assertEqual(self.said["LimitFSIZE"], "infinity")
+
     def test_it_is_the_service(self):
         if self.program == STAND_IN:
             self.skipTest("the service isn't built: its stand-in has taken its place")

@@ -56,7 +56,9 @@ class Server:
         words += _option("--schema", schema) + _option("--journal", journal) + _option("--sync", sync)
         words.insert(0, os.fspath(service or program or ""))
         says = subprocess.PIPE if service is not None else None
-        self.process = subprocess.Popen(words, stdin=subprocess.DEVNULL, stdout=says, stderr=subprocess.PIPE)
+        # (Python ignores SIGXFSZ, and so does a service then: where its journal may grow no further it says so, in place of being killed)
+        how = {"stdin": subprocess.DEVNULL, "stdout": says, "stderr": subprocess.PIPE, "restore_signals": service is None}
+        self.process = subprocess.Popen(words, **how)  # type: ignore[call-overload]
         quiet = {"stdout": subprocess.DEVNULL, "stderr": subprocess.DEVNULL}
         guard = subprocess.Popen([*GUARD, str(self.process.pid)], stdin=subprocess.PIPE, start_new_session=True, **quiet)  # type: ignore[call-overload]
         self._guard = guard

@@ -2,6 +2,8 @@
 MI_SERVICE names, else the built one, else the stand-in of the scripts' tests."""
 import asyncio
 import os
+import subprocess
+import sys
 import unittest
 
 import kit
@@ -111,6 +113,21 @@ class Services(unittest.TestCase):
             file.write(b"{\n")
         with self.assertRaisesRegex(Ended, "status 3: journal: line 2"):
             self.started()
+
+    def test_a_journal_without_room(self):
+        """The service says so: it isn't killed by the signal of a file that may grow no further, which programs of Python ignore."""
+        words = (f"import resource, sys; resource.setrlimit(resource.RLIMIT_FSIZE, (1000, 1000)); sys.path.insert(0, {kit.CLIENT!r})\n"
+                 "from mi_client import Ended, Server\n"
+                 f"server = Server(service={SERVICE!r}, journal={self.journal!r}, wait=60)\n"
+                 "db = server.connect(60)\n"
+                 "try:\n    for n in range(40): db.insert({'owner': str(n), 'balance': 1, 'vip': False})\n"
+                 "except Ended: print(n, server.ended(60), server.process.stderr.read().decode())\n")
+        ran = subprocess.run([sys.executable, "-c", words], capture_output=True, text=True, timeout=120)
+        self.assertRegex(ran.stdout, f"^\\d+ 4 fault: journal: {self.journal}: File too large \\(27\\)\n")
+        with open(self.journal, "rb") as file:
+            whole = file.read()
+        with self.started() as server, server.connect(20) as db:
+            self.assertEqual(db.size(), whole.count(b"\n") - 1)
 
     def test_its_end(self):
         server = self.started()
