@@ -105,7 +105,7 @@ class Layout:
 class Rows:
     """How the rows of a table lie, and its keys."""
 
-    def __init__(self, number: int, table: Table) -> None:
+    def __init__(self, number: int, table: Table, values: Any, texts: bytearray) -> None:
         self.number = ctypes.c_size_t(number)
         self.names = [it.name for it in table.columns]
         self.pick: Callable[[Row], Sequence[Any]] = operator.itemgetter(*self.names) if len(self.names) > 1 else self._only
@@ -116,29 +116,40 @@ class Rows:
             types = [table.type_of(it) for it in index.columns]
             for count in range(1, len(types) + 1):
                 self.keys[index.name, count] = ctypes.c_size_t(n), Layout(types[:count])
-        self._unpack = struct.Struct("=" + "".join(READ[it.type] for it in table.columns)).unpack_from
-        self._made = self._maker(table)
+        self.read = _reader(table, values, texts)
+        """Makes a row of its id and what lies in the buffers."""
 
     def _only(self, row: Row) -> Sequence[Any]:
         """The values of a row of one column."""
         return [row[it] for it in self.names]
 
-    @staticmethod
-    def _maker(table: Table) -> Callable[[Sequence[int], bytearray, int], Row]:
-        """What makes a row of what was unpacked, its texts and its id, with the columns in the order that replies have. It is one expression over the
-        columns, since loops over them take twice as long."""
-        members, place = {"id": "id"}, 0
-        for it in table.columns:
-            read = {"int": "v[{0}]", "text": "t[v[{0}]:v[{0}] + v[{1}]].decode()", "flag": f"v[{{0}}] == {TRUE}"}[it.type]
-            members[it.name] = read.format(place, place + 1)
-            place += 2 if it.type == "text" else 1
-        written = ", ".join(f"{name!r}: {members[name]}" for name in sorted(members))
-        made: Callable[[Sequence[int], bytearray, int], Row] = eval(f"lambda v, t, id: {{{written}}}")
-        return made
 
-    def read(self, id: int, values: Any, texts: bytearray) -> Row:
-        """A row out of the buffers."""
-        return self._made(self._unpack(values), texts, id)
+def _reader(table: Table, values: Any, texts: bytearray) -> Callable[[int], Row]:
+    """What makes a row out of its id and the buffers, with the columns in the order that replies have. It is a function that keeps what it needs
+    beside it, since a method that looks for that in an object takes longer."""
+    unpack = struct.Struct("=" + "".join(READ[it.type] for it in table.columns)).unpack_from
+    copy = dict.fromkeys(sorted(["id", *(it.name for it in table.columns)])).copy
+    columns, place = [], 0
+    for it in table.columns:
+        # (a text is two numbers, where it begins and how long it is; the second one's place, which is never 0, tells it from others)
+        columns.append((it.name, place, place + 1 if it.type == "text" else 0, it.type == "flag"))
+        place += 2 if it.type == "text" else 1
+
+    def read(id: int) -> Row:
+        found = unpack(values)
+        row: Row = copy()
+        row["id"] = id
+        for name, at, length, is_flag in columns:
+            if length:
+                begin = found[at]
+                row[name] = texts[begin:begin + found[length]].decode()
+            elif is_flag:
+                row[name] = found[at] == TRUE
+            else:
+                row[name] = found[at]
+        return row
+
+    return read
 
 
 class Values:
@@ -146,15 +157,12 @@ class Values:
     line is to be asked. One is made at a time, since all share their buffers."""
 
     def __init__(self, schema: Schema, connection: int) -> None:
-        self._rows: Dict[Optional[str], Rows] = {it.name: Rows(n, it) for n, it in enumerate(schema.tables)}
-        self._rows[None] = self._rows[schema.tables[0].name]
         self._connection, self._id, self._length = ctypes.c_uint64(connection), ctypes.c_uint64(), ctypes.c_size_t()
         self._given = ctypes.create_string_buffer(max(VALUE_SIZE * ROW_VALUES, EDIT_SIZE * MOST_EDITS))
-        self._values = ctypes.create_string_buffer(VALUE_SIZE * ROW_VALUES)
-        self._texts = bytearray(ROW_TEXTS)
-        self._room = (
-            self._values, ctypes.c_size_t(ROW_VALUES), (ctypes.c_char * ROW_TEXTS).from_buffer(self._texts), ctypes.c_size_t(ROW_TEXTS),
-        )
+        values, texts = ctypes.create_string_buffer(VALUE_SIZE * ROW_VALUES), bytearray(ROW_TEXTS)
+        self._room = values, ctypes.c_size_t(ROW_VALUES), (ctypes.c_char * ROW_TEXTS).from_buffer(texts), ctypes.c_size_t(ROW_TEXTS)
+        self._rows: Dict[Optional[str], Rows] = {it.name: Rows(n, it, values, texts) for n, it in enumerate(schema.tables)}
+        self._rows[None] = self._rows[schema.tables[0].name]
         self._count, self._rollback = ctypes.c_size_t(), ctypes.c_uint32(1)
 
     def rows(self, table: Optional[str]) -> Optional[Rows]:
@@ -169,7 +177,7 @@ class Values:
         status: int = library.weltiyo_get(handle, rows.number, self._id, *self._room)
         if status:
             return ABSENT if status == ABSENT else None
-        return rows.read(id, self._values, self._texts)
+        return rows.read(id)
 
     def find(self, library: Any, handle: Any, rows: Rows, index: str, key: Sequence[Any]) -> Union[Row, int, None]:
         """The first row of a key, or ABSENT."""
@@ -184,7 +192,7 @@ class Values:
         status: int = told.status
         if status:
             return ABSENT if status == ABSENT else None
-        return rows.read(told.number, self._values, self._texts)
+        return rows.read(told.number)
 
     def insert(self, library: Any, handle: Any, rows: Rows, row: Row) -> Optional[int]:
         """The id of a new row."""

@@ -57,8 +57,8 @@ class Server:
         words.insert(0, os.fspath(service or program or ""))
         says = subprocess.PIPE if service is not None else None
         # (Python ignores SIGXFSZ, and so does a service then: where its journal may grow no further it says so, in place of being killed)
-        how = {"stdin": subprocess.DEVNULL, "stdout": says, "stderr": subprocess.PIPE, "restore_signals": service is None}
-        self.process = subprocess.Popen(words, **how)  # type: ignore[call-overload]
+        restores = service is None
+        self.process = subprocess.Popen(words, stdin=subprocess.DEVNULL, stdout=says, stderr=subprocess.PIPE, restore_signals=restores)
         quiet = {"stdout": subprocess.DEVNULL, "stderr": subprocess.DEVNULL}
         guard = subprocess.Popen([*GUARD, str(self.process.pid)], stdin=subprocess.PIPE, start_new_session=True, **quiet)  # type: ignore[call-overload]
         self._guard = guard

@@ -140,8 +140,9 @@ class Service(Own):
         """Starts the program, and answers its port."""
         words = [self._program, "--listen", "0", *more] + (["--schema", self._schema] if self._schema else [])
         # (with SIGXFSZ ignored, as Python has it, so that a file without room is told in place of killing it)
-        how = {"stdin": subprocess.DEVNULL, "stdout": subprocess.PIPE, "start_new_session": True, "restore_signals": False}
-        self._process = subprocess.Popen(words, **how)  # type: ignore[call-overload]
+        self._process = subprocess.Popen(
+            words, stdin=subprocess.DEVNULL, stdout=subprocess.PIPE, start_new_session=True, restore_signals=False
+        )
         quiet = {"stdout": subprocess.DEVNULL, "stderr": subprocess.DEVNULL, "start_new_session": True}
         self._guard = subprocess.Popen([*GUARD, str(self._process.pid)], stdin=subprocess.PIPE, **quiet)  # type: ignore[call-overload]
         assert self._process.stdout

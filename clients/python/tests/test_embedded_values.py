@@ -10,7 +10,7 @@ import kit
 from kit import ANN
 from test_embedded import InTheMiddle, Watched, library, needs_library
 
-from mi_client import Embedded, Ended, NeedsSchema, Refused
+from mi_client import Embedded, Ended, NeedsSchema, Refused, Schema, embedded_values
 
 # (a column that stands before `id` in a reply and one behind it, a key of every type and of all together, and a table that is soon full)
 SCHEMA = """
@@ -137,6 +137,21 @@ class Calls:
             ("erase", (self.random.randrange(12),), {}), ("list", ("line",), {"table": "main"}),
             *((it, (), {}) for it in ("begin", "undo", "squash", "size", "revision")),
         )
+
+
+class Read(unittest.TestCase):
+    def test_a_row_that_was_laid_is_read(self):
+        """With the columns in the order of a reply, whatever they are called."""
+        for table in Schema.of_text(SCHEMA).tables + Schema.of_text(WIDE).tables + Schema.built_in().tables:
+            values, texts = bytearray(embedded_values.VALUE_SIZE * embedded_values.ROW_VALUES), bytearray(embedded_values.ROW_TEXTS)
+            rows = embedded_values.Rows(0, table, values, texts)
+            for n, text in enumerate(["", "\u20ac uro", "x" * 300, "\0", "'\"\\\n"]):
+                plain = {"int": (-1) ** n * (2**63 - 1) + n % 2, "text": text, "flag": n % 2 == 0}
+                row = {it.name: plain[it.type] for it in table.columns}
+                laid = rows.layout.lay(rows.pick(row), values)
+                texts[:len(laid)] = laid
+                found = rows.read(n)
+                self.assertEqual(list(found.items()), sorted({"id": n, **row}.items()))
 
 
 @needs_library

@@ -110,6 +110,12 @@ class Sources(unittest.TestCase):
             self.assertLessEqual(max(map(len, text.split("\n"))), 160, path)
             self.assertTrue(ast.get_docstring(ast.parse(text)), path)
 
+    def test_nothing_is_run_that_was_made_of_texts(self) -> None:
+        for path in MODULES:
+            with open(path, encoding="utf-8") as file:
+                named = {it.id for it in ast.walk(ast.parse(file.read())) if isinstance(it, ast.Name)}
+            self.assertEqual(named & {"eval", "exec", "compile"}, set(), path)
+
     def test_a_checker_agrees(self) -> None:
         """mypy or pyright, where one is there."""
         words = [sys.executable, "-m", "mypy"] if importlib.util.find_spec("mypy") else [shutil.which("mypy") or shutil.which("pyright") or ""]
