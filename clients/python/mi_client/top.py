@@ -3,7 +3,6 @@ count of lines, so the bytes that it reads and writes stand for them, without th
 from __future__ import annotations
 
 import argparse
-import os
 import sys
 import time
 from typing import Callable, List, NamedTuple, Optional, Tuple
@@ -13,6 +12,7 @@ from mi_client.database import Database
 from mi_client.errors import Ended, Refused
 from mi_client.opening import add_source, opened, source_words, status_of, why
 from mi_client.process import Usage
+from mi_client.rowfiles import writing
 from mi_client.show import table
 from mi_client.sockets import UNTOLD, Traffic
 
@@ -130,10 +130,9 @@ def prometheus(it: Sample) -> str:
 
 
 def write_whole(path: str, text: str) -> None:
-    """Replaces a file at once, so that nobody reads half of it."""
-    with open(f"{path}.new", "w", encoding="utf-8") as file:
-        file.write(text)
-    os.replace(f"{path}.new", path)
+    """Replaces a file at once, so that nobody reads half of it. A link, a device or a pipe stays what it is."""
+    with writing(path) as file:
+        file.write(text.encode())
 
 
 def moved_by(options: argparse.Namespace) -> Optional[Moved]:

@@ -5,6 +5,7 @@ import socket
 import subprocess
 import sys
 import threading
+import os
 import unittest
 import xml.etree.ElementTree
 from typing import Iterator
@@ -155,6 +156,20 @@ class Top(unittest.TestCase):
         with open(path, encoding="utf-8") as file:
             self.assertTrue(file.read().startswith("# HELP weltiyo_rows"))
         self.assertEqual(kit.ran("top", "--connect", "1").returncode, 1)
+
+    def test_a_link_to_the_file_of_metrics(self) -> None:
+        """It stays a link, to a file or to what is none."""
+        for far in (f"{kit.folder(self)}/far.prom", "/dev/stdout"):
+            link = f"{kit.folder(self)}/weltiyo.prom"
+            os.symlink(far, link)
+            ran = kit.ran("metrics", "--force", "--program", kit.program(), "--file", link)
+            self.assertEqual((ran.returncode, ran.stderr, os.readlink(link)), (0, "", far))
+            said = ran.stdout
+            if not said:
+                with open(far, encoding="utf-8") as file:
+                    said = file.read()
+            self.assertTrue(said.startswith("# HELP weltiyo_rows"))
+            self.assertEqual(os.listdir(os.path.dirname(link)), ["weltiyo.prom"])
 
 
 class Plots(unittest.TestCase):
