@@ -3,6 +3,7 @@
 
 const assert = require("node:assert");
 const fs = require("node:fs");
+const net = require("node:net");
 const os = require("node:os");
 const path = require("node:path");
 const { test: tested } = require("node:test");
@@ -388,6 +389,10 @@ test("a value alone is the key of one part, and isn't taken apart", () =>
       await assert.rejects(db.range("by_balance", { upper: bound }), /^TypeError: a bound is an object, as { ge: \[10\] } or { le: \[10\] }; .* is none$/);
       await assert.rejects(db.walkRange("by_balance", ["balance"], { lower: bound }).next(), /^TypeError: a bound is an object/);
     }
+    const said = /^TypeError: lower has le, which is for upper; ge or gt is wanted, as lower: { ge: \[10\] }$/;
+    await assert.rejects(db.range("by_balance", { lower: { le: 7 } }), said);
+    await assert.rejects(db.walkRange("by_balance", ["balance"], { lower: { le: 7 } }).next(), said);
+    await assert.rejects(db.range("by_balance", { upper: { gt: 7 } }), /^TypeError: upper has gt, which is for lower; le or lt is wanted/);
     assert.equal(lines, 0);
     delete db._channel.ask;
     assert.equal(await db.size(), 2);
@@ -453,13 +458,29 @@ test("several connections", () =>
 test("a server that can't begin says why at once", async () => {
   await assert.rejects(Database.start(PROGRAM, { schema: "none.toml" }), (error) => error instanceof Ended && /status 3: schema: file/.test(error.message));
   await assert.rejects(Database.start("/no/such/program"), Ended);
+  await assert.rejects(Database.start(PROGRAM, { schema: "none.toml" }), /schema: file: none\.toml$/);
   const folder = fs.mkdtempSync(path.join(os.tmpdir(), "weltiyo-"));
   fs.writeFileSync(path.join(folder, "s.toml"), "table =");
   await withServer(
-    (server) => assert.rejects(server.connect(), (error) => error instanceof Ended && /schema: toml/.test(error.message)),
+    (server) => assert.rejects(server.connect(), (error) => error instanceof Ended && /schema: toml: .*s\.toml$/.test(error.message)),
     { schema: path.join(folder, "s.toml") }
   );
   fs.rmSync(folder, { recursive: true });
+});
+
+test("a port where nobody listens is told, and what is to be done", async () => {
+  const closed = net.createServer();
+  await new Promise((resolve) => closed.listen(0, "127.0.0.1", resolve));
+  const { port } = closed.address();
+  await new Promise((resolve) => closed.close(resolve));
+  const said = `nothing listens on port ${port} of 127.0.0.1. Start a server there, as mi_service --listen ${port}, or name the port of one that runs`;
+  await assert.rejects(Database.connect(port), { code: "ECONNREFUSED", message: said });
+});
+
+test("a connection that was closed tells the status and nothing behind it", async () => {
+  const db = await Database.start(PROGRAM);
+  await db.close();
+  await assert.rejects(db.size(), (error) => error instanceof Ended && error.message === "the server ended with status 0");
 });
 
 test("what was asked of a server that ends is rejected", () =>

@@ -115,12 +115,33 @@ function keyOf(key) {
   return [...key];
 }
 
-/** A bound with the values of its key. Throws where it is none. */
-function boundOf(bound) {
+/** The words of each bound. */
+const SIDES = { lower: ["ge", "gt"], upper: ["le", "lt"] };
+
+/** A bound of this side with the values of its key. Throws where it is none, or the other side's. */
+function boundOf(bound, side) {
   if (bound === undefined || bound === null) return undefined;
   if (typeof bound !== "object" || typeof bound[Symbol.iterator] === "function")
     throw new TypeError(`a bound is an object, as { ge: [10] } or { le: [10] }; ${kindOf(bound)} is none`);
-  return Object.fromEntries(Object.entries(bound).map(([side, key]) => [side, keyOf(key)]));
+  const other = side === "lower" ? "upper" : "lower";
+  const strange = Object.keys(bound).find((word) => SIDES[other].includes(word));
+  if (strange) {
+    const [first, second] = SIDES[side];
+    throw new TypeError(`${side} has ${strange}, which is for ${other}; ${first} or ${second} is wanted, as ${side}: { ${first}: [10] }`);
+  }
+  return Object.fromEntries(Object.entries(bound).map(([word, key]) => [word, keyOf(key)]));
+}
+
+/** The same error, which says where nobody listens and what is to be done. */
+function nobodyListens(error, port) {
+  error.message = `nothing listens on port ${port} of 127.0.0.1. Start a server there, as mi_service --listen ${port}, or name the port of one that runs`;
+  return error;
+}
+
+/** How a server of one's own ended, with what it said, and the file where that is about its schema. */
+function endOf(status, said, schema) {
+  const words = [`the server ended with status ${status}`, said.trim(), schema && said.startsWith("schema: ") ? schema : ""];
+  return words.filter(Boolean).join(": ");
 }
 
 /** What a value is, in a sentence. */
@@ -334,7 +355,7 @@ class Database {
         resolve(null);
       });
       ran.on("close", (status) => {
-        channel.end(`the server ended with status ${status}: ${said.trim()}`);
+        channel.end(endOf(status, said, schema));
         resolve(status);
       });
     });
@@ -350,9 +371,10 @@ class Database {
   static connect(port, { window = WINDOW } = {}) {
     return new Promise((resolve, reject) => {
       const stream = net.connect({ port, host: "127.0.0.1", noDelay: true });
-      stream.once("error", reject);
+      const failed = (error) => reject(error.code === "ECONNREFUSED" ? nobodyListens(error, port) : error);
+      stream.once("error", failed);
       stream.once("connect", () => {
-        stream.off("error", reject);
+        stream.off("error", failed);
         stream.setNoDelay(true);
         const closed = new Promise((done) => stream.once("close", () => done(null)));
         const channel = new Channel(stream, stream, window);
@@ -634,7 +656,7 @@ class Database {
   /** The first rows of a range, `{ rows, more }`, at most `limit` (1 to 1000). `lower` is `{ ge: key }` or `{ gt: key }`, `upper` is
    * `{ le: key }` or `{ lt: key }`, in the order of the index. */
   async range(index, { lower, upper, reverse, limit, table } = {}) {
-    const bounds = { lower: boundOf(lower), upper: boundOf(upper) };
+    const bounds = { lower: boundOf(lower, "lower"), upper: boundOf(upper, "upper") };
     const { rows, more } = await this.ask("range", { index, ...bounds, reverse: reverse || undefined, limit, table });
     return { rows, more };
   }
@@ -663,7 +685,7 @@ class Database {
   async *walkRange(index, columns, { lower, upper, reverse = false, page = MOST_ROWS, table } = {}) {
     const names = [columns].flat().map((it) => it.replace(/^-/, ""));
     const [side, including, beyond] = reverse ? ["upper", "le", "lt"] : ["lower", "ge", "gt"];
-    const bounds = { lower: boundOf(lower), upper: boundOf(upper) };
+    const bounds = { lower: boundOf(lower, "lower"), upper: boundOf(upper, "upper") };
     let last = null, given = new Set();
     for (let more = true; more; ) {
       const answer = await this.range(index, { ...bounds, reverse, limit: page, table });
@@ -721,9 +743,10 @@ function freePort() {
 /** A server that listens on a free port of 127.0.0.1, for programs and tests that want several connections. It answers once so many
  * clients have come, and ends when all have gone. */
 class Server {
-  constructor(process, port) {
+  constructor(process, port, schema) {
     this.process = process;
     this.port = port;
+    this.schema = schema;
     this.said = "";
     this.status = undefined;
     process.stderr.on("data", (bytes) => (this.said += bytes));
@@ -736,7 +759,7 @@ class Server {
   static async start(program, { clients = 1, schema } = {}) {
     const port = await freePort();
     const words = ["--listen", String(port), "--clients", String(clients), ...(schema ? ["--schema", schema] : [])];
-    return new Server(spawn(program, words, { stdio: ["ignore", "ignore", "pipe"] }), port);
+    return new Server(spawn(program, words, { stdio: ["ignore", "ignore", "pipe"] }), port, schema);
   }
 
   /** The next connection, once the server listens; it is tried for `wait` milliseconds. */
@@ -746,7 +769,7 @@ class Server {
       try {
         return await Database.connect(this.port, { window });
       } catch (error) {
-        if (this.status !== undefined) throw new Ended(`the server ended with status ${this.status}: ${this.said.trim()}`);
+        if (this.status !== undefined) throw new Ended(endOf(this.status, this.said, this.schema));
         if (error.code !== "ECONNREFUSED" || Date.now() > end) throw error;
         await new Promise((resolve) => setTimeout(resolve, 20));
       }
