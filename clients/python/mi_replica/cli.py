@@ -6,10 +6,12 @@ import asyncio
 import json
 import os
 import re
+import shutil
 import signal
 import sys
 from typing import Any, Dict, List, Optional, Tuple
 
+from mi_client.cli import broken_pipe
 from mi_replica.etcd import Rejected, Unreachable, place
 from mi_replica.log import Leader, Log, OtherLedger, Snapshot
 from mi_replica.member import Member, OtherSchema, Settings
@@ -63,7 +65,7 @@ def main(words: Optional[List[str]] = None) -> int:
     except ValueError as error:
         made.error(f"--etcd: {error}")
     try:
-        return asyncio.run(status(options)) if options.status else asyncio.run(serve(options))
+        return told(options) if options.status else asyncio.run(serve(options))
     except (OtherSchema, OtherLedger) as error:
         print(f"mi_replica: {'schema' if isinstance(error, OtherSchema) else 'ledger'}: {error}", file=sys.stderr)
         return 3
@@ -72,8 +74,20 @@ def main(words: Optional[List[str]] = None) -> int:
         return 4
 
 
+def told(options: argparse.Namespace) -> int:
+    """How the members stand, in silence where nobody reads on."""
+    try:
+        found = asyncio.run(status(options))
+        sys.stdout.flush()
+        return found
+    except BrokenPipeError:
+        return broken_pipe()
+
+
 async def serve(options: argparse.Namespace) -> int:
     """A member until it is told to end. Its lease is given back then, so that another one leads at once."""
+    if shutil.which(options.program) is None:
+        raise Gone(f"there is no program {options.program}: name it by --program FILE or the variable MI_SERVICE")
     running = asyncio.ensure_future(Member(settings(options)).run())
     for it in ENDS:
         asyncio.get_running_loop().add_signal_handler(it, running.cancel)

@@ -71,6 +71,20 @@ class WhoLeads(unittest.TestCase):
 
         asyncio.run(played())
 
+    def test_nobody_reads_on(self) -> None:
+        said = io.StringIO()
+        gone = mock.AsyncMock(side_effect=BrokenPipeError)
+        with mock.patch("mi_replica.cli.status", gone), mock.patch("mi_replica.cli.broken_pipe", lambda: 141), contextlib.redirect_stderr(said):
+            self.assertEqual((cli.main(["--etcd", NOWHERE, "--name", "led", "--status"]), said.getvalue()), (141, ""))
+
+    def test_no_program(self) -> None:
+        """It is told as that, whatever the ledger's schema is."""
+        for name in ("/no/such/program", "/no/mi_service"):
+            said = io.StringIO()
+            with contextlib.redirect_stderr(said):
+                self.assertEqual(cli.main(["--etcd", NOWHERE, "--name", "led", "--listen", "1", "--program", name]), 4)
+            self.assertEqual(said.getvalue(), f"mi_replica: there is no program {name}: name it by --program FILE or the variable MI_SERVICE\n")
+
 
 if __name__ == "__main__":
     unittest.main()
