@@ -11,7 +11,7 @@ from mi_replica.front import Front
 from mi_replica.log import OtherLedger
 from mi_replica.member import schema_hash
 
-HEADER = header(0, "00")
+HEADER = header(0, schema_hash(None))
 INSERT = b'{"cmd":"insert","row":{"owner":"%s","balance":1,"vip":false}}\n'
 
 

@@ -227,7 +227,7 @@ class Coming(unittest.TestCase):
     def test_the_tool_says_what_it_lacks(self) -> None:
         ran = kit.ran("web", "--connect", "1")
         self.assertEqual((ran.returncode, ran.stdout), (1, ""))
-        self.assertIn("weltiyo web: [Errno 111]", ran.stderr)
+        self.assertIn("weltiyo web: nothing listens on port 1 of 127.0.0.1", ran.stderr)
         self.assertEqual(kit.ran("web", "--port", "65536").returncode, 2)
         self.assertTrue(os.path.isfile(PAGE))
 
