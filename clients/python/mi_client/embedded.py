@@ -97,15 +97,15 @@ class Embedded(Database):
                 raise Ended(self._closed_for)
             return type(self)(_Lines(self._lines.engine), self.schema)
 
-    # Calls with values: each answers what its line does
+    # Calls with values: each answers what its line does. (Those of `Calls` are made of functions, whose parameters mypy takes for nameless.)
 
-    def get(self, id: int, table: Optional[str] = None) -> Row:
+    def get(self, id: int, table: Optional[str] = None) -> Row:  # type: ignore[override]
         found = self._by_values(Values.get, table, id)
         if type(found) is dict:
             return found
         return self._absent(calls.get(id, table)) if found else super().get(id, table)
 
-    def find(self, index: str, key: Key, table: Optional[str] = None) -> Row:
+    def find(self, index: str, key: Key, table: Optional[str] = None) -> Row:  # type: ignore[override]
         values = key
         if type(key) is not list and type(key) is not tuple:
             members = calls.find(index, key, table).members
@@ -115,11 +115,13 @@ class Embedded(Database):
             return found
         return self._absent(calls.find(index, key, table)) if found else super().find(index, key, table)
 
-    def insert(self, row: Row, table: Optional[str] = None, before: Optional[Tuple[str, int]] = None) -> int:
-        id = self._by_values(Values.insert, table, row) if before is None else None
+    def insert(  # type: ignore[override]
+        self, row: Row, table: Optional[str] = None, before: Optional[Tuple[str, int]] = None
+    ) -> int:
+        id: Optional[int] = self._by_values(Values.insert, table, row) if before is None else None
         return super().insert(row, table, before) if id is None else id
 
-    def modify(
+    def modify(  # type: ignore[override]
         self, id: int, set: Optional[Row] = None, add: Optional[Dict[str, int]] = None, rollback: bool = True, table: Optional[str] = None
     ) -> None:
         # (where it isn't put back a refusal changes something, and a line is asked alone)

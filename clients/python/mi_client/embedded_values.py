@@ -88,7 +88,7 @@ class Layout:
 
     def lay_one(self, value: Any, to: Any, at: int, begin: int, *head: int) -> bytes:
         """The same of a value alone at a place of the buffer, behind its head; its text will begin there."""
-        wanted = self.types[0]
+        wanted: Any = self.types[0]
         if type(value) is not wanted:
             raise ValueError
         if wanted is int:
@@ -108,7 +108,9 @@ class Rows:
     def __init__(self, number: int, table: Table, values: Any, texts: bytearray) -> None:
         self.number = ctypes.c_size_t(number)
         self.names = [it.name for it in table.columns]
-        self.pick: Callable[[Row], Sequence[Any]] = operator.itemgetter(*self.names) if len(self.names) > 1 else self._only
+        self.pick: Callable[[Row], Sequence[Any]] = self._only
+        if len(self.names) > 1:
+            self.pick = operator.itemgetter(*self.names)
         self.layout = Layout([it.type for it in table.columns])
         self.columns = {it.name: (n, Layout([it.type], EDIT)) for n, it in enumerate(table.columns)}
         self.keys: Dict[Tuple[str, int], Tuple[ctypes.c_size_t, Layout]] = {}
