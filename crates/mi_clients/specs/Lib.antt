@@ -7,4 +7,5 @@ pub mod Output
 pub mod Stream
 pub mod Client
 pub mod Row
+pub mod Silence
 pub mod Laws

@@ -8,6 +8,7 @@ use crate::duplex::Duplex;
 use crate::input::Input;
 use crate::output::Output;
 use crate::sending::{Sending, send_out};
+use crate::silence::has_passed;
 use mi_ledger::HeldReplies;
 use std::alloc::Global;
 use std::io::ErrorKind;
@@ -49,6 +50,10 @@ pub struct Client<S> {
     may_write: bool,
     /// Whether its peer has closed, or its stream has failed, as was reported.
     is_closing: bool,
+    /// Whether a piece of it came since the clock was noted. One that has just come counts as heard.
+    has_come: bool,
+    /// The second of the service's clock when that was noted.
+    heard_at: u64,
     /// Whether a whole line of it may wait to be asked.
     pub(crate) has_lines: bool,
     /// Where memory for it comes from.
@@ -61,6 +66,7 @@ pub struct Client<S> {
 
 impl<S> Client<S> {
     ghost use Rattle.mi_clients.specs.Client.{owed, IsOver, HasRoom, MayAsk, IsAsked, WantsBytes, IsBusy, IsWoken, woken};
+    ghost use Rattle.mi_clients.specs.Silence.{IsSilent, IsJudged};
 
     /// A connection that has just come.
     pub(crate) fn new(alloc: Global, conn: u64, stream: S) -> Client<S>
@@ -71,6 +77,7 @@ impl<S> Client<S> {
         ensures open { result.phase ≡ phases.Open }
         ensures none { (waiting result.input ≡ []) × (owed result ≡ []) }
         ensures first { IsTrue result.input.is_first }
+        ensures comes { IsTrue result.has_come }
     {
         Client {
             conn,
@@ -82,6 +89,8 @@ impl<S> Client<S> {
             may_read: true,
             may_write: true,
             is_closing: false,
+            has_come: true,
+            heard_at: 0,
             has_lines: false,
             alloc,
         }
@@ -150,6 +159,25 @@ impl<S> Client<S> {
         self.may_read = self.may_read || readable || closing;
         self.may_write = self.may_write || writable || closing;
         self.is_closing = self.is_closing || closing;
+    }
+
+    /// Whether it has sent nothing for more seconds than its limit. While its stream is to be read something may have come.
+    fn is_silent(&self, now: u64, limit: Option<u64>) -> bool
+        ensures { IsTrue result ↔ IsSilent limit now self.now }
+    {
+        self.phase != Phase::Broken && !self.wants_bytes() && has_passed(limit, self.heard_at, now)
+    }
+
+    /// A second of the clock: where a piece of it came, that is noted under this second; else it is given up where it is silent.
+    pub(crate) fn judge(&mut self, now: u64, limit: Option<u64>)
+        ensures { IsJudged limit now self.old self.new }
+    {
+        if self.has_come {
+            self.has_come = false;
+            self.heard_at = now;
+        } else if self.is_silent(now, limit) {
+            self.phase = Phase::Broken;
+        }
     }
 }
 
@@ -222,8 +250,10 @@ impl<S: Duplex> Client<S> {
         requires open { self.old.phase ≡ phases.Open }
         requires lines { ended (waiting self.old.input) ≡ [] }
         ensures waits { (self.new.phase ≡ phases.Broken) ⊎ Hears (waiting self.old.input ++ piece.now) [] self.old self.new }
-        ensures same { self.new ≡ record self.old { input = self.new.input; phase = self.new.phase; has_lines = self.new.has_lines; lines = self.new.lines; all_asked = self.new.all_asked } }
+        ensures comes { IsTrue self.new.has_come }
+        ensures same { self.new ≡ record self.old { input = self.new.input; phase = self.new.phase; has_lines = self.new.has_lines; has_come = self.new.has_come; lines = self.new.lines; all_asked = self.new.all_asked } }
     {
+        self.has_come = true;
         self.has_lines = true;
         match self.input.fill(piece) {
             Ok(true) => self.phase = Phase::Ended,

@@ -12,8 +12,10 @@ mod lines;
 mod output;
 mod row;
 mod sending;
+mod silence;
 
 pub use asking::part;
 pub use client::Client;
 pub use duplex::Duplex;
 pub use row::{Admission, admit, is_any_busy, serve_all, wake_one};
+pub use silence::{Limits, give_up_silent};
