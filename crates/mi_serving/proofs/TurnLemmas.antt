@@ -1,6 +1,5 @@
 -- Turns one behind another.
-use Rattle.std.proofs.Common.{◌≡◌, ◌⊎◌, inl, inr, ◌≤◌, ◌<◌, ℕ, ℤ, List, [], ◌∷◌, ◌++◌, length, map, Option, Some, None, false, cond, nat_eq, arith, refl, sym, ap, subst, ◌∙◌}
-use Rattle.std.specs.List.{Contains}
+use Rattle.std.proofs.Common.{◌≡◌, inl, inr, ◌≤◌, ◌<◌, ℕ, ℤ, List, [], ◌∷◌, ◌++◌, length, map, Option, Some, None, false, cond, nat_eq, arith, refl, sym, ap, subst, ◌∙◌}
 use Rattle.std.specs.Prelude.{IsSome}
 use Rattle.std.proofs.lemmas.List.{length-map}
 use Rattle.std.specs.Io.KnownBytes.{Keeps}
@@ -17,7 +16,7 @@ use Rattle.mi_clients.specs.Row.{ids, fresh, Attends, EachWoken, StayersSame, Sa
 use Rattle.mi_clients.specs.declared.row.Admission.{Admission}
 use Rattle.mi_clients.specs.declared.row.Admission.TheVariants.{Seated, Refused}
 use Rattle.mi_clients.proofs.StreamLemmas.{streams_none, streams_comes}
-use Rattle.mi_clients.proofs.ServedLemmas.{in_from, in_to, in_join, zip_from}
+use Rattle.mi_clients.proofs.ServedLemmas.{IsIn, in_from, in_to, in_join, zip_from}
 use Rattle.mi_serving.specs.Turns.{Goes, AllUpTo}
 
 pub goes_none : (s : HubState) (a b : Option (List ℕ)) → Keeps a b → Goes s s a b
@@ -27,6 +26,12 @@ pub goes_then : (old mid new : HubState) (a b c : Option (List ℕ)) → Goes ol
 goes_then old mid new a b c p q = (p.0 ++ q.0, makes_then p.0 q.0 old mid new a b c p.1 q.1)
 
 -- ---- the numbers of a row
+
+heads : (x y : ℕ) (xs ys : List ℕ) → x ∷ xs ≡ y ∷ ys → x ≡ y
+heads x y xs ys e = cc
+
+tails : (x y : ℕ) (xs ys : List ℕ) → x ∷ xs ≡ y ∷ ys → xs ≡ ys
+tails x y xs ys e = cc
 
 module _ {S : Type 0} where
   pub up_to_none : (last : ℕ) → AllUpTo {S = S} last []
@@ -42,6 +47,20 @@ module _ {S : Type 0} where
   up_to_woken last a b all p = λ c here.
       let old = zip_from (λ x y. IsWoken x y) a b c p (in_from b c here) in
       subst (λ n. n ≤ last) (sym old.2.conn) (all old.0 (in_to a old.0 old.1))
+
+  pub up_to_ids : (last : ℕ) (a b : List (Client S)) → AllUpTo last a → ids b ≡ ids a → AllUpTo last b
+  up_to_ids last a b all same = λ c here.
+      let old = find c a b same (in_from b c here) in
+      subst (λ n. n ≤ last) old.2 (all old.0 (in_to a old.0 old.1))
+    where
+      find : (c : Client S) (a b : List (Client S)) → ids b ≡ ids a → IsIn c b → (d : Client S) × IsIn d a × (d.conn ≡ c.conn)
+      find c [] [] e here = absurd here
+      find c [] (y ∷ b) e here = cc
+      find c (x ∷ a) [] e here = absurd here
+      find c (x ∷ a) (y ∷ b) e (inl is) = (x, inl refl, sym (heads y.conn x.conn (ids b) (ids a) e) ∙ ap (λ (z : Client S). z.conn) is)
+      find c (x ∷ a) (y ∷ b) e (inr here) =
+          let old = find c a b (tails y.conn x.conn (ids b) (ids a) e) here in
+          (old.0, inr old.1, old.2)
 
   pub up_to_comes : (last more : ℕ) (row : List (Client S)) (client : Client S) → AllUpTo last row → last ≤ more → client.conn ≡ more
       → AllUpTo more (row ++ client ∷ [])

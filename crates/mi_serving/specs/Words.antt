@@ -5,10 +5,12 @@ use Rattle.std.specs.String.{string_bytes}
 use Rattle.clap.specs.Words.{App, Row, with_rule, new_app, first_of, one_of}
 use Rattle.clap.specs.declared.builder.value_parser.ValueParser.{ValueParser}
 use Rattle.clap.specs.declared.builder.value_parser.ValueParser.TheVariants as vp
-use Rattle.mi_program.specs.Words.{option_rule, number_rule}
+use Rattle.mi_clients.specs.declared.silence.Limits.{Limits}
+use Rattle.mi_program.specs.Words.{option_rule, number_rule, IsNumber}
 use Rattle.mi_serving.specs.declared.words.Options.{Options}
 use Rattle.mi_serving.specs.declared.words.JournalWords.{JournalWords}
 use Rattle.mi_serving.specs.declared.words.SyncMode.{SyncMode}
+use Rattle.mi_serving.specs.declared.words.TheConstants.{MOST_SECONDS}
 use Rattle.mi_serving.specs.declared.words.SyncMode.TheVariants.{Always, Turn, Never}
 
 -- whether a journal is to be made to stay
@@ -32,10 +34,18 @@ asks_each (Some words) = syncs_each words.sync
 abbrev pub port_parser : ValueParser
 port_parser = vp.Signed (pos 0) (pos 65535)
 
+-- seconds are 1 to 1,000,000
+abbrev pub seconds_parser : ValueParser
+seconds_parser = vp.Unsigned 1 MOST_SECONDS
+
+-- options, and those that limit how long connections may be silent
+abbrev pub with_limits : App → App
+with_limits app = with_rule (with_rule app (number_rule (codes "hold-seconds") seconds_parser)) (number_rule (codes "idle-seconds") seconds_parser)
+
 -- the options that the service knows
 abbrev pub service_options : App
-service_options = with_rule (with_rule (with_rule (with_rule (new_app (codes "mi_service")) (option_rule (codes "schema")))
-    (number_rule (codes "listen") port_parser)) (option_rule (codes "journal"))) (option_rule (codes "sync"))
+service_options = with_limits (with_rule (with_rule (with_rule (with_rule (new_app (codes "mi_service")) (option_rule (codes "schema")))
+    (number_rule (codes "listen") port_parser)) (option_rule (codes "journal"))) (option_rule (codes "sync")))
 
 -- when lines are made to stay by this word: with no word once a turn
 abbrev pub sync_of : List ℕ → Option SyncMode
@@ -53,8 +63,18 @@ IsJournal None (Some word) journal = ⊥
 IsJournal (Some file) word None = ⊥
 IsJournal (Some file) word (Some journal) = (string_bytes journal.file ≡ file) × (sync_by word ≡ Some journal.sync)
 
+-- the seconds that a word says, or none without a word
+abbrev pub IsSeconds : Option (List ℕ) → Option ℕ → Type 0
+IsSeconds word seconds = IsNumber 1 MOST_SECONDS word seconds
+
+-- `--hold-seconds` is of the holder of sessions, `--idle-seconds` of the others
+pub record AreLimits (rows : List Row) (limits : Limits) : Type 0 where
+  pub hold : IsSeconds (one_of (codes "hold-seconds") rows) limits.hold
+  pub idle : IsSeconds (one_of (codes "idle-seconds") rows) limits.idle
+
 -- The options are the values that were matched.
 pub record AreValues (options : Options) (rows : List Row) : Type 0 where
   pub schema : option_map string_bytes options.schema ≡ first_of (codes "schema") rows
   pub port : (text : List ℕ) × (one_of (codes "listen") rows ≡ Some text) × (options.port ≡ digits_value 10 (without_leading_plus text))
   pub journal : IsJournal (first_of (codes "journal") rows) (first_of (codes "sync") rows) options.journal
+  pub limits : AreLimits rows options.limits

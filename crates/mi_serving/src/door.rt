@@ -80,8 +80,8 @@ impl Door {
         self.may_accept
     }
 
-    /// Waits until something is ready, or only looks.
-    pub fn wait(&mut self, at_once: bool) -> Result<(), Failure>
+    /// Waits until something is ready, or for the longest time that is given, or only looks.
+    pub fn wait(&mut self, at_once: bool, longest: Option<Duration>) -> Result<(), Failure>
         ensures { OnErr result (result ≡ Err Failure.Poll) }
     {
         let timeout = if at_once {
@@ -89,7 +89,7 @@ impl Door {
         } else if self.is_tired {
             Some(Duration::from_millis(100))
         } else {
-            None
+            longest
         };
         if self.poll.poll(&mut self.events, timeout).is_err() {
             return Err(Failure::Poll);

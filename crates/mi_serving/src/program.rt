@@ -18,6 +18,7 @@ use crate::door::Door;
 use crate::failure::{Failure, Fault};
 use crate::journal_file::{JournalFiles, SystemFiles};
 use crate::opening::{JournalLedger, log_fault, opened, without};
+use crate::patience::Patience;
 use crate::report::{conclude, refuse};
 use crate::service::serve;
 use crate::source::catalog;
@@ -36,6 +37,7 @@ use std::io::Write;
 use std::net::Net;
 use std::random::RandomSource;
 use std::rt::Files;
+use std::time::Clock;
 
 /// The database that is served.
 type Tables = Linked<MultiIndex>;
@@ -107,13 +109,14 @@ fn syncs_each(journal: Option<&JournalWords>) -> bool
 
 /// Serves a hub, with what the journal has, until something fails, which is the answer. It says where it listens once it is ready. An
 /// error comes before the first connection.
-fn serve_hub<P: JournalFiles, D: Sessions + Drop, W: Write>(
+fn serve_hub<P: JournalFiles, D: Sessions + Drop, C: Clock, W: Write>(
     alloc: Global,
     files: &P,
     hub: Hub<D>,
     header: &str,
     journal: Option<&JournalWords>,
     door: &mut Door,
+    patience: &mut Patience<'_, C>,
     output: &mut W,
 ) -> Result<Fault, Fault>
     requires { hub.attached ≡ [] }
@@ -123,7 +126,7 @@ fn serve_hub<P: JournalFiles, D: Sessions + Drop, W: Write>(
     let port = door.port()?;
     let mut ledger = ledger_of(alloc, files, hub, header, journal)?;
     announce(output, port)?;
-    let failure = serve(alloc, &mut ledger, door, syncs_each(journal));
+    let failure = serve(alloc, &mut ledger, door, patience, syncs_each(journal));
     Ok(log_fault(failure, ledger.log()))
 }
 
@@ -141,7 +144,7 @@ fn open_tables<R: AllocGlobal + RandomSource>(
 }
 
 /// Does what the options say, until something fails, which is the answer. An error comes before the first connection.
-fn perform<R: Files + Net + AllocGlobal + RandomSource, P: JournalFiles, W: Write>(
+fn perform<R: Files + Net + AllocGlobal + RandomSource + Clock, P: JournalFiles, W: Write>(
     rt: &R,
     files: &P,
     options: &Options,
@@ -158,6 +161,7 @@ fn perform<R: Files + Net + AllocGlobal + RandomSource, P: JournalFiles, W: Writ
     };
     let hub = open_tables(rt, catalog)?;
     let journal = options.journal.as_ref();
+    let mut patience = Patience::new(rt, options.limits);
     serve_hub(
         rt.alloc(),
         files,
@@ -165,6 +169,7 @@ fn perform<R: Files + Net + AllocGlobal + RandomSource, P: JournalFiles, W: Writ
         header.as_str(),
         journal,
         &mut door,
+        &mut patience,
         output,
     )
 }
@@ -179,7 +184,7 @@ fn perform<R: Files + Net + AllocGlobal + RandomSource, P: JournalFiles, W: Writ
 ///
 /// Behind the word stand the file or the port, and what the system said, where it said something.
 pub fn run<
-    R: Files<File = File> + Net + AllocGlobal + RandomSource,
+    R: Files<File = File> + Net + AllocGlobal + RandomSource + Clock,
     S: AsStr,
     W: Write + Drop,
     E: Write + Drop,

@@ -9,6 +9,7 @@ ghost use Rattle.mi_serving.specs.Turns.{Goes, AllUpTo, ends_serving};
 
 use crate::door::Door;
 use crate::failure::Failure;
+use crate::patience::Patience;
 use mi_clients::{Admission, Client, Duplex, admit, is_any_busy, serve_all};
 use mi_ledger::{Ledger, LedgerFault, REPLAYER};
 use mi_log::Log;
@@ -16,6 +17,7 @@ use mi_sessions::Sessions;
 use mi_value::limits::MAX_CONNECTIONS;
 use mio::net::TcpStream;
 use std::alloc::Global;
+use std::time::{Clock, Duration};
 
 /// Turns of one service, at most: 2^62, which takes longer than a machine stands.
 const MAX_TURNS: u64 = 4_611_686_018_427_387_904;
@@ -127,24 +129,30 @@ pub fn take_turn<D: Sessions + Drop, L: Log + Drop>(
     serve_all(alloc, ledger, row, buffer, each)
 }
 
-/// Waits until something is ready, and tells the connections.
-fn wait(door: &mut Door, row: &mut Vec<Client<TcpStream>>) -> Result<(), Failure>
+/// Waits until something is ready, or for the longest time that is given, and tells the connections.
+fn wait(
+    door: &mut Door,
+    row: &mut Vec<Client<TcpStream>>,
+    longest: Option<Duration>,
+) -> Result<(), Failure>
     ensures ids { ids row.new.items ≡ ids row.old.items }
     ensures woken { EachWoken row.old.items row.new.items }
     ensures poll { OnErr result (result ≡ Err Failure.Poll) }
 {
     let comes = door.may_accept() && row.len() < MAX_CONNECTIONS;
-    door.wait(comes || is_any_busy(row.as_slice()))?;
+    door.wait(comes || is_any_busy(row.as_slice()), longest)?;
     door.wake(row);
     Ok(())
 }
 
 /// Serves connections that come through a door until something fails, and says what: `Poll`, `Memory`, `Journal` or `Turns`. With `each` a
-/// line's reply waits for a sync of its own, else for one that all lines of a turn have together.
-pub fn serve<D: Sessions + Drop, L: Log + Drop>(
+/// line's reply waits for a sync of its own, else for one that all lines of a turn have together. Who is silent for longer than the patience
+/// lasts is let go.
+pub fn serve<D: Sessions + Drop, L: Log + Drop, C: Clock>(
     alloc: Global,
     ledger: &mut Ledger<D, L>,
     door: &mut Door,
+    patience: &mut Patience<'_, C>,
     each: bool,
 ) -> Failure
     requires none { (hub_of ledger.old).attached ≡ [] }
@@ -160,9 +168,10 @@ pub fn serve<D: Sessions + Drop, L: Log + Drop>(
     let mut buffer = [0u8; READ];
     let mut last = REPLAYER;
     'turns: for _turn in 0..MAX_TURNS {
-        if let Err(failure) = wait(door, &mut row) {
+        if let Err(failure) = wait(door, &mut row, patience.longest_wait()) {
             return failure;
         }
+        patience.give_up(ledger, &mut row);
         if let Err(fault) = take_turn(alloc, ledger, door, &mut row, &mut last, each, &mut buffer) {
             return Failure::of_ledger(fault);
         }

@@ -1,18 +1,22 @@
 //! The words that the service is called with: which options it has, and what the words say by them.
 ghost use Rattle.std.specs.Prelude.{◌≡◌, false, true, map, option_map, IfOk};
 ghost use Rattle.std.specs.String.{string_bytes};
-ghost use Rattle.clap.specs.Words.{app_of, rule_of, rows_of, found_of, matches_of, is_simple_and_free};
+ghost use Rattle.clap.specs.Words.{App, app_of, rule_of, rows_of, found_of, matches_of, one_of, is_simple_and_free};
 ghost use Rattle.clap.specs.Built.{IsPlainArg};
 ghost use Rattle.mi_program.specs.Words.{option_rule, number_rule, HasOptions};
 ghost use Rattle.mi_serving.specs.Words as spec;
-ghost use Rattle.mi_serving.specs.Words.{service_options, sync_by, IsJournal, AreValues};
+ghost use Rattle.mi_serving.specs.Words.{service_options, with_limits, sync_by, IsJournal, IsSeconds, AreLimits, AreValues};
 
 use clap::builder::ValueParser;
 use clap::error::ErrorKind;
 use clap::{Arg, ArgAction, ArgMatches, Command};
+use mi_clients::Limits;
 use mi_program::WordsFault;
 use std::alloc::{AllocError, Global};
 use std::convert::AsStr;
+
+/// Seconds that a connection may be allowed to be silent, at most.
+pub const MOST_SECONDS: u64 = 1_000_000;
 
 /// When the lines of a journal are made to stay.
 #[derive(Clone, Copy, Drop)]
@@ -43,6 +47,8 @@ pub struct Options {
     pub port: u16,
     /// The journal, where one is kept.
     pub journal: Option<JournalWords>,
+    /// How long connections may be silent.
+    pub limits: Limits,
 }
 
 /// An option `--name VALUE`, whose help calls the value by `value`.
@@ -80,6 +86,34 @@ fn port_parser<'a>() -> ValueParser<'a>
     clap::value_parser!(u16).range(0..)
 }
 
+/// Seconds are 1 to 1,000,000.
+fn seconds_parser<'a>() -> ValueParser<'a>
+    ensures { result ≡ spec.seconds_parser }
+{
+    clap::value_parser!(u64).range(1..=1_000_000)
+}
+
+/// A command, and the options that limit how long connections may be silent.
+fn limited<'a>(alloc: Global, command: Command<'a>) -> Result<Command<'a>, AllocError>
+    ensures { IfOk result (λ c. (app : App) → HasOptions command.entry app → HasOptions c (with_limits app)) }
+{
+    let with_hold = command.arg(number(
+        alloc,
+        "hold-seconds",
+        "N",
+        seconds_parser(),
+        "Lets a connection go that holds sessions and has sent nothing for N seconds, and undoes them",
+    ))?;
+    let with_idle = with_hold.arg(number(
+        alloc,
+        "idle-seconds",
+        "N",
+        seconds_parser(),
+        "Lets a connection go that holds none and has sent nothing for N seconds",
+    ))?;
+    Ok(with_idle)
+}
+
 /// The options that the service knows.
 fn command<'a>(alloc: Global) -> Result<Command<'a>, AllocError>
     ensures { IfOk result (λ c. HasOptions c service_options) }
@@ -109,7 +143,8 @@ fn command<'a>(alloc: Global) -> Result<Command<'a>, AllocError>
         "WHEN",
         "Makes the journal stay before replies go out: always (line by line), turn (the default), never",
     ))?;
-    Ok(with_sync)
+    let with_limits = limited(alloc, with_sync)?;
+    Ok(with_limits)
 }
 
 /// The fault that an error of the parser is.
@@ -190,6 +225,26 @@ fn journal_words(
     }
 }
 
+/// The seconds of an option, where it stands in the words. The fault is `Rules`.
+fn seconds(matches: &ArgMatches<'_>, name: &str) -> Result<Option<u64>, WordsFault>
+    ensures { IfOk result (IsSeconds (one_of name.now (rows_of (found_of matches.now)))) }
+{
+    match matches.get_one::<u64>(name) {
+        Some(count) if count >= 1 && count <= MOST_SECONDS => Ok(Some(count)),
+        None if !matches.contains_id(name) => Ok(None),
+        _other => Err(WordsFault::Rules),
+    }
+}
+
+/// How long connections may be silent, by the options that were matched. The fault is `Rules`.
+fn limits(matches: &ArgMatches<'_>) -> Result<Limits, WordsFault>
+    ensures { IfOk result (AreLimits (rows_of (found_of matches.now))) }
+{
+    let hold = seconds(matches, "hold-seconds")?;
+    let idle = seconds(matches, "idle-seconds")?;
+    Ok(Limits { hold, idle })
+}
+
 /// The options that were matched. The fault is `Rules` or `Memory`.
 fn values(alloc: Global, matches: &ArgMatches<'_>) -> Result<Options, WordsFault>
     ensures { IfOk result (λ options. AreValues options (rows_of (found_of matches.now))) }
@@ -199,10 +254,12 @@ fn values(alloc: Global, matches: &ArgMatches<'_>) -> Result<Options, WordsFault
         return Err(WordsFault::Rules);
     };
     let journal = journal_words(alloc, matches.get_str("journal"), matches.get_str("sync"))?;
+    let limits = limits(matches)?;
     Ok(Options {
         schema,
         port,
         journal,
+        limits,
     })
 }
 

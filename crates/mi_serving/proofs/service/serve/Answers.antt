@@ -3,7 +3,7 @@ use Rattle.std.proofs.Common.{sym, subst}
 use Rattle.std.proofs.KnownBytes.{Keeps-refl}
 use Rattle.mi_ledger.specs.Ledger.{hub_of}
 use Rattle.mi_clients.specs.Row.{ids, Attends}
-use Rattle.mi_serving.proofs.TurnLemmas.{goes_none, goes_then, up_to_none, up_to_woken}
+use Rattle.mi_serving.proofs.TurnLemmas.{goes_none, goes_then, up_to_none, up_to_woken, up_to_ids}
 use Rattle.mi_serving.specs.Turns.{AllUpTo}
 use Rattle.mi_serving.proofs.service.serve.Goals as goal
 
@@ -26,4 +26,6 @@ turns-preserved g c = record {
 }
 
 pub take_turn-requires-clause-known : goal.take_turn-requires-clause-known
-take_turn-requires-clause-known g c = up_to_woken c.turns.last c.turns.row.items c.wait.new.row.items c.turns.invariant.known c.wait.ensures.woken
+take_turn-requires-clause-known g c =
+    up_to_ids c.turns.last c.wait.new.row.items c.give_up.new.row.items
+    (up_to_woken c.turns.last c.turns.row.items c.wait.new.row.items c.turns.invariant.known c.wait.ensures.woken) c.give_up.ensures.ids

@@ -1,4 +1,4 @@
--- Its four options have the rules that the definitions give them.
+-- Its options have the rules that the definitions give them.
 use Rattle.std.proofs.Common.{rules, codes, subst, sym, ◌≡◌}
 use Rattle.std.specs.List.{All}
 use Rattle.std.proofs.lemmas.List.Elements.{All-nil}
@@ -20,10 +20,11 @@ returns c =
       plain = (subst (All IsPlainArg) (sym c.new.ensures.empty.0) (All-nil IsPlainArg), c.new.ensures.empty.1);
       local = c.new.ensures.local;
     } in
-    stands_more _ _ _ _ _ c.in_ok-with_sync.ensures
+    c.in_ok-with_limits.ensures _
+    (stands_more _ _ _ _ _ c.in_ok-with_sync.ensures
     (stands_more _ _ _ _ _ c.in_ok-with_journal.ensures
     (stands_more _ _ _ _ _ c.in_ok-with_listen.ensures
     (stands_more _ _ _ _ _ c.in_ok-with_schema.ensures start schema_is c.option.ensures.plain c.option.ensures.local)
     listen_is c.number.ensures.plain c.number.ensures.local)
     journal_is c.option-2.ensures.plain c.option-2.ensures.local)
-    sync_is c.option-3.ensures.plain c.option-3.ensures.local
+    sync_is c.option-3.ensures.plain c.option-3.ensures.local)

@@ -14,4 +14,5 @@ returns c =
       port = (port.0, sym (one_text-rows m (codes "listen")) ∙ port.1, port.2);
       journal = named_by _ _ _ _ c.in_ok-journal.journal (c.get_str-2.ensures ∙ first_value-rows m (codes "journal"))
           (c.get_str-3.ensures ∙ first_value-rows m (codes "sync")) c.in_ok-journal.ensures;
+      limits = c.in_ok-limits.ensures;
     }
