@@ -36,7 +36,7 @@ _weltiyo() {
     esac
     case ${1##*/} in
         mi_server) options='--schema --check --listen --clients --help' ;;
-        mi_service) options='--schema --listen --journal --sync --help' ;;
+        mi_service) options='--schema --listen --journal --sync --hold-seconds --idle-seconds --help' ;;
         weltiyo-lint)
             options='--program --help'
             [[ $word == -* ]] || { _weltiyo_files "$word" .toml; return; } ;;
