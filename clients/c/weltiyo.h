@@ -63,7 +63,7 @@ size_t weltiyo_ask(weltiyo_db *handle, uint64_t connection, const void *line, si
 /* ---- The same commands with values in place of a line: no JSON is read or written.
 
    A table is named by its number in the order of the schema, from 0 on, and so is a column. Of the indexes the one of ids has the number 0, and
-   those of the schema follow from 1 on. A call answers what the line of its command answers to the same connection, and leaves what it leaves; but
+   those of the schema follow from 1 on. `weltiyo_table`, `weltiyo_index` and `weltiyo_column` tell the number of a name. A call answers what the line of its command answers to the same connection, and leaves what it leaves; but
    that a line has 65,536 bytes at most, which a row of many texts may pass once it is written as JSON. The reply to the last line stays. */
 
 /* What a value is. */
@@ -106,6 +106,12 @@ typedef struct weltiyo_told {
 
 /* Room that any row fits: its values, and the bytes of its texts. */
 enum { WELTIYO_ROW_VALUES = 16, WELTIYO_ROW_TEXTS = 16 * 1024 };
+
+/* The number of the table, the index or the column of a name is told. Where none has it: WELTIYO_REFUSED_TABLE, WELTIYO_REFUSED_INDEX or
+   WELTIYO_REFUSED_ROW. They change nothing, take no memory, and compare one name after another: ask once, and keep the number. */
+weltiyo_told weltiyo_table(weltiyo_db *handle, const void *name, size_t length);
+weltiyo_told weltiyo_index(weltiyo_db *handle, size_t table, const void *name, size_t length);
+weltiyo_told weltiyo_column(weltiyo_db *handle, size_t table, const void *name, size_t length);
 
 /* A key is values too, one for each part of the index in its order; the index of ids has one part, a whole number. Where it says so the first
    values of a key will do: they stand for every key that begins with them. */

@@ -15,7 +15,7 @@
 //     db.get(bob, 0, id);
 //     std::cout << bob.text(0) << ' ' << bob.number(1) << '\n';
 //     weltiyo::Page page(10);
-//     db.range(page, 0, 2, weltiyo::Lower::from({5}));    // (index 0 is the one of ids, and index 2 `by_balance`)
+//     db.range(page, 0, db.index(0, "by_balance"), weltiyo::Lower::from({5}));
 //     for (const auto row : page)
 //         std::cout << row.id() << ' ' << row.text(0) << ' ' << row.number(1) << '\n';
 #ifndef WELTIYO_HPP
@@ -611,6 +611,11 @@ public:
         well(weltiyo_relocate(handle(), connection, table, index, id, before.has_value(), before.value_or(0)));
     }
 
+    // The number of the table, of its index or its column of a name. Throws Refused, with the word `table`, `index` or `row`, where none has it.
+    std::size_t table(std::string_view name) { return well(weltiyo_table(handle(), some(name), name.size())); }
+    std::size_t index(std::size_t table, std::string_view name) { return well(weltiyo_index(handle(), table, some(name), name.size())); }
+    std::size_t column(std::size_t table, std::string_view name) { return well(weltiyo_column(handle(), table, some(name), name.size())); }
+
     // How many rows a table has.
     std::uint64_t size(std::size_t table) { return well(weltiyo_size(handle(), table)); }
 
@@ -884,6 +889,9 @@ private:
         }
         return count;
     }
+
+    // (no pointer is null)
+    static const char *some(std::string_view name) noexcept { return name.empty() ? "" : name.data(); }
 
     static std::uint64_t well(weltiyo_told told) {
         if (told.status != 0)

@@ -101,6 +101,25 @@ static void edits(void) {
     weltiyo_close(db);
 }
 
+/* Names have the numbers that calls go by; what is the name of nothing, or no text, has none. */
+static void names(void) {
+    open_filled();
+    TOLD(weltiyo_table(db, "accounts", 8), 0, 0, 0);
+    TOLD(weltiyo_table(db, "accounts", 7), WELTIYO_REFUSED_TABLE, 0, 0);
+    TOLD(weltiyo_table(db, "", 0), WELTIYO_REFUSED_TABLE, 0, 0);
+    TOLD(weltiyo_index(db, 0, "id", 2), 0, 0, 0);
+    TOLD(weltiyo_index(db, 0, "by_owner", 8), 0, 0, BY_OWNER);
+    TOLD(weltiyo_index(db, 0, "by_balance", 10), 0, 0, BY_BALANCE);
+    TOLD(weltiyo_index(db, 0, "owner", 5), WELTIYO_REFUSED_INDEX, 0, 0);
+    TOLD(weltiyo_index(db, 0, "by_own\xc3", 7), WELTIYO_REFUSED_INDEX, 0, 0);
+    TOLD(weltiyo_index(db, 1, "id", 2), WELTIYO_REFUSED_TABLE, 0, 0);
+    TOLD(weltiyo_column(db, 0, "owner", 5), 0, 0, 0);
+    TOLD(weltiyo_column(db, 0, "vip", 3), 0, 0, 2);
+    TOLD(weltiyo_column(db, 0, "id", 2), WELTIYO_REFUSED_ROW, 0, 0);
+    TOLD(weltiyo_column(db, SIZE_MAX, "vip", 3), WELTIYO_REFUSED_TABLE, 0, 0);
+    weltiyo_close(db);
+}
+
 /* Refusals come in the order of lines: table, index, kind, row or key, and then the command's own. */
 static void refusals_in_order(void) {
     const weltiyo_value good[] = {TEXT(0, 3)}, bad[] = {{9, 0, 0, 0}}, row[] = {TEXT(0, 3), NUMBER(1), FLAG(0)};
@@ -236,6 +255,7 @@ int main(void) {
     values_that_are_none();
     rows_without_room();
     edits();
+    names();
     refusals_in_order();
     pages();
     long_pages();

@@ -189,7 +189,17 @@ inline void refusals() {
     EXPECT(Refused("busy").word().empty() && Refused(R"({"error":"busy")").word() == "busy");
 }
 
+// Names have the numbers that calls go by.
+inline void names() {
+    Database db("", 1);
+    const auto accounts = db.table("accounts");
+    EXPECT(accounts == 0 && db.index(accounts, "id") == 0 && db.index(accounts, "by_owner") == 1 && db.column(accounts, "vip") == 2);
+    EXPECT(refused([&] { db.table(""); }) == "table" && refused([&] { db.index(1, "id"); }) == "table");
+    EXPECT(refused([&] { db.index(accounts, "owner"); }) == "index" && refused([&] { db.column(accounts, "id"); }) == "row");
+}
+
 inline void all() {
+    names();
     moved_in_a_session();
     exchanged_in_a_session();
     in_a_vector_that_grows();

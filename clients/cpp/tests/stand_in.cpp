@@ -199,6 +199,30 @@ weltiyo_told weltiyo_modify(weltiyo_db *handle, uint64_t connection, size_t, uin
     return refused(WELTIYO_REFUSED_ID);
 }
 
+// the place of a name among some, or this refusal
+static weltiyo_told named(const std::vector<std::string> &names, const void *name, size_t length, uint32_t refusal) {
+    const auto found = std::find(names.begin(), names.end(), std::string(static_cast<const char *>(name), length));
+    return found == names.end() ? refused(refusal) : told(static_cast<uint64_t>(found - names.begin()));
+}
+
+weltiyo_told weltiyo_table(weltiyo_db *handle, const void *name, size_t length) {
+    OPEN(handle);
+    NOT_NULL(name);
+    return named({"accounts"}, name, length, WELTIYO_REFUSED_TABLE);
+}
+
+weltiyo_told weltiyo_index(weltiyo_db *handle, size_t table, const void *name, size_t length) {
+    OPEN(handle);
+    NOT_NULL(name);
+    return table == 0 ? named({"id", "by_owner"}, name, length, WELTIYO_REFUSED_INDEX) : refused(WELTIYO_REFUSED_TABLE);
+}
+
+weltiyo_told weltiyo_column(weltiyo_db *handle, size_t table, const void *name, size_t length) {
+    OPEN(handle);
+    NOT_NULL(name);
+    return table == 0 ? named({"owner", "balance", "vip"}, name, length, WELTIYO_REFUSED_ROW) : refused(WELTIYO_REFUSED_TABLE);
+}
+
 weltiyo_told weltiyo_size(weltiyo_db *handle, size_t) {
     OPEN(handle);
     return told(handle->table.size());

@@ -412,6 +412,24 @@ impl Database {
         number_of(unsafe { raw::weltiyo_relocate(self.handle.as_ptr(), OWN, table, index, id, has_before, before) }).map(drop)
     }
 
+    /// The number of the table of a name; an error, with the word `table`, where there is none.
+    pub fn table(&mut self, name: &str) -> Result<usize, Error> {
+        // SAFETY: as in `answer`.
+        number_of(unsafe { raw::weltiyo_table(self.handle.as_ptr(), name.as_ptr(), name.len()) }).map(|it| it as usize)
+    }
+
+    /// The number of the index of a name; an error, with the word `table` or `index`, where there is none.
+    pub fn index(&mut self, table: usize, name: &str) -> Result<usize, Error> {
+        // SAFETY: as in `answer`.
+        number_of(unsafe { raw::weltiyo_index(self.handle.as_ptr(), table, name.as_ptr(), name.len()) }).map(|it| it as usize)
+    }
+
+    /// The number of the column of a name; an error, with the word `table` or `row`, where there is none.
+    pub fn column(&mut self, table: usize, name: &str) -> Result<usize, Error> {
+        // SAFETY: as in `answer`.
+        number_of(unsafe { raw::weltiyo_column(self.handle.as_ptr(), table, name.as_ptr(), name.len()) }).map(|it| it as usize)
+    }
+
     /// How many rows a table has.
     pub fn size(&mut self, table: usize) -> Result<u64, Error> {
         // SAFETY: as in `answer`.

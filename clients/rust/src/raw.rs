@@ -100,6 +100,9 @@ extern "C" {
     pub(crate) fn weltiyo_relocate(
         handle: *mut Handle, connection: u64, table: usize, index: usize, id: u64, has_before: u32, before: u64,
     ) -> Told;
+    pub(crate) fn weltiyo_table(handle: *mut Handle, name: *const u8, length: usize) -> Told;
+    pub(crate) fn weltiyo_index(handle: *mut Handle, table: usize, name: *const u8, length: usize) -> Told;
+    pub(crate) fn weltiyo_column(handle: *mut Handle, table: usize, name: *const u8, length: usize) -> Told;
     pub(crate) fn weltiyo_size(handle: *mut Handle, table: usize) -> Told;
     pub(crate) fn weltiyo_find(
         handle: *mut Handle, table: usize, index: usize, key: *const Cell, key_count: usize, key_texts: *const u8, key_length: usize,

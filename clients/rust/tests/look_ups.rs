@@ -40,6 +40,17 @@ fn word<T: std::fmt::Debug>(answer: Result<T, Error>) -> String {
 }
 
 #[test]
+fn names_have_numbers() {
+    let mut db = filled();
+    assert_eq!((db.table("accounts"), db.column(0, "vip"), db.index(0, "id")), (Ok(0), Ok(2), Ok(BY_ID)));
+    for (name, number) in [("by_owner", BY_OWNER), ("by_balance", BY_BALANCE), ("by_vip", BY_VIP), ("by_class", BY_CLASS)] {
+        assert_eq!(db.index(0, name), Ok(number));
+    }
+    let refused = [word(db.table("account")), word(db.index(0, "owner")), word(db.column(0, "id")), word(db.column(1, "vip")), word(db.index(9, ""))];
+    assert_eq!(refused, ["table", "index", "row", "table", "table"]);
+}
+
+#[test]
 fn places() -> Result<(), Error> {
     let mut db = filled();
     assert_eq!(db.insert_before(0, &row("cid", 9, false), LINE, 1)?, 3);

@@ -23,7 +23,7 @@ and_then_true : (a b : Bool) → (a && b) ≡ true → b ≡ true
 and_then_true true b h = h
 and_then_true false b h = absurd (true≢false (sym h))
 
-test_of : (b : Bool) → (b ≡ true) ⊎ (b ≡ false)
+pub test_of : (b : Bool) → (b ≡ true) ⊎ (b ≡ false)
 test_of true = inl refl
 test_of false = inr refl
 

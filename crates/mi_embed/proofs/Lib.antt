@@ -1,4 +1,5 @@
 pub mod CellLemmas
+pub mod NameLemmas
 pub mod ReadLemmas
 pub mod EditLemmas
 pub mod RowLemmas

@@ -8,6 +8,7 @@ pub mod Asked
 pub mod Calls
 pub mod Shown
 pub mod LookUps
+pub mod Named
 pub mod Pages
 pub mod AsLines
 pub mod Looked

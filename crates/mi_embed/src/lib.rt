@@ -11,6 +11,7 @@ mod engine;
 mod fault;
 pub mod laws;
 mod look_ups;
+mod names;
 mod pages;
 mod put;
 mod room;

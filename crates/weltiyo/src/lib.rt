@@ -14,6 +14,7 @@ ghost use Rattle.weltiyo.specs.Handle.{engine_at, engine_where, TellsOpening};
 mod given;
 mod look_ups;
 mod loose;
+mod names;
 mod opened;
 mod pages;
 mod typed;
