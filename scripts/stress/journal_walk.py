@@ -106,13 +106,18 @@ class Walk:
             return self.cut(text)
         said = self.said.get(it[0])
         sent = said.lines[it[1]] if said and it[1] < len(said.lines) else None
-        # (what no newline ended and a carriage return did is kept with one more of them: a line's own, and that before its newline)
-        if sent is None or text != sent and not (text == sent + b"\r" and sent.endswith(b"\r") and it[1] == len(said.lines) - 1):
+        if sent is None or text != sent and not (it[1] == len(said.lines) - 1 and self.is_last(text, sent, said)):
             raise Differs(f"the journal has a line that wasn't sent: {text!r}")
         if it[1] in said.kept:
             raise Differs(f"the journal has a line twice: {text!r}")
         said.kept.add(it[1])
         return it
+
+    @staticmethod
+    def is_last(text, sent, said):
+        """Whether the last line of a connection, which ends in a carriage return, is kept so. What no newline ended and a carriage return did is
+        kept with one more of them: a line's own, and that before its newline. And who leaves may break off in front of it."""
+        return sent.endswith(b"\r") and (text == sent + b"\r" or said.has_left and sent == text + b"\r")
 
     def cut(self, text):
         """Of which connection it is the last line, which ended among the blanks of its mark: what no newline ended is a line too. None where

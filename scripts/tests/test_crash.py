@@ -103,6 +103,13 @@ class AWalk(unittest.TestCase):
         self.said[1].lines, self.said[1].replies = [a, b], [inserted(0)]
         self.walked(a)
 
+    def test_a_last_line_that_ends_before_its_carriage_return(self):
+        for left in (True, False):
+            self.setUp()
+            a, b = self.says(1, (INSERT % 5, inserted(0)), (INSERT % 6, None), left=left)
+            self.said[1].lines[1] = b + b"\r"
+            self.walked(a, b) if left else self.differs("wasn't sent", a, b)
+
     def test_a_last_line_that_ends_among_its_blanks(self):
         for cut in (1, 7):
             self.setUp()
