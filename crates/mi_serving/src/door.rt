@@ -80,6 +80,19 @@ impl Door {
         self.may_accept
     }
 
+    /// Waits so long at most. A wait that a signal ends tells of nothing that is ready, so behind one that does it looks once more.
+    fn look(&mut self, timeout: Option<Duration>) -> Result<(), Failure>
+        ensures { OnErr result (result ≡ Err Failure.Poll) }
+    {
+        let at_once = Some(Duration::from_millis(0));
+        if self.poll.poll(&mut self.events, timeout).is_err()
+            || self.events.is_empty() && self.poll.poll(&mut self.events, at_once).is_err()
+        {
+            return Err(Failure::Poll);
+        }
+        Ok(())
+    }
+
     /// Waits until something is ready, or for the longest time that is given, or only looks.
     pub fn wait(&mut self, at_once: bool, longest: Option<Duration>) -> Result<(), Failure>
         ensures { OnErr result (result ≡ Err Failure.Poll) }
@@ -91,9 +104,7 @@ impl Door {
         } else {
             longest
         };
-        if self.poll.poll(&mut self.events, timeout).is_err() {
-            return Err(Failure::Poll);
-        }
+        self.look(timeout)?;
         if self.is_tired {
             self.may_accept = true;
             self.is_tired = false;
