@@ -1,6 +1,7 @@
 """Connections that send nothing, under `--hold-seconds` and `--idle-seconds`: who is let go, when, and what is undone. Over the real program."""
 import os
 import select
+import signal
 import subprocess
 import sys
 import tempfile
@@ -130,6 +131,19 @@ class Silent(unittest.TestCase):
             time.sleep(0.1)
         self.assertGreaterEqual(time.monotonic() - since, 2)
         self.assertEqual(service.asked(other, SIZE), size(301))
+
+    def test_what_came_while_the_service_stood_still(self):
+        running = self.started("--hold-seconds", "1", "--idle-seconds", "1")
+        holder, silent = self.connected(running), self.connected(running)
+        self.assertEqual(service.asked(holder, START), STARTED)
+        running.process.send_signal(signal.SIGSTOP)
+        holder.sendall(SIZE)
+        time.sleep(3)
+        since = time.monotonic()
+        running.process.send_signal(signal.SIGCONT)
+        self.assertEqual(holder.recv(1 << 16), size(0))
+        self.goes(silent, since - 3, 3)
+        self.goes(holder, since, 1)
 
     def test_nobody_goes_without_options(self):
         running = self.started()
