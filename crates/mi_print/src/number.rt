@@ -32,6 +32,15 @@ fn put_small(buf: &mut [u8], at: usize, n: u64) -> usize
     }
 }
 
+/// The hundreds of a number below 10,000, without a division.
+#[inline(always)]
+fn hundreds(n: u64) -> u64
+    requires { n < 10000 }
+    ensures { result ≡ n / 100 }
+{
+    n * 5243 / 524288
+}
+
 /// Puts a number below 10,000.
 #[inline(always)]
 fn put_short(buf: &mut [u8], at: usize, n: u64) -> usize
@@ -42,8 +51,14 @@ fn put_short(buf: &mut [u8], at: usize, n: u64) -> usize
     if n < 100 {
         return put_small(buf, at, n);
     }
-    let end = put_small(buf, at, n / 100);
-    put_pair(buf, end, n % 100)
+    let high = hundreds(n);
+    let low = n - 100 * high;
+    if n < 1000 {
+        let end = put_byte(buf, at, b'0' + high as u8);
+        return put_pair(buf, end, low);
+    }
+    let end = put_pair(buf, at, high);
+    put_pair(buf, end, low)
 }
 
 /// Puts the four digits of a number below 10,000.
@@ -88,6 +103,8 @@ pub fn put_u64(buf: &mut [u8], at: usize, n: u64) -> usize
 }
 
 /// Puts a number with its sign. The sign is always stored, and counts only where the number has one.
+#[cold]
+#[inline(never)]
 fn put_signed(buf: &mut [u8], at: usize, n: i64) -> usize
     requires { at + 21 ≤ length buf.old }
     ensures value { Placed buf.old buf.new at (signed_decimal n) result }
@@ -98,16 +115,16 @@ fn put_signed(buf: &mut [u8], at: usize, n: i64) -> usize
     put_u64(buf, first, n.unsigned_abs())
 }
 
-/// Puts a number with its sign. A short one without a sign is put where it is asked for.
+/// Puts a number with its sign.
 #[inline(always)]
 pub fn put_i64(buf: &mut [u8], at: usize, n: i64) -> usize
     requires { at + 21 ≤ length buf.old }
     ensures value { Placed buf.old buf.new at (signed_decimal n) result }
     ensures bound { result ≤ at + 21 }
 {
-    if n >= 0 && n < 10_000 {
-        put_short(buf, at, n as u64)
-    } else {
+    if n < 0 {
         put_signed(buf, at, n)
+    } else {
+        put_u64(buf, at, n as u64)
     }
 }

@@ -1,6 +1,6 @@
 -- Labels stand for members: the same text, and the same room.
-use Rattle.std.proofs.Common.{◌≡◌, ℕ, zero, suc, ◌+◌, ◌≤◌, List, [], ◌∷◌, ◌++◌, drop, map, length, get_or, ◌*◌, ◌<◌, Bool, true, false}
-use Rattle.std.proofs.Common.{Ordering, Less, Equal, Greater, nat_cmp, ℤ, pos, negsuc, refl, sym, ap, ◌∙◌, append_assoc, add-one, arith}
+use Rattle.std.proofs.Common.{◌≡◌, ℕ, zero, suc, ◌+◌, ◌≤◌, List, [], ◌∷◌, ◌++◌, drop, map, length, slice_index_or, ◌*◌, ◌<◌, Bool, true, false}
+use Rattle.std.proofs.Common.{Ordering, Less, Equal, Greater, nat_cmp, ℤ, pos, negsuc, refl, sym, ap, ap₂, ◌∙◌, append_assoc, add-one, arith}
 use Rattle.std.specs.Prelude.{Option, Some, None, IfSome}
 use Rattle.std.proofs.lemmas.List.{drop_more, get_or-map, length-map}
 use Rattle.mi_value.specs.Lent.{lent}
@@ -17,7 +17,10 @@ use Rattle.mi_catalog.specs.declared.index.Column.{Column}
 use Rattle.arrayvec.specs.ArrayVec.{ArrayVec}
 use Rattle.mi_rows.specs.Rows.{row_members, value_data}
 use Rattle.mi_rows.specs.Shown.{first_data, source_data, shown_members, with_member}
-use Rattle.mi_rows.specs.Labels.{labels_in, labelled_text, texts_room, text_room, first_room, source_room, labels_room, members_room, LabelShape, AreLabels}
+use Rattle.std.specs.List.{All}
+use Rattle.mi_rows.specs.declared.shown.Source.{Source}
+use Rattle.mi_rows.specs.declared.shown.Source.TheVariants.{Id, Column as At}
+use Rattle.mi_rows.specs.Labels.{labels_in, labelled_text, cells_of, place_of, texts_room, text_room, first_room, source_room, labels_room, members_room, LabelShape, AreLabels}
 use Rattle.mi_value.specs.Block.{texts_length}
 use Rattle.mi_value.specs.declared.value.Value.TheVariants.{Int, Text, Flag}
 use Rattle.mi_rows.specs.declared.shown.Member.{Member}
@@ -55,56 +58,67 @@ pub members_room-grown : (vs : List Value) (m : Member) (ns new : List Member) �
     → members_room vs new ≤ 64 + source_room vs m.source + members_room vs ns
 members_room-grown vs m ns new is = omega (arith, ap (members_room vs) is, members_room-with_member vs m ns)
 
-pub labels_room-labels_in : (later : Bool) (vs : List Value) (ms : List Member) → labels_room vs (labels_in later ms) ≡ members_room vs ms
-labels_room-labels_in later vs [] = refl
-labels_room-labels_in later vs (m ∷ ms) = ap (λ n. 64 + source_room vs m.source + n) (labels_room-labels_in true vs ms)
+-- the cell of what stands somewhere in a row has its data and its room
+cell_data : (id : ℕ) (vs : List Value) (s : Source) → first_data (drop (place_of s) (cells_of id vs)) ≡ source_data id vs s
+cell_data id vs Id = refl
+cell_data id vs (At i) = refl
+
+cell_room : (id : ℕ) (vs : List Value) (s : Source) → first_room (drop (place_of s) (cells_of id vs)) ≡ source_room vs s
+cell_room id vs Id = refl
+cell_room id vs (At i) = refl
+
+labels_room-labels_in : (later : Bool) (id : ℕ) (vs : List Value) (ms : List Member) → labels_room (cells_of id vs) (labels_in later ms) ≡ members_room vs ms
+labels_room-labels_in later id vs [] = refl
+labels_room-labels_in later id vs (m ∷ ms) = ap₂ (λ n k. 64 + n + k) (cell_room id vs m.source) (labels_room-labels_in true id vs ms)
 
 -- a member behind its label, and those behind it
 labelled_one : (first : ℕ) (name value rest : List ℕ) → ((first ∷ (name ++ 58 ∷ [])) ++ value) ++ rest ≡ first ∷ (name ++ 58 ∷ (value ++ rest))
 labelled_one first name value rest =
     ap (λ t. first ∷ t) (append_assoc (name ++ 58 ∷ []) value rest ∙ append_assoc name (58 ∷ []) (value ++ rest))
 
-labelled : (id : ℕ) (vs : List Value) (ms : List Member) → labelled_text id vs (labels_in true ms) ≡ members_text true (shown_members id vs ms)
+labelled : (id : ℕ) (vs : List Value) (ms : List Member)
+    → labelled_text (cells_of id vs) (labels_in true ms) ≡ members_text true (shown_members id vs ms)
 labelled id vs [] = refl
 labelled id vs (m ∷ ms) =
     let name = quoted m.name.now in
-    let value = compact_text (source_data id vs m.source) in
-    ap (λ t. ((44 ∷ (name ++ 58 ∷ [])) ++ value) ++ t) (labelled id vs ms) ∙ labelled_one 44 name value (members_text true (shown_members id vs ms))
+    ap₂ (λ d t. ((44 ∷ (name ++ 58 ∷ [])) ++ compact_text d) ++ t) (cell_data id vs m.source) (labelled id vs ms)
+    ∙ labelled_one 44 name (compact_text (source_data id vs m.source)) (members_text true (shown_members id vs ms))
 
 -- the first member opens the row
 opened : (id : ℕ) (vs : List Value) (ms : List Member) → 0 < length ms
-    → labelled_text id vs (labels_in false ms) ≡ 123 ∷ members_text false (shown_members id vs ms)
+    → labelled_text (cells_of id vs) (labels_in false ms) ≡ 123 ∷ members_text false (shown_members id vs ms)
 opened id vs [] some = absurd (omega arith)
 opened id vs (m ∷ ms) some =
     let name = quoted m.name.now in
-    let value = compact_text (source_data id vs m.source) in
-    ap (λ t. ((123 ∷ (name ++ 58 ∷ [])) ++ value) ++ t) (labelled id vs ms) ∙ labelled_one 123 name value (members_text true (shown_members id vs ms))
+    ap₂ (λ d t. ((123 ∷ (name ++ 58 ∷ [])) ++ compact_text d) ++ t) (cell_data id vs m.source) (labelled id vs ms)
+    ∙ labelled_one 123 name (compact_text (source_data id vs m.source)) (members_text true (shown_members id vs ms))
 
 -- the labels of an order of all members are labels of the columns
 pub are_labels : (cs : List Column) (order : List Member) (labels : Option (ArrayVec LabelShape)) → 0 < length order
-    → IfSome labels (λ ls. ls.items ≡ labels_in false order)
+    → IfSome labels (λ ls. ls.items ≡ labels_in false order) → IfSome labels (λ ls. All (λ l. l.place ≤ length cs) ls.items)
     → ((id : ℕ) (vs : List Value) → length cs ≤ length vs → shown_members id vs order ≡ row_members cs id vs)
     → ((vs : List Value) → members_room vs order ≤ 64 * (length cs + 1) + texts_room vs) → AreLabels cs labels
-are_labels cs order None some is members room = tt
-are_labels cs order (Some ls) some is members room = (
-  λ id vs long. ap (labelled_text id vs) is ∙ opened id vs order some ∙ ap (λ ms. 123 ∷ members_text false ms) (members id vs long),
-  λ vs. omega (arith, ap (labels_room vs) is, labels_room-labels_in false vs order, room vs),
+are_labels cs order None some is places members room = tt
+are_labels cs order (Some ls) some is places members room = (
+  λ id vs long. ap (labelled_text (cells_of id vs)) is ∙ opened id vs order some ∙ ap (λ ms. 123 ∷ members_text false ms) (members id vs long),
+  λ id vs. omega (arith, ap (labels_room (cells_of id vs)) is, labels_room-labels_in false id vs order, room vs),
+  places,
 )
 
--- a value of a row that stands among the lent ones
-pub cell_there : (cells : List ValueRef) (i : ℕ) (v : ValueRef) → i < length cells → v ≡ get_or cells i v
-    → drop i (map lent cells) ≡ lent v ∷ drop (i + 1) (map lent cells)
-cell_there cells i v there is =
-    drop_more (map lent cells) i (lent v) (omega (arith, there, length-map cells lent))
-    ∙ ap (λ x. x ∷ drop (i + 1) (map lent cells)) (get_or-map lent cells i v (lent v) there ∙ ap lent (sym is))
+-- a value that stands among lent ones
+cell_there : (cells : List ValueRef) (i : ℕ) (d : ValueRef) → i < length cells
+    → drop i (map lent cells) ≡ lent (slice_index_or cells i d) ∷ drop (i + 1) (map lent cells)
+cell_there cells i d there =
+    drop_more (map lent cells) i (lent d) (omega (arith, there, length-map cells lent))
+    ∙ ap (λ x. x ∷ drop (i + 1) (map lent cells)) (get_or-map lent cells i d (lent d) there)
 
-pub room_there : (cells : List ValueRef) (i : ℕ) (v : ValueRef) → i < length cells → v ≡ get_or cells i v
-    → first_room (drop i (map lent cells)) ≡ text_room (lent v)
-room_there cells i v there is = ap first_room (cell_there cells i v there is)
+pub room_there : (cells : List ValueRef) (i j : ℕ) (d : ValueRef) → i ≡ j → i < length cells
+    → first_room (drop i (map lent cells)) ≡ text_room (lent (slice_index_or cells j d))
+room_there cells i j d same there = ap first_room (cell_there cells i d there) ∙ ap (λ k. text_room (lent (slice_index_or cells k d))) same
 
-pub data_of_cell : (cells : List ValueRef) (i : ℕ) (v : ValueRef) → i < length cells → v ≡ get_or cells i v
-    → first_data (drop i (map lent cells)) ≡ value_data (lent v)
-data_of_cell cells i v there is = ap first_data (cell_there cells i v there is)
+pub data_there : (cells : List ValueRef) (i j : ℕ) (d : ValueRef) → i ≡ j → i < length cells
+    → value_data (lent (slice_index_or cells j d)) ≡ first_data (drop i (map lent cells))
+data_there cells i j d same there = ap (λ k. value_data (lent (slice_index_or cells k d))) (sym same) ∙ sym (ap first_data (cell_there cells i d there))
 
 -- the room for texts by the bytes of the texts
 pub six_times : (vs : List Value) → texts_room vs ≡ 6 * texts_length vs

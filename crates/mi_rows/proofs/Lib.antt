@@ -1,3 +1,2 @@
 mod LabelLemmas
-mod PlacedLemmas
 mod ShownLemmas

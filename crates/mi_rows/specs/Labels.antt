@@ -1,5 +1,6 @@
 -- The members of rows as labels: what stands before each value, and the room that is enough for a row.
-use Rattle.std.specs.Prelude.{◌≡◌, ℕ, ◌+◌, ◌*◌, ◌≤◌, List, [], ◌∷◌, ◌++◌, length, drop, Bool, true, false, Option, IfSome, if◌then◌else◌}
+use Rattle.std.specs.Prelude.{◌≡◌, ℕ, suc, ◌+◌, ◌*◌, ◌≤◌, pos, List, [], ◌∷◌, ◌++◌, length, drop, Bool, true, false, Option, IfSome, if◌then◌else◌}
+use Rattle.std.specs.List.{All}
 use Rattle.json.specs.Print.{quoted}
 use Rattle.serde_json.specs.Written.{compact_text, members_text}
 use Rattle.arrayvec.specs.ArrayVec.{ArrayVec}
@@ -7,15 +8,24 @@ use Rattle.mi_value.specs.declared.value.Value.{Value}
 use Rattle.mi_value.specs.declared.value.Value.TheVariants.{Int, Text, Flag}
 use Rattle.mi_catalog.specs.declared.index.Column.{Column as TableColumn}
 use Rattle.mi_rows.specs.Rows.{row_members}
-use Rattle.mi_rows.specs.Shown.{source_data}
+use Rattle.mi_rows.specs.Shown.{first_data}
 use Rattle.mi_rows.specs.declared.shown.Member.{Member}
 use Rattle.mi_rows.specs.declared.shown.Source.{Source}
 use Rattle.mi_rows.specs.declared.shown.Source.TheVariants.{Id, Column}
 
--- a member of rows: the bytes before its value, and where the value stands
+-- a member of rows: the bytes before its value, and which of a row's cells has it
 pub record LabelShape : Type 0 where
   pub text : List ℕ
-  pub source : Source
+  pub place : ℕ
+
+-- the cells of a row: its id and its values
+abbrev pub cells_of : ℕ → List Value → List Value
+cells_of id vs = Int (pos id) ∷ vs
+
+-- the cell that has what stands somewhere in a row
+abbrev pub place_of : Source → ℕ
+place_of Id = 0
+place_of (Column i) = suc i
 
 -- what stands before a member: the opening bracket, or a comma before a later one
 abbrev pub opening : Bool → ℕ
@@ -23,16 +33,16 @@ opening later = if later then 44 else 123
 
 -- that, its name as a string, and a colon
 abbrev pub label_of : Bool → Member → LabelShape
-label_of later m = record { text = opening later ∷ (quoted m.name.now ++ 58 ∷ []); source = m.source }
+label_of later m = record { text = opening later ∷ (quoted m.name.now ++ 58 ∷ []); place = place_of m.source }
 
 abbrev pub labels_in : Bool → List Member → List LabelShape
 labels_in later [] = []
 labels_in later (m ∷ ms) = label_of later m ∷ labels_in true ms
 
 -- the members of a row with these labels, with the closing bracket
-abbrev pub labelled_text : ℕ → List Value → List LabelShape → List ℕ
-labelled_text id vs [] = 125 ∷ []
-labelled_text id vs (l ∷ ls) = (l.text ++ compact_text (source_data id vs l.source)) ++ labelled_text id vs ls
+abbrev pub labelled_text : List Value → List LabelShape → List ℕ
+labelled_text cells [] = 125 ∷ []
+labelled_text cells (l ∷ ls) = (l.text ++ compact_text (first_data (drop l.place cells))) ++ labelled_text cells ls
 
 -- the room for the bytes of a text, each of which may need an escape of six
 abbrev pub text_room : Value → ℕ
@@ -54,16 +64,17 @@ source_room vs (Column i) = first_room (drop i vs)
 
 -- the room for the members of a row with these labels
 abbrev pub labels_room : List Value → List LabelShape → ℕ
-labels_room vs [] = 0
-labels_room vs (l ∷ ls) = 64 + source_room vs l.source + labels_room vs ls
+labels_room cells [] = 0
+labels_room cells (l ∷ ls) = 64 + first_room (drop l.place cells) + labels_room cells ls
 
 -- the same by members that aren't labelled yet
 abbrev pub members_room : List Value → List Member → ℕ
 members_room vs [] = 0
 members_room vs (m ∷ ms) = 64 + source_room vs m.source + members_room vs ms
 
--- labels of columns: with them each row that has a value for every column has its text, in this room; none are labels of any
+-- labels of columns: with them each row that has a value for every column, and no more, has its text, in this room; none are labels of any
 abbrev pub AreLabels : List TableColumn → Option (ArrayVec LabelShape) → Type 0
 AreLabels cs labels = IfSome labels (λ ls.
-    ((id : ℕ) (vs : List Value) → length cs ≤ length vs → labelled_text id vs ls.items ≡ 123 ∷ members_text false (row_members cs id vs))
-    × ((vs : List Value) → labels_room vs ls.items ≤ 64 * (length cs + 1) + texts_room vs))
+    ((id : ℕ) (vs : List Value) → length cs ≤ length vs → labelled_text (cells_of id vs) ls.items ≡ 123 ∷ members_text false (row_members cs id vs))
+    × ((id : ℕ) (vs : List Value) → labels_room (cells_of id vs) ls.items ≤ 64 * (length cs + 1) + texts_room vs)
+    × All (λ l. l.place ≤ length cs) ls.items)

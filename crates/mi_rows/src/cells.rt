@@ -1,53 +1,53 @@
-//! The values of a row, lent one beside another, so that they can be written in the order of their names. It takes no memory.
-ghost use Rattle.std.specs.Prelude.{◌≡◌, ◌≤◌, length, map, take, IfSome};
+//! The cells of a row, its id and its values, lent one beside another, so that they can be written in the order of their names. It takes no
+//! memory.
+ghost use Rattle.std.specs.Prelude.{◌≡◌, ◌<◌, ◌≤◌, length, map, pos, take, IfSome};
+ghost use Rattle.mi_value.specs.declared.value.Value.TheVariants.{Int};
+ghost use Rattle.std.specs.Bool.{OnTrue};
 ghost use Rattle.mi_value.specs.Lent.{lent};
-ghost use Rattle.mi_rows.specs.Rows.{value_data};
-ghost use Rattle.mi_rows.specs.Shown.{source_data};
-ghost use Rattle.mi_rows.specs.Labels.{source_room, text_room};
+ghost use Rattle.mi_rows.specs.Labels.{cells_of};
 
-use crate::shown::Source;
-use mi_value::limits::MAX_COLUMNS;
+use crate::shown::MAX_MEMBERS;
 use mi_value::{Record, ValueRef};
 
-/// Places for the values of a row, before any is lent.
-pub(crate) const NO_CELLS: [ValueRef<'static>; MAX_COLUMNS] = [ValueRef::Flag(false); MAX_COLUMNS];
+/// Cells of a row, before any is lent.
+pub(crate) const NO_CELLS: [ValueRef<'static>; MAX_MEMBERS] = [ValueRef::Int(0); MAX_MEMBERS];
 
-/// Lends the values of a row to the first of these places, and answers how many there are; none where they are more than there are
-/// places. Places that are left have what they had.
+/// An id as a value, if it is a signed number.
 #[inline(always)]
-pub(crate) fn lend_values<'a>(row: &'a Record, cells: &mut [ValueRef<'a>]) -> Option<usize>
-    requires { length cells.old ≤ MAX_COLUMNS }
-    ensures values { IfSome result (λ n. map lent (take n cells.new) ≡ row.now) }
-    ensures within { IfSome result (λ n. n ≤ length cells.new) }
+fn lend_id<'a>(id: u64) -> Option<ValueRef<'a>>
+    ensures { IfSome result (λ v. lent v ≡ Int (pos id)) }
 {
-    let mut count = 0;
-    let mut values = row.values();
-    'values: while let Some(value) = values.next() {
-        if count >= cells.len() {
-            return None;
-        }
-        cells[count] = value;
-        count += 1;
-    }
-    Some(count)
+    let Ok(number) = i64::try_from(id) else {
+        return None;
+    };
+    Some(ValueRef::Int(number))
 }
 
-/// What stands at a place of a row; none where the row has fewer values, and where the id is no signed number.
+/// Lends the id and the values of a row to the first of these cells, and answers whether the row fills exactly so many, and its id is a
+/// signed number.
 #[inline(always)]
-pub(crate) fn shown<'a>(id: u64, cells: &[ValueRef<'a>], source: Source) -> Option<ValueRef<'a>>
-    ensures data { IfSome result (λ v. value_data (lent v) ≡ source_data id (map lent cells.now) source) }
-    ensures room { IfSome result (λ v. text_room (lent v) ≡ source_room (map lent cells.now) source) }
+pub(crate) fn lend_values<'a>(
+    id: u64,
+    row: &'a Record,
+    cells: &mut [ValueRef<'a>],
+    count: usize,
+) -> bool
+    requires { (0 < count) × (count ≤ length cells.old) }
+    ensures cells { OnTrue result (map lent (take count cells.new) ≡ cells_of id row.now) }
+    ensures len { length cells.new ≡ length cells.old }
 {
-    match source {
-        Source::Id => {
-            let Ok(id) = i64::try_from(id) else {
-                return None;
-            };
-            Some(ValueRef::Int(id))
-        }
-        Source::Column(i) => {
-            let value = cells.get(i)?;
-            Some(*value)
-        }
+    let Some(number) = lend_id(id) else {
+        return false;
+    };
+    cells[0] = number;
+    let mut values = row.values();
+    let mut done = 1;
+    'cells: while done < count {
+        let Some(value) = values.next() else {
+            return false;
+        };
+        cells[done] = value;
+        done += 1;
     }
+    values.next().is_none()
 }

@@ -1,8 +1,9 @@
 //! What is the same in each row of a reply: the members in the order of their names, each as a label, the bytes that stand before its
-//! value, the row's bracket or the comma among them, and where the value stands. They are made without memory, and kept with a copy of
+//! value, the row's bracket or the comma among them, and which cell has the value. They are made without memory, and kept with a copy of
 //! the columns that they were made of.
 ghost use Rattle.std.specs.Prelude.{◌≡◌, ◌≤◌, length, false, IfOk, IfSome};
 ghost use Rattle.std.specs.Bool.{OnTrue};
+ghost use Rattle.std.specs.List.{All};
 ghost use Rattle.arrayvec.specs.ArrayVec.{array_vec_len};
 ghost use Rattle.mi_value.specs.declared.limits.TheConstants.{MAX_COLUMNS};
 ghost use Rattle.mi_rows.specs.Labels as given;
@@ -19,12 +20,12 @@ use std::marker::Model;
 /// A bracket or a comma, a name of up to 32 bytes, its quotation marks, a colon, and bytes that don't count.
 const LABEL: usize = 40;
 
-/// A member of a row: its label, whose first bytes count, and where its value stands.
+/// A member of a row: its label, whose first bytes count, and which of a row's cells has its value.
 #[derive(Drop)]
 pub(crate) struct Label {
     pub(crate) bytes: [u8; LABEL],
     pub(crate) len: usize,
-    pub(crate) source: Source,
+    pub(crate) place: usize,
 }
 
 impl Model for Label {
@@ -33,7 +34,7 @@ impl Model for Label {
 
     ghost Value = { LabelShape };
 
-    ghost view = { λ a. record { text = take a.len a.bytes; source = a.source } };
+    ghost view = { λ a. record { text = take a.len a.bytes; place = a.place } };
 
     ghost invariant = { λ a. a.len ≤ 36 };
 }
@@ -43,13 +44,23 @@ impl Default for Label {
         Label {
             bytes: [0; LABEL],
             len: 0,
-            source: Source::Id,
+            place: 0,
         }
     }
 }
 
 /// The labels of a row's members.
 pub(crate) type Labels = ArrayVec<Label, MAX_MEMBERS>;
+
+/// Which cell of a row has what stands there.
+fn place_of(source: Source) -> Option<usize>
+    ensures { IfSome result (λ place. place ≡ given.place_of source) }
+{
+    match source {
+        Source::Id => Some(0),
+        Source::Column(i) => i.checked_add(1),
+    }
+}
 
 /// The label of a member, of the first or of a later one; none where its name is longer than a column's may be, or needs an escape.
 fn label_of(later: bool, member: Member<'_>) -> Option<Label>
@@ -68,19 +79,24 @@ fn label_of(later: bool, member: Member<'_>) -> Option<Label>
     Some(Label {
         bytes,
         len,
-        source: member.source,
+        place: place_of(member.source)?,
     })
 }
 
-/// The labels of members, in their order.
-fn labels_in(order: &[Member]) -> Option<Labels>
+/// The labels of members, in their order; none where one stands behind the cells of so many columns.
+fn labels_in(order: &[Member], columns: usize) -> Option<Labels>
     requires { length order.now ≤ MAX_MEMBERS }
-    ensures { IfSome result (λ labels. labels.items ≡ given.labels_in false order.now) }
+    ensures labels { IfSome result (λ labels. labels.items ≡ given.labels_in false order.now) }
+    ensures places { IfSome result (λ labels. All (λ l. l.place ≤ columns) labels.items) }
 {
     let mut labels = ArrayVec::new();
     let mut later = false;
     'members: for member in order {
-        labels.push(label_of(later, *member)?);
+        let label = label_of(later, *member)?;
+        if label.place > columns {
+            return None;
+        }
+        labels.push(label);
         later = true;
     }
     Some(labels)
@@ -95,7 +111,7 @@ pub(crate) fn labels_of(columns: &[Column]) -> Option<Labels>
     if order.is_empty() {
         return None;
     }
-    labels_in(order.as_slice())
+    labels_in(order.as_slice(), columns.len())
 }
 
 /// The labels of the rows of given columns, made once for all replies that show such rows, with the columns that they were made of. It

@@ -1,7 +1,7 @@
 //! Rows to text: what is the same in each is prepared once for all of them, and each is put behind the last into room that is there. A few
 //! rows, short ones, and such as no schema has, go the way of `shown`.
 ghost use Rattle.std.specs.Prelude.{◌≡◌, ◌∷◌, ◌++◌, ◌+◌, ◌*◌, ◌≤◌, ◌<◌, [], ℕ, List, false, true, drop, length, map, nat_lt, take, codes, vec_len, IfOk, IfSome};
-ghost use Rattle.std.specs.List.{list_all};
+ghost use Rattle.std.specs.List.{All};
 ghost use Rattle.json.specs.Filled.{Placed};
 ghost use Rattle.mi_value.specs.Lent.{lent};
 ghost use Rattle.mi_value.specs.declared.limits.TheConstants.{MAX_COLUMNS};
@@ -11,16 +11,17 @@ ghost use Rattle.serde_json.specs.Written.{compact_text, comma_if, items_text};
 ghost use Rattle.mi_rows.specs.Rows as rows;
 ghost use Rattle.mi_rows.specs.Rows.{row_data, rows_items};
 ghost use Rattle.mi_rows.specs.Shown as shown;
-ghost use Rattle.mi_rows.specs.Shown.{source_data};
-ghost use Rattle.mi_rows.specs.Labels.{labelled_text, labels_room, source_room, text_room, texts_room, AreLabels};
+ghost use Rattle.mi_rows.specs.Shown.{first_data};
+ghost use Rattle.mi_value.specs.Block.{texts_length};
+ghost use Rattle.mi_rows.specs.Labels.{labelled_text, labels_room, first_room, text_room, AreLabels};
 
-use crate::cells::{NO_CELLS, lend_values, shown};
+use crate::cells::{NO_CELLS, lend_values};
 use crate::labels::{Label, Labels, RowLabels, labels_of};
-use crate::shown::row_by_tokens;
+use crate::shown::{MAX_MEMBERS, row_by_tokens};
 use mi_catalog::Column;
 use mi_print::{make_room, put_byte, put_comma, put_i64, put_label, put_string, put_text};
 use mi_value::limits::MAX_PAGE;
-use mi_value::{Record, ValueRef, Values};
+use mi_value::{Record, ValueRef};
 use std::alloc::{AllocError, Global};
 
 /// Room for the text of a reply that shows rows, beside that of the rows, and for texts of the last.
@@ -37,9 +38,6 @@ const MEMBER: usize = 64;
 
 /// A byte of a text, escaped.
 const ESCAPED: usize = 6;
-
-/// A record of a table has fewer bytes: 16 values of a tag, a length and 1,024 bytes.
-const LONG_RECORD: usize = 65536;
 
 /// The text before the row of a reply.
 static ROW_FRONT: [u8; 17] = *b"{\"ok\":true,\"row\":";
@@ -72,103 +70,47 @@ fn put_value(buf: &mut [u8], at: usize, value: ValueRef<'_>) -> usize
     }
 }
 
-/// Puts a member with what stands before it; none where there is no value for it.
+/// Puts a member with what stands before it.
 #[inline(always)]
-fn put_member(
-    buf: &mut [u8],
-    at: usize,
-    id: u64,
-    cells: &[ValueRef<'_>],
-    label: &Label,
-) -> Option<usize>
-    requires { at + 64 + source_room (map lent cells.now) label.now.source ≤ length buf.old }
-    ensures value { IfSome result (λ end. Placed buf.old buf.new at (label.now.text ++ compact_text (source_data id (map lent cells.now) label.now.source)) end) }
-    ensures bound { IfSome result (λ end. end ≤ at + 64 + source_room (map lent cells.now) label.now.source) }
-    ensures kept { take at buf.new ≡ take at buf.old }
+fn put_member(buf: &mut [u8], at: usize, cells: &[ValueRef<'_>], label: &Label) -> usize
+    requires there { label.now.place < length cells.now }
+    requires room { at + 64 + first_room (drop label.now.place (map lent cells.now)) ≤ length buf.old }
+    ensures value { Placed buf.old buf.new at (label.now.text ++ compact_text (first_data (drop label.now.place (map lent cells.now)))) result }
+    ensures bound { result ≤ at + 64 + first_room (drop label.now.place (map lent cells.now)) }
 {
     let begun = put_label(buf, at, &label.bytes, label.len);
-    let value = shown(id, cells, label.source)?;
-    Some(put_value(buf, begun, value))
+    put_value(buf, begun, cells[label.place])
 }
 
-/// Puts a row behind a comma, if there is one before it; none where there is no value for a member. Then nothing is said of the bytes from
-/// that place on.
+/// Puts a row behind a comma, if there is one before it.
 #[inline(always)]
 fn put_row(
     buf: &mut [u8],
     at: usize,
     later: bool,
-    id: u64,
     cells: &[ValueRef<'_>],
     labels: &[Label],
-) -> Option<usize>
-    requires { at + labels_room (map lent cells.now) labels.now + 3 ≤ length buf.old }
-    ensures value { IfSome result (λ end. Placed buf.old buf.new at (comma_if later ++ labelled_text id (map lent cells.now) labels.now) end) }
-    ensures kept { take at buf.new ≡ take at buf.old }
+) -> usize
+    requires there { All (λ l. l.place < length cells.now) labels.now }
+    requires room { at + labels_room (map lent cells.now) labels.now + 3 ≤ length buf.old }
+    ensures { Placed buf.old buf.new at (comma_if later ++ labelled_text (map lent cells.now) labels.now) result }
 {
     let mut end = put_comma(buf, at, later);
     'members: for label in labels {
-        end = put_member(buf, end, id, cells, label)?;
+        end = put_member(buf, end, cells, label);
     }
-    Some(put_byte(buf, end, b'}'))
+    put_byte(buf, end, b'}')
 }
 
-/// The room for a row by labels, with a comma before it; none for a record that is longer than any of a table.
-#[inline(always)]
-fn room_for(row: &Values<'_>, columns: &[Column]) -> Option<usize>
+/// The room for a row by labels with a comma before it, where its texts have so many bytes.
+fn row_room(columns: &[Column], bytes: usize) -> Result<usize, AllocError>
     requires { length columns.now ≤ MAX_COLUMNS }
-    ensures enough { IfSome result (λ n. 64 * (length columns.now + 1) + texts_room row.now + 3 ≤ n) }
-    ensures bound { IfSome result (λ n. n ≤ 400000) }
+    ensures { IfOk result (λ room. room ≡ 64 * (length columns.now + 1) + 6 * bytes + 3) }
 {
-    let bytes = row.byte_count();
-    if bytes > LONG_RECORD {
-        return None;
-    }
-    Some(MEMBER * (columns.len() + 1) + ESCAPED * bytes + 3)
-}
-
-/// Puts a row by its labels behind the first bytes of a vector, behind a comma, if there is one before it, and answers how many bytes
-/// count then. None where there are no labels, where the record is longer than any of a table, where it has fewer values than columns,
-/// and where its id is no signed number.
-#[inline(always)]
-fn add_labelled<'a>(
-    text: &mut Vec<u8>,
-    len: usize,
-    later: bool,
-    id: u64,
-    row: &'a Record,
-    columns: &[Column],
-    labels: &Option<Labels>,
-    cells: &mut [ValueRef<'a>],
-) -> Result<Option<usize>, AllocError>
-    requires few { length columns.now ≤ MAX_COLUMNS }
-    requires places { length cells.old ≤ MAX_COLUMNS }
-    requires within { len ≤ vec_len text.old }
-    requires labels { AreLabels columns.now labels.now }
-    ensures text { IfOk result (λ added. IfSome added (λ end. take end text.new.items
-        ≡ take len text.old.items ++ (comma_if later ++ compact_text (row_data columns.now id row.now)))) }
-    ensures within { IfOk result (λ added. IfSome added (λ end. end ≤ vec_len text.new)) }
-    ensures kept { take len text.new.items ≡ take len text.old.items }
-    ensures len { len ≤ vec_len text.new }
-{
-    let (Some(labels), Some(room)) = (labels, room_for(&row.values(), columns)) else {
-        return Ok(None);
-    };
-    let Some(count) = lend_values(row, cells) else {
-        return Ok(None);
-    };
-    if count < columns.len() {
-        return Ok(None);
-    }
-    make_room(text, len, room)?;
-    Ok(put_row(
-        text.as_mut_slice(),
-        len,
-        later,
-        id,
-        &cells[..count],
-        labels.as_slice(),
-    ))
+    let texts = bytes.checked_mul(ESCAPED).ok_or(AllocError)?;
+    texts
+        .checked_add(MEMBER * (columns.len() + 1) + 3)
+        .ok_or(AllocError)
 }
 
 /// Puts a text behind the first bytes of a vector, and answers how many count then. One byte at least is free behind them.
@@ -205,7 +147,8 @@ fn add_slowly(
     Ok(put_text(text.as_mut_slice(), begun, written.as_slice()))
 }
 
-/// Adds the text of a row to the first bytes of a vector, behind a comma, if there is one before it. Answers how many bytes count then.
+/// Adds the text of a row to the first bytes of a vector, behind a comma, if there is one before it, by its labels where there are some and
+/// the row fits them. Answers how many bytes count then.
 #[inline(always)]
 fn add_row<'a>(
     alloc: Global,
@@ -216,46 +159,41 @@ fn add_row<'a>(
     row: &'a Record,
     columns: &[Column],
     labels: &Option<Labels>,
-    cells: &mut [ValueRef<'a>],
+    room: usize,
+    cells: &mut [ValueRef<'a>; MAX_MEMBERS],
 ) -> Result<usize, AllocError>
     requires few { length columns.now ≤ MAX_COLUMNS }
-    requires places { length cells.old ≤ MAX_COLUMNS }
     requires within { len ≤ vec_len text.old }
     requires labels { AreLabels columns.now labels.now }
+    requires room { 64 * (length columns.now + 1) + 6 * texts_length row.now + 3 ≤ room }
     ensures text { IfOk result (λ end. take end text.new.items
         ≡ take len text.old.items ++ (comma_if later ++ compact_text (row_data columns.now id row.now))) }
     ensures within { IfOk result (λ end. end ≤ vec_len text.new) }
 {
-    if let Some(end) = add_labelled(text, len, later, id, row, columns, labels, cells)? {
-        return Ok(end);
+    let count = columns.len() + 1;
+    if let Some(labels) = labels && lend_values(id, row, cells, count) {
+        make_room(text, len, room)?;
+        return Ok(put_row(
+            text.as_mut_slice(),
+            len,
+            later,
+            &cells[..count],
+            labels.as_slice(),
+        ));
     }
     add_slowly(alloc, text, len, later, id, row, columns)
 }
 
-/// Whether each row has a value. It reads the records one right behind another, so that the processor fetches those that lie far apart
-/// in memory side by side, before the first of them is written.
-fn are_filled(rows: &[(u64, &Record)]) -> bool
-    ensures { result ≡ list_all (λ r. nat_lt 0 (length r.1.now)) rows.now }
+/// So many bytes at most has a row of these. It reads the records one right behind another, so that the processor fetches those that lie
+/// far apart in memory side by side, before the first of them is written.
+fn longest(rows: &[(u64, &Record)]) -> usize
+    ensures { All (λ r. texts_length r.1.now ≤ result) rows.now }
 {
+    let mut most = 0;
     'rows: for row in rows {
-        let mut values = row.1.values();
-        if values.next().is_none() {
-            return false;
-        }
+        most = most.max(row.1.values().byte_count());
     }
-    true
-}
-
-/// The labels for rows; none for a few rows, which are written token by token before labels are made, and none where a row is empty.
-fn labels_for(rows: &[(u64, &Record)], columns: &[Column]) -> Option<Labels>
-    requires { length columns.now ≤ MAX_COLUMNS }
-    ensures { AreLabels columns.now result }
-{
-    if rows.len() > FEW_ROWS && are_filled(rows) {
-        labels_of(columns)
-    } else {
-        None
-    }
+    most
 }
 
 /// Adds the texts of rows, with commas between them, to the first bytes of a vector. Answers how many of its bytes count then.
@@ -274,13 +212,14 @@ fn add_rows(
         ≡ take at text.old.items ++ items_text false (rows_items columns.now (map (λ r. (r.0, r.1.now)) rows.now))) }
     ensures within { IfOk result (λ end. end ≤ vec_len text.new) }
 {
+    let room = row_room(columns, longest(rows))?;
     let mut cells = NO_CELLS;
     let mut end = at;
     let mut later = false;
     'rows: for row in rows {
         let (id, row) = *row;
         end = add_row(
-            alloc, text, end, later, id, row, columns, labels, &mut cells,
+            alloc, text, end, later, id, row, columns, labels, room, &mut cells,
         )?;
         later = true;
     }
@@ -346,14 +285,12 @@ pub fn put_rows_reply(
         (member (codes "rows") (array (rows_items columns.now (map (λ r. (r.0, r.1.now)) rows.now))) no_members))))) }
     ensures within { IfOk result (λ end. end < vec_len text.new) }
 {
-    let Some(labels) = labels else {
-        let labels = labels_for(rows, columns);
-        return put_page(alloc, text, at, rows, more, columns, &labels);
-    };
-    if are_filled(rows) {
-        put_page(alloc, text, at, rows, more, columns, labels.members())
-    } else {
-        put_page(alloc, text, at, rows, more, columns, &None)
+    match labels {
+        Some(labels) => put_page(alloc, text, at, rows, more, columns, labels.members()),
+        None if rows.len() > FEW_ROWS => {
+            put_page(alloc, text, at, rows, more, columns, &labels_of(columns))
+        }
+        None => put_page(alloc, text, at, rows, more, columns, &None),
     }
 }
 
@@ -374,10 +311,11 @@ fn put_one(
         ++ compact_text (object (member (codes "ok") (boolean true) (member (codes "row") (row_data columns.now id row.now) no_members)))) }
     ensures within { IfOk result (λ end. end < vec_len text.new) }
 {
+    let room = row_room(columns, row.values().byte_count())?;
     let mut cells = NO_CELLS;
     let begun = put_behind(text, at, &ROW_FRONT)?;
     let end = add_row(
-        alloc, text, begun, false, id, row, columns, labels, &mut cells,
+        alloc, text, begun, false, id, row, columns, labels, room, &mut cells,
     )?;
     put_behind(text, end, b"}")
 }

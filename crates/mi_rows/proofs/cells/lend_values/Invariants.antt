@@ -1,10 +1,11 @@
-use Rattle.std.proofs.Common.{◌≡◌, ◌≤◌, ◌++◌, length, map, take}
+use Rattle.std.proofs.Common.{◌≡◌, ◌≤◌, ◌-◌, ◌++◌, length, map, take}
 use Rattle.mi_value.specs.Lent.{lent}
+use Rattle.mi_rows.specs.Labels.{cells_of}
 use Rattle.mi_rows.proofs.cells.lend_values.Given as goal
 
--- the values so far are lent, and with those to come they are all
-abbrev pub invariant-values : goal.invariant-values
-invariant-values l = (map lent (take l.count l.cells) ++ l.values ≡ l.row) × (l.count ≤ length l.cells)
+-- the cells so far are lent, and with the values that are left they are all
+abbrev pub invariant-cells : goal.invariant-cells
+invariant-cells l = (map lent (take l.done l.cells) ++ l.values ≡ cells_of l.id l.row) × (l.done ≤ l.count) × (length l.cells ≡ length l.initial.cells)
 
-abbrev pub decreases-values : goal.decreases-values
-decreases-values l = length l.values
+abbrev pub decreases-cells : goal.decreases-cells
+decreases-cells l = l.count - l.done

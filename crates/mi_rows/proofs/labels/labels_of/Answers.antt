@@ -10,5 +10,5 @@ returns c =
     let lent = c.as_slice.ensures.value in
     let some : 0 < length c.row_order-order.result.items = search rules in
     are_labels c.args.columns.now c.row_order-order.result.items c.labels_in.result some
-    (subst (λ ms. IfSome c.labels_in.result (λ ls. ls.items ≡ given.labels_in false ms)) lent c.labels_in.ensures)
+    (subst (λ ms. IfSome c.labels_in.result (λ ls. ls.items ≡ given.labels_in false ms)) lent c.labels_in.ensures.labels) c.labels_in.ensures.places
     c.row_order-order.ensures.members c.row_order-order.ensures.room

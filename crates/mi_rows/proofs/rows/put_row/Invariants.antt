@@ -10,5 +10,5 @@ abbrev pub invariant-members : goal.invariant-members
 invariant-members l =
     let vs = map lent l.cells in let rest = drop l.label-index l.labels in
     (xs : List ℕ) × Placed l.fn.buf l.buf l.at xs l.end
-    × (xs ++ labelled_text l.id vs rest ≡ comma_if l.later ++ labelled_text l.id vs l.labels)
+    × (xs ++ labelled_text vs rest ≡ comma_if l.later ++ labelled_text vs l.labels)
     × (l.end + labels_room vs rest ≤ l.at + labels_room vs l.labels + 1)
