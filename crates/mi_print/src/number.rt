@@ -68,8 +68,9 @@ fn put_four(buf: &mut [u8], at: usize, n: u64) -> usize
     ensures { Placed buf.old buf.new at
         (((48 + n / 100 / 10) ∷ (48 + n / 100 % 10) ∷ []) ++ ((48 + n % 100 / 10) ∷ (48 + n % 100 % 10) ∷ [])) result }
 {
-    let end = put_pair(buf, at, n / 100);
-    put_pair(buf, end, n % 100)
+    let high = hundreds(n);
+    let end = put_pair(buf, at, high);
+    put_pair(buf, end, n - 100 * high)
 }
 
 /// Puts a number of five digits or more: its last four behind those before them.
@@ -122,9 +123,11 @@ pub fn put_i64(buf: &mut [u8], at: usize, n: i64) -> usize
     ensures value { Placed buf.old buf.new at (signed_decimal n) result }
     ensures bound { result ≤ at + 21 }
 {
-    if n < 0 {
-        put_signed(buf, at, n)
+    if n >= 0 && n < 10_000 {
+        put_short(buf, at, n as u64)
+    } else if n >= 0 {
+        put_large(buf, at, n as u64)
     } else {
-        put_u64(buf, at, n as u64)
+        put_signed(buf, at, n)
     }
 }

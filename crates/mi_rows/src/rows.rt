@@ -30,6 +30,9 @@ const PAGE_ROOM: usize = 128;
 /// So many rows are written token by token in less time than labels take to be made.
 const FEW_ROWS: usize = 3;
 
+/// So many cells are enough for a row of few columns, and take less time to be made.
+const FEW_CELLS: usize = 5;
+
 /// Room for a member of a row: a short name and a short value.
 const SHORT_MEMBER: usize = 16;
 
@@ -160,9 +163,10 @@ fn add_row<'a>(
     columns: &[Column],
     labels: &Option<Labels>,
     room: usize,
-    cells: &mut [ValueRef<'a>; MAX_MEMBERS],
+    cells: &mut [ValueRef<'a>],
 ) -> Result<usize, AllocError>
     requires few { length columns.now ≤ MAX_COLUMNS }
+    requires cells { length columns.now < length cells.old }
     requires within { len ≤ vec_len text.old }
     requires labels { AreLabels columns.now labels.now }
     requires room { 64 * (length columns.now + 1) + 6 * texts_length row.now + 3 ≤ room }
@@ -294,8 +298,37 @@ pub fn put_rows_reply(
     }
 }
 
-/// Puts the text of the reply that shows a row, by these labels.
-fn put_one(
+/// Puts the text of the reply that shows a row, by these labels, with these cells.
+#[inline(always)]
+fn put_one<'a>(
+    alloc: Global,
+    text: &mut Vec<u8>,
+    at: usize,
+    id: u64,
+    row: &'a Record,
+    columns: &[Column],
+    labels: &Option<Labels>,
+    cells: &mut [ValueRef<'a>],
+) -> Result<usize, AllocError>
+    requires few { length columns.now ≤ MAX_COLUMNS }
+    requires cells { length columns.now < length cells.old }
+    requires within { at ≤ vec_len text.old }
+    requires labels { AreLabels columns.now labels.now }
+    ensures text { IfOk result (λ end. take end text.new.items ≡ take at text.old.items
+        ++ compact_text (object (member (codes "ok") (boolean true) (member (codes "row") (row_data columns.now id row.now) no_members)))) }
+    ensures within { IfOk result (λ end. end < vec_len text.new) }
+{
+    let room = row_room(columns, row.values().byte_count())?;
+    let begun = put_behind(text, at, &ROW_FRONT)?;
+    let end = add_row(
+        alloc, text, begun, false, id, row, columns, labels, room, cells,
+    )?;
+    put_behind(text, end, b"}")
+}
+
+/// The same with cells enough for any columns.
+#[inline(never)]
+fn put_wide(
     alloc: Global,
     text: &mut Vec<u8>,
     at: usize,
@@ -311,13 +344,8 @@ fn put_one(
         ++ compact_text (object (member (codes "ok") (boolean true) (member (codes "row") (row_data columns.now id row.now) no_members)))) }
     ensures within { IfOk result (λ end. end < vec_len text.new) }
 {
-    let room = row_room(columns, row.values().byte_count())?;
     let mut cells = NO_CELLS;
-    let begun = put_behind(text, at, &ROW_FRONT)?;
-    let end = add_row(
-        alloc, text, begun, false, id, row, columns, labels, room, &mut cells,
-    )?;
-    put_behind(text, end, b"}")
+    put_one(alloc, text, at, id, row, columns, labels, &mut cells)
 }
 
 /// Puts the text of the reply that shows a row behind the first bytes of a vector, without a newline, and answers how many bytes count then:
@@ -341,8 +369,14 @@ pub fn put_row_reply(
         ++ compact_text (object (member (codes "ok") (boolean true) (member (codes "row") (row_data columns.now id row.now) no_members)))) }
     ensures within { IfOk result (λ end. end < vec_len text.new) }
 {
-    match labels {
-        Some(labels) => put_one(alloc, text, at, id, row, columns, labels.members()),
-        None => put_one(alloc, text, at, id, row, columns, &None),
+    let none = None;
+    let labels = match labels {
+        Some(labels) => labels.members(),
+        None => &none,
+    };
+    if columns.len() >= FEW_CELLS {
+        return put_wide(alloc, text, at, id, row, columns, labels);
     }
+    let mut cells = [ValueRef::Int(0); FEW_CELLS];
+    put_one(alloc, text, at, id, row, columns, labels, &mut cells)
 }
