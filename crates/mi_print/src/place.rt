@@ -59,9 +59,9 @@ pub(crate) fn put_ends<const N: usize>(buf: &mut [u8], at: usize, src: &[u8]) ->
     requires covers { (N ≤ length src.now) × (length src.now ≤ N + N) }
     ensures { Placed buf.old buf.new at src.now result }
 {
-    let last = src.len() - N;
+    let end = at + src.len();
     put_first::<N>(buf, at, src);
-    put_first::<N>(buf, at + last, &src[last..])
+    put_first::<N>(buf, end - N, &src[src.len() - N..])
 }
 
 /// Puts a text of 32 bytes or more, sixteen at a time.
