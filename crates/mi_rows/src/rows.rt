@@ -1,6 +1,6 @@
 //! Rows to text: what is the same in each is prepared once for all of them, and each is put behind the last into room that is there. A few
 //! rows, short ones, and such as no schema has, go the way of `shown`.
-ghost use Rattle.std.specs.Prelude.{◌≡◌, ◌∷◌, ◌++◌, ◌+◌, ◌*◌, ◌≤◌, ◌<◌, [], ℕ, List, false, true, drop, length, map, nat_lt, take, codes, vec_len, IfOk, IfSome};
+ghost use Rattle.std.specs.Prelude.{◌≡◌, ◌∷◌, ◌++◌, ◌+◌, ◌*◌, ◌≤◌, ◌<◌, [], ℕ, List, false, true, drop, length, map, nat_lt, take, codes, vec_len, IfNone, IfOk, IfSome, Some};
 ghost use Rattle.std.specs.List.{All};
 ghost use Rattle.json.specs.Filled.{Placed};
 ghost use Rattle.mi_value.specs.Lent.{lent};
@@ -105,6 +105,75 @@ fn put_row(
     put_byte(buf, end, b'}')
 }
 
+/// Puts a row by its labels, behind a comma, if there is one before it; none where the row doesn't fit them.
+#[inline(always)]
+fn put_labelled<'a>(
+    buf: &mut [u8],
+    at: usize,
+    later: bool,
+    id: u64,
+    row: &'a Record,
+    columns: &[Column],
+    labels: &Labels,
+    cells: &mut [ValueRef<'a>],
+) -> Option<usize>
+    requires few { length columns.now ≤ MAX_COLUMNS }
+    requires cells { length columns.now < length cells.old }
+    requires labels { AreLabels columns.now (Some labels.now) }
+    requires room { at + 64 * (length columns.now + 1) + 6 * texts_length row.now + 3 ≤ length buf.old }
+    ensures text { IfSome result (λ end. Placed buf.old buf.new at (comma_if later ++ compact_text (row_data columns.now id row.now)) end) }
+    ensures kept { IfNone result (buf.new ≡ buf.old) }
+    ensures cells { length cells.new ≡ length cells.old }
+{
+    let count = columns.len() + 1;
+    if !lend_values(id, row, cells, count) {
+        return None;
+    }
+    Some(put_row(
+        buf,
+        at,
+        later,
+        &cells[..count],
+        labels.as_slice(),
+    ))
+}
+
+/// Puts rows from one on, with commas between them, as long as there is room for one and it fits its labels. Answers where they end and
+/// how many of all are put.
+#[inline(never)]
+fn put_fitting<'a>(
+    buf: &mut [u8],
+    at: usize,
+    rows: &[(u64, &'a Record)],
+    from: usize,
+    columns: &[Column],
+    labels: &Labels,
+    room: usize,
+    cells: &mut [ValueRef<'a>],
+) -> (usize, usize)
+    requires few { length columns.now ≤ MAX_COLUMNS }
+    requires cells { length columns.now < length cells.old }
+    requires labels { AreLabels columns.now (Some labels.now) }
+    requires room { All (λ r. 64 * (length columns.now + 1) + 6 * texts_length r.1.now + 3 ≤ room) rows.now }
+    requires within { (at ≤ length buf.old) × (from ≤ length rows.now) }
+    ensures text { take result.0 buf.new ++ items_text (nat_lt 0 result.1) (rows_items columns.now (map (λ r. (r.0, r.1.now)) (drop result.1 rows.now)))
+        ≡ take at buf.old ++ items_text (nat_lt 0 from) (rows_items columns.now (map (λ r. (r.0, r.1.now)) (drop from rows.now))) }
+    ensures within { (result.0 ≤ length buf.new) × (result.1 ≤ length rows.now) × (from ≤ result.1) }
+    ensures len { length buf.new ≡ length buf.old }
+{
+    let mut end = at;
+    let mut done = from;
+    'rows: while done < rows.len() && room <= buf.len() - end {
+        let (id, row) = rows[done];
+        let Some(next) = put_labelled(buf, end, done > 0, id, row, columns, labels, cells) else {
+            return (end, done);
+        };
+        end = next;
+        done += 1;
+    }
+    (end, done)
+}
+
 /// The room for a row by labels with a comma before it, where its texts have so many bytes.
 fn row_room(columns: &[Column], bytes: usize) -> Result<usize, AllocError>
     requires { length columns.now ≤ MAX_COLUMNS }
@@ -174,16 +243,12 @@ fn add_row<'a>(
         ≡ take len text.old.items ++ (comma_if later ++ compact_text (row_data columns.now id row.now))) }
     ensures within { IfOk result (λ end. end ≤ vec_len text.new) }
 {
-    let count = columns.len() + 1;
-    if let Some(labels) = labels && lend_values(id, row, cells, count) {
+    if let Some(labels) = labels {
         make_room(text, len, room)?;
-        return Ok(put_row(
-            text.as_mut_slice(),
-            len,
-            later,
-            &cells[..count],
-            labels.as_slice(),
-        ));
+        let buf = text.as_mut_slice();
+        if let Some(end) = put_labelled(buf, len, later, id, row, columns, labels, cells) {
+            return Ok(end);
+        }
     }
     add_slowly(alloc, text, len, later, id, row, columns)
 }
@@ -219,13 +284,18 @@ fn add_rows(
     let room = row_room(columns, longest(rows))?;
     let mut cells = NO_CELLS;
     let mut end = at;
-    let mut later = false;
-    'rows: for row in rows {
-        let (id, row) = *row;
+    let mut done = 0;
+    'rows: while done < rows.len() {
+        let (id, row) = rows[done];
+        let later = done > 0;
         end = add_row(
             alloc, text, end, later, id, row, columns, labels, room, &mut cells,
         )?;
-        later = true;
+        done += 1;
+        if let Some(labels) = labels {
+            let buf = text.as_mut_slice();
+            (end, done) = put_fitting(buf, end, rows, done, columns, labels, room, &mut cells);
+        }
     }
     Ok(end)
 }
