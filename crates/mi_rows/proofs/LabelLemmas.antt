@@ -3,8 +3,7 @@ use Rattle.std.proofs.Common.{◌≡◌, ℕ, zero, suc, ◌+◌, ◌≤◌, Lis
 use Rattle.std.proofs.Common.{Ordering, Less, Equal, Greater, nat_cmp, ℤ, pos, negsuc, refl, sym, ap, ap₂, ◌∙◌, append_assoc, add-one, arith}
 use Rattle.std.specs.Prelude.{Option, Some, None, IfSome}
 use Rattle.std.proofs.lemmas.List.{drop_more, get_or-map, length-map}
-use Rattle.mi_value.specs.Lent.{lent}
-use Rattle.mi_value.specs.declared.value.ValueRef.{ValueRef}
+use Rattle.mi_rows.specs.declared.cells.Cell.{Cell}
 use Rattle.std.specs.Fmt.{signed_decimal}
 use Rattle.std.specs.Ordering.{match_ordering}
 use Rattle.std.specs.Cmp.Lexicographic.{slice_cmp}
@@ -20,7 +19,7 @@ use Rattle.mi_rows.specs.Shown.{first_data, source_data, shown_members, with_mem
 use Rattle.std.specs.List.{All}
 use Rattle.mi_rows.specs.declared.shown.Source.{Source}
 use Rattle.mi_rows.specs.declared.shown.Source.TheVariants.{Id, Column as At}
-use Rattle.mi_rows.specs.Labels.{labels_in, labelled_text, cells_of, place_of, texts_room, text_room, first_room, source_room, labels_room, members_room, LabelShape, AreLabels}
+use Rattle.mi_rows.specs.Labels.{held, labels_in, labelled_text, cells_of, place_of, texts_room, text_room, first_room, source_room, labels_room, members_room, LabelShape, AreLabels}
 use Rattle.mi_value.specs.Block.{texts_length}
 use Rattle.mi_value.specs.declared.value.Value.TheVariants.{Int, Text, Flag}
 use Rattle.mi_rows.specs.declared.shown.Member.{Member}
@@ -105,20 +104,20 @@ are_labels cs order (Some ls) some is places members room = (
   places,
 )
 
--- a value that stands among lent ones
-cell_there : (cells : List ValueRef) (i : ℕ) (d : ValueRef) → i < length cells
-    → drop i (map lent cells) ≡ lent (slice_index_or cells i d) ∷ drop (i + 1) (map lent cells)
+-- a value that stands among cells
+cell_there : (cells : List Cell) (i : ℕ) (d : Cell) → i < length cells
+    → drop i (map held cells) ≡ held (slice_index_or cells i d) ∷ drop (i + 1) (map held cells)
 cell_there cells i d there =
-    drop_more (map lent cells) i (lent d) (omega (arith, there, length-map cells lent))
-    ∙ ap (λ x. x ∷ drop (i + 1) (map lent cells)) (get_or-map lent cells i d (lent d) there)
+    drop_more (map held cells) i (held d) (omega (arith, there, length-map cells held))
+    ∙ ap (λ x. x ∷ drop (i + 1) (map held cells)) (get_or-map held cells i d (held d) there)
 
-pub room_there : (cells : List ValueRef) (i j : ℕ) (d : ValueRef) → i ≡ j → i < length cells
-    → first_room (drop i (map lent cells)) ≡ text_room (lent (slice_index_or cells j d))
-room_there cells i j d same there = ap first_room (cell_there cells i d there) ∙ ap (λ k. text_room (lent (slice_index_or cells k d))) same
+pub room_there : (cells : List Cell) (i j : ℕ) (d : Cell) → i ≡ j → i < length cells
+    → first_room (drop i (map held cells)) ≡ text_room (held (slice_index_or cells j d))
+room_there cells i j d same there = ap first_room (cell_there cells i d there) ∙ ap (λ k. text_room (held (slice_index_or cells k d))) same
 
-pub data_there : (cells : List ValueRef) (i j : ℕ) (d : ValueRef) → i ≡ j → i < length cells
-    → value_data (lent (slice_index_or cells j d)) ≡ first_data (drop i (map lent cells))
-data_there cells i j d same there = ap (λ k. value_data (lent (slice_index_or cells k d))) (sym same) ∙ sym (ap first_data (cell_there cells i d there))
+pub data_there : (cells : List Cell) (i j : ℕ) (d : Cell) → i ≡ j → i < length cells
+    → value_data (held (slice_index_or cells j d)) ≡ first_data (drop i (map held cells))
+data_there cells i j d same there = ap (λ k. value_data (held (slice_index_or cells k d))) (sym same) ∙ sym (ap first_data (cell_there cells i d there))
 
 -- the room for texts by the bytes of the texts
 pub six_times : (vs : List Value) → texts_room vs ≡ 6 * texts_length vs

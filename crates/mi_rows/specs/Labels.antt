@@ -12,11 +12,20 @@ use Rattle.mi_rows.specs.Shown.{first_data}
 use Rattle.mi_rows.specs.declared.shown.Member.{Member}
 use Rattle.mi_rows.specs.declared.shown.Source.{Source}
 use Rattle.mi_rows.specs.declared.shown.Source.TheVariants.{Id, Column}
+use Rattle.mi_rows.specs.declared.cells.Cell.{Cell}
+use Rattle.mi_rows.specs.declared.cells.Cell.TheVariants as cell
 
 -- a member of rows: the bytes before its value, and which of a row's cells has it
 pub record LabelShape : Type 0 where
   pub text : List ℕ
   pub place : ℕ
+
+-- the value that a cell holds
+abbrev pub held : Cell → Value
+held (cell.Int n) = Int n
+held (cell.Text t) = Text t.now
+held cell.False = Flag false
+held cell.True = Flag true
 
 -- the cells of a row: its id and its values
 abbrev pub cells_of : ℕ → List Value → List Value

@@ -4,23 +4,45 @@ ghost use Rattle.std.specs.Prelude.{◌≡◌, ◌<◌, ◌≤◌, length, map, 
 ghost use Rattle.mi_value.specs.declared.value.Value.TheVariants.{Int};
 ghost use Rattle.std.specs.Bool.{OnTrue};
 ghost use Rattle.mi_value.specs.Lent.{lent};
-ghost use Rattle.mi_rows.specs.Labels.{cells_of};
+ghost use Rattle.mi_rows.specs.Labels.{cells_of, held};
 
 use crate::shown::MAX_MEMBERS;
 use mi_value::{Record, ValueRef};
 
-/// Cells of a row, before any is lent.
-pub(crate) const NO_CELLS: [ValueRef<'static>; MAX_MEMBERS] = [ValueRef::Int(0); MAX_MEMBERS];
+/// What a cell holds. The two flags are two cases, so that they are told apart as numbers and texts are.
+#[derive(Clone, Copy)]
+pub(crate) enum Cell<'a> {
+    Int(i64),
+    Text(&'a str),
+    False,
+    True,
+}
 
-/// An id as a value, if it is a signed number.
+/// Cells of a row, before any is lent.
+pub(crate) const NO_CELLS: [Cell<'static>; MAX_MEMBERS] = [Cell::Int(0); MAX_MEMBERS];
+
+/// The cell of a value.
 #[inline(always)]
-fn lend_id<'a>(id: u64) -> Option<ValueRef<'a>>
-    ensures { IfSome result (λ v. lent v ≡ Int (pos id)) }
+fn cell_of<'a>(value: ValueRef<'a>) -> Cell<'a>
+    ensures { held result ≡ lent value.entry }
+{
+    match value {
+        ValueRef::Int(n) => Cell::Int(n),
+        ValueRef::Text(text) => Cell::Text(text),
+        ValueRef::Flag(false) => Cell::False,
+        ValueRef::Flag(true) => Cell::True,
+    }
+}
+
+/// The cell of an id, if it is a signed number.
+#[inline(always)]
+fn lend_id<'a>(id: u64) -> Option<Cell<'a>>
+    ensures { IfSome result (λ cell. held cell ≡ Int (pos id)) }
 {
     let Ok(number) = i64::try_from(id) else {
         return None;
     };
-    Some(ValueRef::Int(number))
+    Some(Cell::Int(number))
 }
 
 /// Lends the id and the values of a row to the first of these cells, and answers whether the row fills exactly so many, and its id is a
@@ -29,11 +51,11 @@ fn lend_id<'a>(id: u64) -> Option<ValueRef<'a>>
 pub(crate) fn lend_values<'a>(
     id: u64,
     row: &'a Record,
-    cells: &mut [ValueRef<'a>],
+    cells: &mut [Cell<'a>],
     count: usize,
 ) -> bool
     requires { (0 < count) × (count ≤ length cells.old) }
-    ensures cells { OnTrue result (map lent (take count cells.new) ≡ cells_of id row.now) }
+    ensures cells { OnTrue result (map held (take count cells.new) ≡ cells_of id row.now) }
     ensures len { length cells.new ≡ length cells.old }
 {
     let Some(number) = lend_id(id) else {
@@ -46,7 +68,7 @@ pub(crate) fn lend_values<'a>(
         let Some(value) = values.next() else {
             return false;
         };
-        cells[done] = value;
+        cells[done] = cell_of(value);
         done += 1;
     }
     values.next().is_none()

@@ -3,7 +3,6 @@
 ghost use Rattle.std.specs.Prelude.{◌≡◌, ◌∷◌, ◌++◌, ◌+◌, ◌*◌, ◌≤◌, ◌<◌, [], ℕ, List, false, true, drop, length, map, nat_lt, take, codes, vec_len, IfNone, IfOk, IfSome, Some};
 ghost use Rattle.std.specs.List.{All};
 ghost use Rattle.json.specs.Filled.{Placed};
-ghost use Rattle.mi_value.specs.Lent.{lent};
 ghost use Rattle.mi_value.specs.declared.limits.TheConstants.{MAX_COLUMNS};
 ghost use Rattle.mi_value.specs.declared.value.Value.{Value as ValueSpec};
 ghost use Rattle.serde_json.specs.Data.{array, object, boolean, member, no_members};
@@ -13,15 +12,15 @@ ghost use Rattle.mi_rows.specs.Rows.{row_data, rows_items};
 ghost use Rattle.mi_rows.specs.Shown as shown;
 ghost use Rattle.mi_rows.specs.Shown.{first_data};
 ghost use Rattle.mi_value.specs.Block.{texts_length};
-ghost use Rattle.mi_rows.specs.Labels.{labelled_text, labels_room, first_room, text_room, AreLabels};
+ghost use Rattle.mi_rows.specs.Labels.{held, labelled_text, labels_room, first_room, text_room, AreLabels};
 
-use crate::cells::{NO_CELLS, lend_values};
+use crate::cells::{Cell, NO_CELLS, lend_values};
 use crate::labels::{Label, Labels, RowLabels, labels_of};
 use crate::shown::{MAX_MEMBERS, row_by_tokens};
 use mi_catalog::Column;
 use mi_print::{make_room, put_byte, put_comma, put_i64, put_label, put_string, put_text};
 use mi_value::limits::MAX_PAGE;
-use mi_value::{Record, ValueRef};
+use mi_value::Record;
 use std::alloc::{AllocError, Global};
 
 /// Room for the text of a reply that shows rows, beside that of the rows, and for texts of the last.
@@ -45,41 +44,28 @@ const ESCAPED: usize = 6;
 /// The text before the row of a reply.
 static ROW_FRONT: [u8; 17] = *b"{\"ok\":true,\"row\":";
 
-/// Puts true or false.
+/// Puts the value of a cell.
 #[inline(always)]
-fn put_flag(buf: &mut [u8], at: usize, flag: bool) -> usize
-    requires { at + 5 ≤ length buf.old }
-    ensures value { Placed buf.old buf.new at (compact_text (boolean flag)) result }
-    ensures bound { result ≤ at + 5 }
-{
-    if flag {
-        put_text(buf, at, b"true")
-    } else {
-        put_text(buf, at, b"false")
-    }
-}
-
-/// Puts a value.
-#[inline(always)]
-fn put_value(buf: &mut [u8], at: usize, value: ValueRef<'_>) -> usize
-    requires { at + 21 + text_room (lent value) ≤ length buf.old }
-    ensures value { Placed buf.old buf.new at (compact_text (rows.value_data (lent value.entry))) result }
-    ensures bound { result ≤ at + 21 + text_room (lent value.entry) }
+fn put_value(buf: &mut [u8], at: usize, value: Cell<'_>) -> usize
+    requires { at + 21 + text_room (held value) ≤ length buf.old }
+    ensures value { Placed buf.old buf.new at (compact_text (rows.value_data (held value.entry))) result }
+    ensures bound { result ≤ at + 21 + text_room (held value.entry) }
 {
     match value {
-        ValueRef::Int(n) => put_i64(buf, at, n),
-        ValueRef::Text(text) => put_string(buf, at, text),
-        ValueRef::Flag(flag) => put_flag(buf, at, flag),
+        Cell::Int(n) => put_i64(buf, at, n),
+        Cell::Text(text) => put_string(buf, at, text),
+        Cell::False => put_text(buf, at, b"false"),
+        Cell::True => put_text(buf, at, b"true"),
     }
 }
 
 /// Puts a member with what stands before it.
 #[inline(always)]
-fn put_member(buf: &mut [u8], at: usize, cells: &[ValueRef<'_>], label: &Label) -> usize
+fn put_member(buf: &mut [u8], at: usize, cells: &[Cell<'_>], label: &Label) -> usize
     requires there { label.now.place < length cells.now }
-    requires room { at + 64 + first_room (drop label.now.place (map lent cells.now)) ≤ length buf.old }
-    ensures value { Placed buf.old buf.new at (label.now.text ++ compact_text (first_data (drop label.now.place (map lent cells.now)))) result }
-    ensures bound { result ≤ at + 64 + first_room (drop label.now.place (map lent cells.now)) }
+    requires room { at + 64 + first_room (drop label.now.place (map held cells.now)) ≤ length buf.old }
+    ensures value { Placed buf.old buf.new at (label.now.text ++ compact_text (first_data (drop label.now.place (map held cells.now)))) result }
+    ensures bound { result ≤ at + 64 + first_room (drop label.now.place (map held cells.now)) }
 {
     let begun = put_label(buf, at, &label.bytes, label.len);
     put_value(buf, begun, cells[label.place])
@@ -91,12 +77,12 @@ fn put_row(
     buf: &mut [u8],
     at: usize,
     later: bool,
-    cells: &[ValueRef<'_>],
+    cells: &[Cell<'_>],
     labels: &[Label],
 ) -> usize
     requires there { All (λ l. l.place < length cells.now) labels.now }
-    requires room { at + labels_room (map lent cells.now) labels.now + 3 ≤ length buf.old }
-    ensures { Placed buf.old buf.new at (comma_if later ++ labelled_text (map lent cells.now) labels.now) result }
+    requires room { at + labels_room (map held cells.now) labels.now + 3 ≤ length buf.old }
+    ensures { Placed buf.old buf.new at (comma_if later ++ labelled_text (map held cells.now) labels.now) result }
 {
     let mut end = put_comma(buf, at, later);
     'members: for label in labels {
@@ -115,7 +101,7 @@ fn put_labelled<'a>(
     row: &'a Record,
     columns: &[Column],
     labels: &Labels,
-    cells: &mut [ValueRef<'a>],
+    cells: &mut [Cell<'a>],
 ) -> Option<usize>
     requires few { length columns.now ≤ MAX_COLUMNS }
     requires cells { length columns.now < length cells.old }
@@ -149,7 +135,7 @@ fn put_fitting<'a>(
     columns: &[Column],
     labels: &Labels,
     room: usize,
-    cells: &mut [ValueRef<'a>],
+    cells: &mut [Cell<'a>],
 ) -> (usize, usize)
     requires few { length columns.now ≤ MAX_COLUMNS }
     requires cells { length columns.now < length cells.old }
@@ -232,7 +218,7 @@ fn add_row<'a>(
     columns: &[Column],
     labels: &Option<Labels>,
     room: usize,
-    cells: &mut [ValueRef<'a>],
+    cells: &mut [Cell<'a>],
 ) -> Result<usize, AllocError>
     requires few { length columns.now ≤ MAX_COLUMNS }
     requires cells { length columns.now < length cells.old }
@@ -378,7 +364,7 @@ fn put_one<'a>(
     row: &'a Record,
     columns: &[Column],
     labels: &Option<Labels>,
-    cells: &mut [ValueRef<'a>],
+    cells: &mut [Cell<'a>],
 ) -> Result<usize, AllocError>
     requires few { length columns.now ≤ MAX_COLUMNS }
     requires cells { length columns.now < length cells.old }
@@ -447,6 +433,6 @@ pub fn put_row_reply(
     if columns.len() >= FEW_CELLS {
         return put_wide(alloc, text, at, id, row, columns, labels);
     }
-    let mut cells = [ValueRef::Int(0); FEW_CELLS];
+    let mut cells = [Cell::Int(0); FEW_CELLS];
     put_one(alloc, text, at, id, row, columns, labels, &mut cells)
 }

@@ -5,7 +5,7 @@ use Rattle.json.specs.Filled.{Placed}
 use Rattle.json.proofs.Printed.Places.{Placed-then}
 use Rattle.serde_json.specs.Data.{Data}
 use Rattle.serde_json.specs.Written.{compact_text}
-use Rattle.mi_value.specs.declared.value.ValueRef.TheVariants.{Int}
+use Rattle.mi_rows.specs.declared.cells.Cell.TheVariants.{Int}
 use Rattle.mi_rows.proofs.LabelLemmas.{room_there, data_there}
 use Rattle.mi_rows.proofs.rows.put_member.Goals as goal
 
