@@ -1,15 +1,12 @@
 -- Labels stand for members: the same text, and the same room.
 use Rattle.std.proofs.Common.{◌≡◌, ℕ, zero, suc, ◌+◌, ◌≤◌, List, [], ◌∷◌, ◌++◌, drop, map, length, slice_index_or, ◌*◌, ◌<◌, Bool, true, false}
-use Rattle.std.proofs.Common.{Ordering, Less, Equal, Greater, nat_cmp, ℤ, pos, negsuc, refl, sym, ap, ap₂, ◌∙◌, append_assoc, add-one, arith}
+use Rattle.std.proofs.Common.{Ordering, Less, Equal, Greater, nat_cmp, refl, sym, ap, ap₂, ◌∙◌, append_assoc, add-one, arith}
 use Rattle.std.specs.Prelude.{Option, Some, None, IfSome}
 use Rattle.std.proofs.lemmas.List.{drop_more, get_or-map, length-map}
 use Rattle.mi_rows.specs.declared.cells.Cell.{Cell}
-use Rattle.std.specs.Fmt.{signed_decimal}
 use Rattle.std.specs.Ordering.{match_ordering}
 use Rattle.std.specs.Cmp.Lexicographic.{slice_cmp}
 use Rattle.json.specs.Print.{quoted}
-use Rattle.serde_json.specs.Data.{number}
-use Rattle.serde_json.specs.Find.{of_integer}
 use Rattle.serde_json.specs.Written.{compact_text, members_text}
 use Rattle.mi_value.specs.declared.value.Value.{Value}
 use Rattle.mi_catalog.specs.declared.index.Column.{Column}
@@ -23,10 +20,6 @@ use Rattle.mi_rows.specs.Labels.{held, labels_in, labelled_text, cells_of, place
 use Rattle.mi_value.specs.Block.{texts_length}
 use Rattle.mi_value.specs.declared.value.Value.TheVariants.{Int, Text, Flag}
 use Rattle.mi_rows.specs.declared.shown.Member.{Member}
-
-pub integer_text : (z : ℤ) → compact_text (number (of_integer z)) ≡ signed_decimal z
-integer_text (pos n) = refl
-integer_text (negsuc n) = refl
 
 -- the room for the texts from a place on
 room_at : (vs : List Value) (i : ℕ) → first_room (drop i vs) + texts_room (drop (suc i) vs) ≡ texts_room (drop i vs)

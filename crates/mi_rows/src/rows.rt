@@ -19,8 +19,8 @@ use crate::labels::{Label, Labels, RowLabels, labels_of};
 use crate::shown::{MAX_MEMBERS, row_by_tokens};
 use mi_catalog::Column;
 use mi_print::{make_room, put_byte, put_comma, put_i64, put_label, put_string, put_text};
-use mi_value::limits::MAX_PAGE;
 use mi_value::Record;
+use mi_value::limits::MAX_PAGE;
 use std::alloc::{AllocError, Global};
 
 /// Room for the text of a reply that shows rows, beside that of the rows, and for texts of the last.
@@ -73,13 +73,7 @@ fn put_member(buf: &mut [u8], at: usize, cells: &[Cell<'_>], label: &Label) -> u
 
 /// Puts a row behind a comma, if there is one before it.
 #[inline(always)]
-fn put_row(
-    buf: &mut [u8],
-    at: usize,
-    later: bool,
-    cells: &[Cell<'_>],
-    labels: &[Label],
-) -> usize
+fn put_row(buf: &mut [u8], at: usize, later: bool, cells: &[Cell<'_>], labels: &[Label]) -> usize
     requires there { All (λ l. l.place < length cells.now) labels.now }
     requires room { at + labels_room (map held cells.now) labels.now + 3 ≤ length buf.old }
     ensures { Placed buf.old buf.new at (comma_if later ++ labelled_text (map held cells.now) labels.now) result }
@@ -115,13 +109,7 @@ fn put_labelled<'a>(
     if !lend_values(id, row, cells, count) {
         return None;
     }
-    Some(put_row(
-        buf,
-        at,
-        later,
-        &cells[..count],
-        labels.as_slice(),
-    ))
+    Some(put_row(buf, at, later, &cells[..count], labels.as_slice()))
 }
 
 /// Puts rows from one on, with commas between them, as long as there is room for one and it fits its labels. Answers where they end and

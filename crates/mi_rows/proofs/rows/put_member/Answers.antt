@@ -1,5 +1,5 @@
 -- The value of the label's cell is put behind the label.
-use Rattle.std.proofs.Common.{◌≡◌, ◌≤◌, ◌+◌, arith, ap, length, take, map, drop, ◌++◌, subst, rules}
+use Rattle.std.proofs.Common.{◌≡◌, ◌≤◌, ◌+◌, arith, length, take, ◌++◌, subst, rules}
 use Rattle.std.specs.Prelude.{pos}
 use Rattle.json.specs.Filled.{Placed}
 use Rattle.json.proofs.Printed.Places.{Placed-then}
