@@ -103,6 +103,7 @@ impl<W: Write> Write for Watched<W> {
 
     ghost contents = { λ w. W.contents (watched w) };
 
+    #[inline(always)]
     fn write(&mut self, buf: &[u8]) -> io::Result<usize>
         ensures bound { WritesAtMost result buf.now }
         ensures bytes { WriteAppends (W.contents (watched self.old)) (W.contents (watched self.new)) result buf.now }

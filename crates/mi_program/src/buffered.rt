@@ -81,6 +81,21 @@ impl<S: Write> Buffered<S> {
         self.gathered.extend_from_slice(bytes).unwrap();
     }
 
+    /// Bytes that find no room: what is gathered goes out first, and bytes that never find room go to the stream as they are.
+    #[cold]
+    #[inline(never)]
+    fn write_out(&mut self, bytes: &[u8]) -> io::Result<usize>
+        ensures bound { WritesAtMost result bytes.now }
+        ensures bytes { WriteAppends (contents_of S.contents self.old) (contents_of S.contents self.new) result bytes.now }
+    {
+        self.send_out()?;
+        if bytes.len() > self.gathered.capacity() {
+            return self.pass(bytes);
+        }
+        self.gather(bytes);
+        Ok(bytes.len())
+    }
+
     /// Where nothing waits, bytes go to the stream as they are.
     fn pass(&mut self, bytes: &[u8]) -> io::Result<usize>
         requires { self.old.gathered.items ≡ [] }
@@ -106,12 +121,10 @@ impl<S: Write> Write for Buffered<S> {
 
     ghost contents = { contents_of S.contents };
 
+    #[inline(always)]
     fn write(&mut self, buf: &[u8]) -> io::Result<usize> {
         if buf.len() > self.gathered.capacity() - self.gathered.len() {
-            self.send_out()?;
-            if buf.len() > self.gathered.capacity() {
-                return self.pass(buf);
-            }
+            return self.write_out(buf);
         }
         self.gather(buf);
         Ok(buf.len())
