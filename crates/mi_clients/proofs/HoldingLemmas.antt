@@ -9,11 +9,11 @@ use Rattle.mi_commands.specs.declared.holder.Holder.{Holder}
 use Rattle.mi_protocol.specs.Lines.{command_line}
 use Rattle.mi_protocol.specs.declared.binding.Command.{Command}
 use Rattle.mi_value.specs.declared.refusal.Refusal.{Refusal}
-use Rattle.mi_hub.specs.Run.{HubState, Done}
+use Rattle.mi_hub.specs.Run.{HubState}
 use Rattle.mi_hub.specs.Served.{InTurn}
 use Rattle.mi_replay.specs.Acts.{Act}
 use Rattle.mi_replay.specs.Replayed.{replayer, replayed}
-use Rattle.mi_clients.specs.Steps.{Step, comes, asks, undoes, goes, event_of, written_in, DoneBy, HoldsSome}
+use Rattle.mi_clients.specs.Steps.{Step, comes, asks, tells, undoes, goes, StepDone, DoneBy, HoldsSome}
 use Rattle.mi_clients.specs.Laws.{HoldersHoldSome, ReplaysHoldSome}
 
 -- ---- how a holder moves
@@ -81,16 +81,19 @@ released_some : (conn : ℕ) (o : Option Holder) → HoldsSome o → HoldsSome (
 released_some conn None some = tt
 released_some conn (Some h) some = without_some h (nat_eq h.conn conn) some
 
-step_some : (step : Step) (old new : HubState) → Done old (event_of step) (written_in step) new → HoldsSome old.held.holder → HoldsSome new.held.holder
-step_some (comes conn) old new done some = subst (λ (s : HubState). HoldsSome s.held.holder) (sym done.3) some
-step_some (asks conn line reply) old new done some = turns_some conn _ done.2.replies old.held new.held done.2.in_turn some
-step_some (undoes conn reply) old new done some = turns_some conn _ done.2.replies old.held new.held done.2.in_turn some
-step_some (goes conn) old new done some =
-    subst (λ (s : HubState). HoldsSome s.held.holder) (sym done.2) (released_some conn old.held.holder some)
+step_some : (step : Step) (acts : List Act) (old new : HubState) → StepDone old step acts new → HoldsSome old.held.holder → HoldsSome new.held.holder
+step_some (comes conn) acts old new done some = subst (λ (s : HubState). HoldsSome s.held.holder) (sym done.0.3) some
+step_some (asks conn line reply) acts old new done some =
+    turns_some conn _ done.0.0.2.replies old.held new.held done.0.0.2.in_turn some
+step_some (tells conn line told) acts old new done some = subst (λ (s : HubState). HoldsSome s.held.holder) (sym done.1) some
+step_some (undoes conn reply) acts old new done some =
+    turns_some conn _ done.0.0.2.replies old.held new.held done.0.0.2.in_turn some
+step_some (goes conn) acts old new done some =
+    subst (λ (s : HubState). HoldsSome s.held.holder) (sym done.0.2) (released_some conn old.held.holder some)
 
 done_some : (steps : List Step) (acts : List Act) (old new : HubState) → DoneBy old steps acts new → HoldsSome old.held.holder → HoldsSome new.held.holder
 done_some [] acts old new p some = subst (λ (s : HubState). HoldsSome s.held.holder) (sym p.1) some
-done_some (step ∷ steps) acts old new p some = done_some steps p.2 p.0 new p.5 (step_some step old p.0 p.3 some)
+done_some (step ∷ steps) acts old new p some = done_some steps p.2 p.0 new p.4 (step_some step p.1 old p.0 p.3 some)
 
 pub steps_some : HoldersHoldSome
 steps_some = λ steps old new before after p some. done_some steps p.acts old new p.done some

@@ -204,3 +204,17 @@ pub unended_drop : (n : ℕ) (w : List ℕ) → ended w ≡ [] → ended (drop n
 unended_drop zero w h = h
 unended_drop (suc n) [] h = h
 unended_drop (suc n) (x ∷ w) h = unended_drop n w (tail_by x w (nat_eq x 10) refl h)
+
+-- two lines that begin the same bytes are one
+pub same_front : (t u r s : List ℕ) → ended t ≡ [] → ended u ≡ [] → (t ++ 10 ∷ []) ++ r ≡ (u ++ 10 ∷ []) ++ s → t ≡ u
+same_front [] [] r s p q e = refl
+same_front [] (y ∷ u) r s p q e =
+    let head : 10 ≡ y = cc in
+    absurd (first_newline y u (sym (ap (λ x. nat_eq x 10) head)) q)
+same_front (x ∷ t) [] r s p q e =
+    let head : x ≡ 10 = cc in
+    absurd (first_newline x t (ap (λ y. nat_eq y 10) head) p)
+same_front (x ∷ t) (y ∷ u) r s p q e =
+    let head : x ≡ y = cc in
+    let tails : (t ++ 10 ∷ []) ++ r ≡ (u ++ 10 ∷ []) ++ s = cc in
+    ap (λ z. z ∷ t) head ∙ ap (λ v. y ∷ v) (same_front t u r s (tail_by x t (nat_eq x 10) refl p) (tail_by y u (nat_eq y 10) refl q) tails)

@@ -2,6 +2,7 @@ pub mod StepLemmas
 pub mod RowLemmas
 pub mod ServedLemmas
 pub mod StreamLemmas
+pub mod TellLemmas
 mod SilenceLemmas
 mod InputLemmas
 mod HeardLemmas

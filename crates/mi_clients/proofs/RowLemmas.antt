@@ -28,6 +28,10 @@ pub back_none : {A : Type 0} (xs ys : List A) → xs ++ ys ≡ [] → ys ≡ []
 back_none [] ys none = none
 back_none (x ∷ xs) ys none = cc
 
+pub front_none : {A : Type 0} (xs ys : List A) → xs ++ ys ≡ [] → xs ≡ []
+front_none [] ys none = refl
+front_none (x ∷ xs) ys none = cc
+
 pub is_same : (x y : ℕ) → nat_eq x y ≡ true → x ≡ y
 is_same x y h = grind arith
 

@@ -7,7 +7,7 @@ use Rattle.std.specs.Prelude.{slice_set, slice_index_or, OnOk, IfOk, IfSome}
 use Rattle.std.specs.List.{remove, All, AllZip, Contains}
 use Rattle.std.specs.Io.KnownBytes.{Appends, Consumes, Keeps, IsAtEnd}
 use Rattle.std.proofs.KnownBytes.{Appends-nil, Appends-trans, Consumes-kept, Keeps-refl, Keeps-trans}
-use Rattle.mi_clients.specs.Client.{owed, Owes, IsServed, HasRoom, IsAsked, AsksAll, AsksWithin, Hears, AsksWhatCame, IsAsFar, HasSent, IsSent, IsOver, IsWhole, GoesOn, IsWoken}
+use Rattle.mi_clients.specs.Client.{owed, Owes, IsServed, HasRoom, IsAsked, IsHeard, AsksAll, AsksWithin, Hears, AsksWhatCame, IsAsFar, HasSent, IsSent, IsOver, IsWhole, GoesOn, IsWoken}
 use Rattle.mi_clients.specs.Input.{waiting}
 use Rattle.mi_clients.specs.declared.client.TheConstants.{MOST_UNSENT}
 use Rattle.mi_hub.specs.Ended.{ended}
@@ -16,15 +16,15 @@ use Rattle.mi_clients.specs.Heard.{heard}
 use Rattle.mi_clients.specs.Output.{Sends}
 use Rattle.mi_ledger.specs.HeldReplies.{bytes_of}
 use Rattle.mi_clients.specs.Row.{ids, inputs, IsNoneOf, AllDiffer, EachServed, EachAsked, EachUnread, StayersAsked, EachAsFar, OpenOnlyAsk, AllOnlyAsk, StayersOnlyAsk, EachWoken, IsNew, Joins, LetsGo, NoneIsOver, Serves}
-use Rattle.mi_clients.specs.Steps.{Step, comes, asks, undoes, goes, reply_to, given_to, GivesOnly, GivesNone, AreAsks, AreUndos}
-use Rattle.mi_clients.specs.Steps.{line_by, asked_by, AsksOnly, AsksNone, OnlyAsks, LeavesOthers}
+use Rattle.mi_clients.specs.Steps.{Step, comes, asks, tells, undoes, goes, reply_to, given_to, GivesOnly, GivesNone, AreAsks, AreUndos}
+use Rattle.mi_clients.specs.Steps.{line_by, asked_by, told_line, told_by, AsksOnly, AsksNone, OnlyAsks, LeavesOthers}
 use Rattle.mi_clients.specs.declared.client.Client.{Client}
 use Rattle.mi_clients.specs.declared.input.Input.{Input}
 use Rattle.mi_clients.specs.declared.client.Phase.{Phase}
 use Rattle.mi_clients.specs.declared.client.Phase.TheVariants.{Open, Ended, Asked, Broken}
 use Rattle.mi_clients.proofs.InputLemmas.{unended_back}
 use Rattle.mi_clients.proofs.StepLemmas.{none_more}
-use Rattle.mi_clients.proofs.RowLemmas.{same_test, turned, none_at}
+use Rattle.mi_clients.proofs.RowLemmas.{same_test, turned, none_at, front_none, back_none}
 
 -- what follows from two facts of an Ok
 pub on_ok_both : {T E P Q R : Type 0} (r : Result T E) → (P → Q → R) → OnOk r P → OnOk r Q → OnOk r R
@@ -43,15 +43,15 @@ if_ok_with (Err e) f p q = tt
 
 -- ---- what is given in steps
 
-given_join : (k : ℕ) (xs ys : List Step) → given_to k (xs ++ ys) ≡ given_to k xs ++ given_to k ys
+pub given_join : (k : ℕ) (xs ys : List Step) → given_to k (xs ++ ys) ≡ given_to k xs ++ given_to k ys
 given_join k [] ys = refl
 given_join k (x ∷ xs) ys =
     ap (λ t. reply_to k x ++ t) (given_join k xs ys) ∙ sym (append_assoc (reply_to k x) (given_to k xs) (given_to k ys))
 
-given_front : (k : ℕ) (xs ys : List Step) → GivesNone ys → given_to k (xs ++ ys) ≡ given_to k xs
+pub given_front : (k : ℕ) (xs ys : List Step) → GivesNone ys → given_to k (xs ++ ys) ≡ given_to k xs
 given_front k xs ys none = given_join k xs ys ∙ ap (λ t. given_to k xs ++ t) (none k) ∙ append-nil (given_to k xs)
 
-given_behind : (k : ℕ) (xs ys : List Step) → GivesNone xs → given_to k (xs ++ ys) ≡ given_to k ys
+pub given_behind : (k : ℕ) (xs ys : List Step) → GivesNone xs → given_to k (xs ++ ys) ≡ given_to k ys
 given_behind k xs ys none = given_join k xs ys ∙ ap (λ t. t ++ given_to k ys) (none k)
 
 pub none_join : (xs ys : List Step) → GivesNone xs → GivesNone ys → GivesNone (xs ++ ys)
@@ -68,6 +68,7 @@ asks_given conn (asks k line reply ∷ steps) taken given p =
     ap (λ n. cond (nat_eq n conn) reply [] ++ given_to conn steps) p.0
     ∙ ap (λ b. cond b reply [] ++ given_to conn steps) (same_test conn)
     ∙ ap (λ t. reply ++ t) (asks_given conn steps p.1 p.2 p.3) ∙ sym p.5
+asks_given conn (tells k line text ∷ steps) taken given p = absurd p
 asks_given conn (undoes k reply ∷ steps) taken given p = absurd p
 asks_given conn (goes k ∷ steps) taken given p = absurd p
 
@@ -78,6 +79,7 @@ asks_only conn (asks j line reply ∷ steps) taken given p = λ k other.
     ap (λ n. cond (nat_eq n k) reply [] ++ given_to k steps) p.0
     ∙ ap (λ b. cond b reply [] ++ given_to k steps) other
     ∙ asks_only conn steps p.1 p.2 p.3 k other
+asks_only conn (tells k line text ∷ steps) taken given p = absurd p
 asks_only conn (undoes k reply ∷ steps) taken given p = absurd p
 asks_only conn (goes k ∷ steps) taken given p = absurd p
 
@@ -86,6 +88,7 @@ pub undos_none : (conn : ℕ) (steps : List Step) → AreUndos conn steps → Gi
 undos_none conn [] p = λ k. refl
 undos_none conn (comes k ∷ steps) p = absurd p
 undos_none conn (asks k line reply ∷ steps) p = absurd p
+undos_none conn (tells k line text ∷ steps) p = absurd p
 undos_none conn (undoes j reply ∷ steps) p = λ k. undos_none conn steps p.1 k
 undos_none conn (goes k ∷ steps) p = absurd p
 
@@ -101,7 +104,7 @@ nothing_given = λ k. refl
 
 -- ---- what is asked in steps
 
-asked_join : (k : ℕ) (xs ys : List Step) → asked_by k (xs ++ ys) ≡ asked_by k xs ++ asked_by k ys
+pub asked_join : (k : ℕ) (xs ys : List Step) → asked_by k (xs ++ ys) ≡ asked_by k xs ++ asked_by k ys
 asked_join k [] ys = refl
 asked_join k (x ∷ xs) ys =
     ap (λ t. line_by k x ++ t) (asked_join k xs ys) ∙ sym (append_assoc (line_by k x) (asked_by k xs) (asked_by k ys))
@@ -113,6 +116,7 @@ asks_taken conn (asks k line reply ∷ steps) taken given p =
     ap (λ n. cond (nat_eq n conn) line [] ++ asked_by conn steps) p.0
     ∙ ap (λ b. cond b line [] ++ asked_by conn steps) (same_test conn)
     ∙ ap (λ t. line ++ t) (asks_taken conn steps p.1 p.2 p.3) ∙ sym p.4
+asks_taken conn (tells k line text ∷ steps) taken given p = absurd p
 asks_taken conn (undoes k reply ∷ steps) taken given p = absurd p
 asks_taken conn (goes k ∷ steps) taken given p = absurd p
 
@@ -120,6 +124,7 @@ undos_taken : (conn k : ℕ) (steps : List Step) → AreUndos conn steps → ask
 undos_taken conn k [] p = refl
 undos_taken conn k (comes j ∷ steps) p = absurd p
 undos_taken conn k (asks j line reply ∷ steps) p = absurd p
+undos_taken conn k (tells j line text ∷ steps) p = absurd p
 undos_taken conn k (undoes j reply ∷ steps) p = undos_taken conn k steps p.1
 undos_taken conn k (goes j ∷ steps) p = absurd p
 
@@ -137,12 +142,19 @@ asks_only_lines conn (asks j line reply ∷ steps) taken given p = λ k other.
     ap (λ n. cond (nat_eq n k) line [] ++ asked_by k steps) p.0
     ∙ ap (λ b. cond b line [] ++ asked_by k steps) other
     ∙ asks_only_lines conn steps p.1 p.2 p.3 k other
+asks_only_lines conn (tells k line text ∷ steps) taken given p = absurd p
 asks_only_lines conn (undoes k reply ∷ steps) taken given p = absurd p
 asks_only_lines conn (goes k ∷ steps) taken given p = absurd p
 
 pub serve_asks_only : (conn : ℕ) (xs ys : List Step) (taken given : List ℕ) → AreAsks conn xs taken given → AreUndos conn ys → AsksOnly conn (xs ++ ys)
 serve_asks_only conn xs ys taken given p q = λ k other.
     asked_join k xs ys ∙ ap (λ t. t ++ asked_by k ys) (asks_only_lines conn xs taken given p k other) ∙ undos_taken conn k ys q
+
+-- what is told in steps
+pub told_join : (k : ℕ) (xs ys : List Step) → told_by k (xs ++ ys) ≡ told_by k xs ++ told_by k ys
+told_join k [] ys = refl
+told_join k (x ∷ xs) ys =
+    ap (λ t. told_line k x ++ t) (told_join k xs ys) ∙ sym (append_assoc (told_line k x) (told_by k xs) (told_by k ys))
 
 -- nobody asks
 pub nothing_asked : AsksNone []
@@ -177,10 +189,11 @@ whether (Some x) P p = p
 
 -- ---- who only asks in steps
 
-only_then : (k : ℕ) (xs ys : List Step) → OnlyAsks k xs → OnlyAsks k ys → OnlyAsks k (xs ++ ys)
+pub only_then : (k : ℕ) (xs ys : List Step) → OnlyAsks k xs → OnlyAsks k ys → OnlyAsks k (xs ++ ys)
 only_then k [] ys p q = q
 only_then k (comes j ∷ xs) ys p q = (p.0, only_then k xs ys p.1 q)
 only_then k (asks j line reply ∷ xs) ys p q = only_then k xs ys p q
+only_then k (tells j line text ∷ xs) ys p q = only_then k xs ys p q
 only_then k (undoes j reply ∷ xs) ys p q = (p.0, only_then k xs ys p.1 q)
 only_then k (goes j ∷ xs) ys p q = (p.0, only_then k xs ys p.1 q)
 
@@ -188,6 +201,7 @@ only_asks : (conn k : ℕ) (steps : List Step) (taken given : List ℕ) → AreA
 only_asks conn k [] taken given p = tt
 only_asks conn k (comes j ∷ steps) taken given p = absurd p
 only_asks conn k (asks j line reply ∷ steps) taken given p = only_asks conn k steps p.1 p.2 p.3
+only_asks conn k (tells j line text ∷ steps) taken given p = absurd p
 only_asks conn k (undoes j reply ∷ steps) taken given p = absurd p
 only_asks conn k (goes j ∷ steps) taken given p = absurd p
 
@@ -195,6 +209,7 @@ undos_others : (conn : ℕ) (steps : List Step) → AreUndos conn steps → Leav
 undos_others conn [] p = λ k other. tt
 undos_others conn (comes j ∷ steps) p = absurd p
 undos_others conn (asks j line reply ∷ steps) p = absurd p
+undos_others conn (tells j line text ∷ steps) p = absurd p
 undos_others conn (undoes j reply ∷ steps) p = λ k other. (ap (λ n. nat_eq n k) p.0 ∙ other, undos_others conn steps p.1 k other)
 undos_others conn (goes j ∷ steps) p = absurd p
 
@@ -304,15 +319,10 @@ module _ {S : Type 0} where
     broken = λ broken. absurd (sound broken);
   }
 
-  -- one that is owed no more, and of which nothing more has come, is asked still
-  pub asked_still : (a b : Client S) → Owes [] a b → b.input ≡ a.input → IsAsked a → IsAsked b
-  asked_still a b p same (inl broken) = inl (p.broken broken).0
-  asked_still a b p same (inr (inl none)) = inr (inl (ap (λ i. ended (waiting i)) same ∙ none))
-  asked_still a b p same (inr (inr full)) = elim p.whole [
-    | inl broken ↦ inl broken
-    | inr none ↦ inr (inr (λ room. full (subst (λ t. length t ≤ MOST_UNSENT)
-        (sym (append-nil (owed b)) ∙ ap (λ t. owed b ++ t) (sym none) ∙ sym p.bytes ∙ append-nil (owed a)) room)))
-  ]
+  -- one whose sessions may have been undone is asked still
+  pub asked_still : (a b : Client S) {X : Type 0} → (b ≡ a) ⊎ ((b.phase ≡ Asked) × X) → IsAsked a → IsAsked b
+  asked_still a b (inl same) p = subst (λ (x : Client S). IsAsked x) (sym same) p
+  asked_still a b (inr all) p = inr (inl (b.all_asked all.0))
 
   -- what is owed to one that isn't broken is what was, and the replies to its lines
   pub room_left : (a b : Client S) (steps : List Step) (taken given : List ℕ) → AreAsks a.conn steps taken given → Owes given a b
@@ -417,7 +427,7 @@ module _ {S : Type 0} where
       broken = λ is. let mid = p.broken is in let last = q.broken mid.0 in (last.0, ap (λ t. t ++ h) mid.1 ∙ last.1);
     }
 
-    served_by : (g h : List ℕ) (a b : Client S) → g ≡ h → IsServed contents g a b → IsServed contents h a b
+    pub served_by : (g h : List ℕ) (a b : Client S) → g ≡ h → IsServed contents g a b → IsServed contents h a b
     served_by g h a b is p = subst (λ t. IsServed contents t a b) is p
 
     pub served_owes : (g : List ℕ) (a b : Client S) → Owes g a b → IsServed contents g a b
@@ -519,7 +529,7 @@ module _ {S : Type 0} where
   zip_from R (x ∷ a) (y ∷ b) new p (inl is) = (x, inl refl, subst (R x) is p.0)
   zip_from R (x ∷ a) (y ∷ b) new p (inr h) = let r = zip_from R a b new p.1 h in (r.0, inr r.1, r.2)
 
-  zip_both : (P Q : Client S → Client S → Type 0) (a b : List (Client S)) → AllZip P a b → AllZip Q a b → AllZip (λ x y. P x y × Q x y) a b
+  pub zip_both : (P Q : Client S → Client S → Type 0) (a b : List (Client S)) → AllZip P a b → AllZip Q a b → AllZip (λ x y. P x y × Q x y) a b
   zip_both P Q [] [] p q = tt
   zip_both P Q [] (y ∷ b) p q = absurd p
   zip_both P Q (x ∷ a) [] p q = absurd p
@@ -549,48 +559,48 @@ module _ {S : Type 0} where
 
   -- ---- what came of each
 
-  -- the first so many of a row were asked what came of them, and the others are as they were
-  abbrev pub AskedTo : (S → Option (List ℕ)) → List Step → ℕ → List (Client S) → List (Client S) → Type 0
-  AskedTo remaining steps zero olds row = (row ≡ olds) × AllQuiet steps (ids olds)
-  AskedTo remaining steps (suc i) [] [] = Unit {0}
-  AskedTo remaining steps (suc i) [] (y ∷ row) = ⊥
-  AskedTo remaining steps (suc i) (o ∷ olds) [] = ⊥
-  AskedTo remaining steps (suc i) (o ∷ olds) (y ∷ row) =
-      (y.conn ≡ o.conn) × AsksWhatCame remaining (asked_by o.conn steps) o y × AskedTo remaining steps i olds row
+  -- of the first so many of a row this holds with what each asks in these steps, and the others are as they were and ask nothing
+  abbrev pub AskedTo : (List ℕ → Client S → Client S → Type 0) → List Step → ℕ → List (Client S) → List (Client S) → Type 0
+  AskedTo Came steps zero olds row = (row ≡ olds) × AllQuiet steps (ids olds)
+  AskedTo Came steps (suc i) [] [] = Unit {0}
+  AskedTo Came steps (suc i) [] (y ∷ row) = ⊥
+  AskedTo Came steps (suc i) (o ∷ olds) [] = ⊥
+  AskedTo Came steps (suc i) (o ∷ olds) (y ∷ row) =
+      (y.conn ≡ o.conn) × Came (asked_by o.conn steps) o y × AskedTo Came steps i olds row
 
-  pub asked_to_none : (remaining : S → Option (List ℕ)) (row : List (Client S)) → AskedTo remaining [] 0 row row
-  asked_to_none remaining row = (refl, quiet_none (ids row))
+  pub asked_to_none : (Came : List ℕ → Client S → Client S → Type 0) (row : List (Client S)) → AskedTo Came [] 0 row row
+  asked_to_none Came row = (refl, quiet_none (ids row))
 
-  pub asked_to_set : (remaining : S → Option (List ℕ)) (xs ys : List Step) (olds row : List (Client S)) (i : ℕ) (d x : Client S) → AllDiffer (ids row)
+  pub asked_to_set : (Came : List ℕ → Client S → Client S → Type 0) (xs ys : List Step) (olds row : List (Client S)) (i : ℕ) (d x : Client S) → AllDiffer (ids row)
       → i < length row → AsksOnly (slice_index_or row i d).conn ys → x.conn ≡ (slice_index_or row i d).conn
-      → AsksWhatCame remaining (asked_by (slice_index_or row i d).conn ys) (slice_index_or row i d) x → AskedTo remaining xs i olds row
-      → AskedTo remaining (xs ++ ys) (suc i) olds (slice_set row i x)
-  asked_to_set remaining xs ys olds [] i d x differ lt only same came p = absurd (omega arith)
-  asked_to_set remaining xs ys olds (y ∷ row) zero d x differ lt only same came p =
+      → Came (asked_by (slice_index_or row i d).conn ys) (slice_index_or row i d) x → AskedTo Came xs i olds row
+      → AskedTo Came (xs ++ ys) (suc i) olds (slice_set row i x)
+  asked_to_set Came xs ys olds [] i d x differ lt only same came p = absurd (omega arith)
+  asked_to_set Came xs ys olds (y ∷ row) zero d x differ lt only same came p =
       let quiet : AllQuiet xs (ids (y ∷ row)) = subst (λ os. AllQuiet xs (ids os)) (sym p.0) p.1 in
-      subst (λ os. AskedTo remaining (xs ++ ys) 1 os (x ∷ row)) p.0 (
+      subst (λ os. AskedTo Came (xs ++ ys) 1 os (x ∷ row)) p.0 (
         same,
-        subst (λ t. AsksWhatCame remaining t y x) (sym (asked_join y.conn xs ys ∙ ap (λ t. t ++ asked_by y.conn ys) quiet.0)) came,
+        subst (λ t. Came t y x) (sym (asked_join y.conn xs ys ∙ ap (λ t. t ++ asked_by y.conn ys) quiet.0)) came,
         (refl, quiet_more y.conn xs ys (ids row) quiet.1 only differ.0),
       )
-  asked_to_set remaining xs ys [] (y ∷ row) (suc i) d x differ lt only same came p = absurd p
-  asked_to_set remaining xs ys (o ∷ olds) (y ∷ row) (suc i) d x differ lt only same came p = (
+  asked_to_set Came xs ys [] (y ∷ row) (suc i) d x differ lt only same came p = absurd p
+  asked_to_set Came xs ys (o ∷ olds) (y ∷ row) (suc i) d x differ lt only same came p = (
     p.0,
-    subst (λ t. AsksWhatCame remaining t o y)
+    subst (λ t. Came t o y)
         (sym (asked_join o.conn xs ys ∙ ap (λ t. asked_by o.conn xs ++ t)
         (only o.conn (subst (λ k. nat_eq (slice_index_or row i d).conn k ≡ false) p.0 (none_at y.conn row i d (omega arith) differ.0)))
         ∙ append-nil (asked_by o.conn xs))) p.1,
-    asked_to_set remaining xs ys olds row i d x differ.1 (omega arith) only same came p.2,
+    asked_to_set Came xs ys olds row i d x differ.1 (omega arith) only same came p.2,
   )
 
-  pub asked_to_all : (remaining : S → Option (List ℕ)) (steps : List Step) (olds row : List (Client S)) (i : ℕ) → AskedTo remaining steps i olds row
-      → length row ≤ i → EachAsked remaining steps olds row
-  asked_to_all remaining steps olds [] zero p le = subst (λ os. EachAsked remaining steps os []) p.0 tt
-  asked_to_all remaining steps olds (y ∷ row) zero p le = absurd (omega arith)
-  asked_to_all remaining steps [] [] (suc i) p le = tt
-  asked_to_all remaining steps [] (y ∷ row) (suc i) p le = absurd p
-  asked_to_all remaining steps (o ∷ olds) [] (suc i) p le = absurd p
-  asked_to_all remaining steps (o ∷ olds) (y ∷ row) (suc i) p le = (p.1, asked_to_all remaining steps olds row i p.2 (omega arith))
+  pub asked_to_all : (Came : List ℕ → Client S → Client S → Type 0) (steps : List Step) (olds row : List (Client S)) (i : ℕ) → AskedTo Came steps i olds row
+      → length row ≤ i → AllZip (λ x y. Came (asked_by x.conn steps) x y) olds row
+  asked_to_all Came steps olds [] zero p le = subst (λ os. AllZip (λ x y. Came (asked_by x.conn steps) x y) os []) p.0 tt
+  asked_to_all Came steps olds (y ∷ row) zero p le = absurd (omega arith)
+  asked_to_all Came steps [] [] (suc i) p le = tt
+  asked_to_all Came steps [] (y ∷ row) (suc i) p le = absurd p
+  asked_to_all Came steps (o ∷ olds) [] (suc i) p le = absurd p
+  asked_to_all Came steps (o ∷ olds) (y ∷ row) (suc i) p le = (p.1, asked_to_all Came steps olds row i p.2 (omega arith))
 
   pub unread_none : (remaining : S → Option (List ℕ)) (row : List (Client S)) → EachUnread remaining row row
   unread_none remaining [] = tt
@@ -824,42 +834,59 @@ module _ {S : Type 0} where
       each_then xs ys a b c p.1 q.1,
     )
 
-    -- the middle one is asked, and then replies are sent: of one that isn't broken all lines are asked
-    asks_one : (given : List ℕ) (old mid new : Client S) → IsServed contents given old mid → IsAsked mid → IsServed contents [] mid new
-        → new.input ≡ mid.input → ¬ (new.phase ≡ Broken) → AsksAll given old new
-    asks_one given old mid new p (inl broken) q same sound = absurd (sound (q.broken broken).0)
-    asks_one given old mid new p (inr (inl none)) q same sound = inl (ap (λ i. ended (waiting i)) same ∙ none)
-    asks_one given old mid new p (inr (inr full)) q same sound = inr (more_than MOST_UNSENT (length (owed mid)) _ full
-        (within_length p.sent (owed mid) p.lost (owed old ++ given) p.bytes))
+    -- whether all is asked doesn't change where nobody is given more, behind or before
+    asks_front : (xs ys : List Step) (old new : Client S) → GivesNone ys → AsksAll xs old new → AsksAll (xs ++ ys) old new
+    asks_front xs ys old new none (inl no_line) = inl no_line
+    asks_front xs ys old new none (inr (inl full)) =
+        inr (inl (subst (λ t. MOST_UNSENT < length (owed old ++ t)) (sym (given_front old.conn xs ys none)) full))
+    asks_front xs ys old new none (inr (inr told)) =
+        inr (inr (λ no. told (front_none (told_by old.conn xs) (told_by old.conn ys) (sym (told_join old.conn xs ys) ∙ no))))
+
+    asks_behind : (xs ys : List Step) (old new : Client S) → GivesNone xs → AsksAll ys old new → AsksAll (xs ++ ys) old new
+    asks_behind xs ys old new none (inl no_line) = inl no_line
+    asks_behind xs ys old new none (inr (inl full)) =
+        inr (inl (subst (λ t. MOST_UNSENT < length (owed old ++ t)) (sym (given_behind old.conn xs ys none)) full))
+    asks_behind xs ys old new none (inr (inr told)) =
+        inr (inr (λ no. told (back_none (told_by old.conn xs) (told_by old.conn ys) (sym (told_join old.conn xs ys) ∙ no))))
+
+    -- the middle one is heard, and then replies are sent: of one that isn't broken all lines are asked
+    asks_one : (steps : List Step) (old mid new : Client S) → IsServed contents (given_to old.conn steps) old mid → IsHeard steps mid
+        → IsServed contents [] mid new → new.input ≡ mid.input → ¬ (new.phase ≡ Broken) → AsksAll steps old new
+    asks_one steps old mid new p (inl broken) q same sound = absurd (sound (q.broken broken).0)
+    asks_one steps old mid new p (inr (inl none)) q same sound = inl (ap (λ i. ended (waiting i)) same ∙ none)
+    asks_one steps old mid new p (inr (inr (inl full))) q same sound =
+        inr (inl (more_than MOST_UNSENT (length (owed mid)) _ full
+        (within_length p.sent (owed mid) p.lost (owed old ++ given_to old.conn steps) p.bytes)))
       where
         more_than : (m k n : ℕ) → ¬ (k ≤ m) → k ≤ n → m < n
         more_than m k n above le = omega (arith, above, le)
 
         within_length : (s m l all : List ℕ) → all ≡ s ++ (m ++ l) → length m ≤ length all
         within_length s m l all is = omega (arith, ap length is, length-append s (m ++ l), length-append m l)
+    asks_one steps old mid new p (inr (inr (inr told))) q same sound = inr (inr (subst (λ k. ¬ (told_by k steps ≡ [])) p.conn told))
 
     -- The same of a row.
-    each_asked : (xs : List Step) (a b d : List (Client S)) → EachServed contents xs a b → All (λ c. IsAsked c) b → EachServed contents [] b d → inputs d ≡ inputs b
-        → AllZip (λ old new. ¬ (new.phase ≡ Broken) → AsksAll (given_to old.conn xs) old new) a d
+    each_asked : (xs : List Step) (a b d : List (Client S)) → EachServed contents xs a b → All (λ c. IsHeard xs c) b → EachServed contents [] b d → inputs d ≡ inputs b
+        → AllZip (λ old new. ¬ (new.phase ≡ Broken) → AsksAll xs old new) a d
     each_asked xs [] [] [] p q r same = tt
     each_asked xs [] [] (z ∷ d) p q r same = absurd r
     each_asked xs [] (y ∷ b) d p q r same = absurd p
     each_asked xs (x ∷ a) [] d p q r same = absurd p
     each_asked xs (x ∷ a) (y ∷ b) [] p q r same = absurd r
     each_asked xs (x ∷ a) (y ∷ b) (z ∷ d) p q r same = (
-      asks_one (given_to x.conn xs) x y z p.0 (q 0 y (omega arith)) r.0 (cc),
+      asks_one xs x y z p.0 (q 0 y (omega arith)) r.0 (cc),
       each_asked xs a b d p.1 (λ k e within. q (suc k) e (omega (arith, within))) r.1 (cc),
     )
 
     -- and nobody is given more
     each_asked_still : (xs ys : List Step) (a d : List (Client S)) → GivesNone ys
-        → AllZip (λ old new. ¬ (new.phase ≡ Broken) → AsksAll (given_to old.conn xs) old new) a d
-        → AllZip (λ old new. ¬ (new.phase ≡ Broken) → AsksAll (given_to old.conn (xs ++ ys)) old new) a d
+        → AllZip (λ old new. ¬ (new.phase ≡ Broken) → AsksAll xs old new) a d
+        → AllZip (λ old new. ¬ (new.phase ≡ Broken) → AsksAll (xs ++ ys) old new) a d
     each_asked_still xs ys [] [] none p = tt
     each_asked_still xs ys [] (z ∷ d) none p = absurd p
     each_asked_still xs ys (x ∷ a) [] none p = absurd p
     each_asked_still xs ys (x ∷ a) (z ∷ d) none p = (
-      λ sound. subst (λ t. AsksAll t x z) (sym (given_front x.conn xs ys none)) (p.0 sound),
+      λ sound. asks_front xs ys x z none (p.0 sound),
       each_asked_still xs ys a d none p.1,
     )
 
@@ -898,7 +925,7 @@ module _ {S : Type 0} where
   ids_join [] b = refl
   ids_join (x ∷ a) b = ap (λ ks. x.conn ∷ ks) (ids_join a b)
 
-  new_before : (c : Client S) (a b comers : List (Client S)) → b ≡ a ++ comers → IsNew c b → IsNew c a
+  pub new_before : (c : Client S) (a b comers : List (Client S)) → b ≡ a ++ comers → IsNew c b → IsNew c a
   new_before c a b comers is p = (p.0, p.1, p.2, none_front c.conn (ids a) (ids comers) (subst (IsNoneOf c.conn) (ap ids is ∙ ids_join a comers) p.3), p.4)
 
   -- those that were there before the others came
@@ -940,12 +967,12 @@ module _ {S : Type 0} where
 
   module _ (contents : S → Option (List ℕ)) where
     -- all are asked, replies are sent, and those that are over go
-    pub serves_each : (xs ys : List Step) (a b d e : List (Client S)) → GivesNone ys → EachServed contents xs a b → All (λ c. IsAsked c) b
+    pub serves_each : (xs ys : List Step) (a b d e : List (Client S)) → GivesNone ys → EachServed contents xs a b → All (λ c. IsHeard xs c) b
         → EachServed contents [] b d → inputs d ≡ inputs b → LetsGo d e → NoneIsOver e → Serves contents (xs ++ ys) a e
     serves_each xs ys a b d e none asked all sent same left stay =
         let each : EachServed contents (xs ++ ys) a d = each_then contents xs ys a b d asked (each_then contents [] ys b d d sent (each_none contents ys d none)) in
         let served : Client S → Client S → Type 0 = λ old new. IsServed contents (given_to old.conn (xs ++ ys)) old new in
-        let asks : Client S → Client S → Type 0 = λ old new. ¬ (new.phase ≡ Broken) → AsksAll (given_to old.conn (xs ++ ys)) old new in
+        let asks : Client S → Client S → Type 0 = λ old new. ¬ (new.phase ≡ Broken) → AsksAll (xs ++ ys) old new in
         let both = zip_both served asks a d each (each_asked_still contents xs ys a d none (each_asked contents xs a b d asked all sent same)) in record {
           from = λ new h.
               let r = zip_from (λ old new. served old new × asks old new) a d new both (in_from d new (left.from new h)) in
@@ -965,7 +992,7 @@ module _ {S : Type 0} where
           | inr came ↦ inr (new_before r.0 a b joins.0 joins.1 came)
         ],
         served_by contents (given_to r.0.conn ys) (given_to r.0.conn (xs ++ ys)) r.0 new (sym (given_behind r.0.conn xs ys none)) r.2,
-        subst (λ t. AsksAll t r.0 new) (sym (given_behind r.0.conn xs ys none)) r.3,
+        asks_behind contents xs ys r.0 new none r.3,
       );
       to = λ old h. let r = p.to old (in_to b old (subst (IsIn old) (sym joins.1) (in_front a joins.0 old (in_from a old h)))) in (
         r.0,

@@ -1,5 +1,5 @@
 -- Steps one behind another, and the steps that calls of a ledger are.
-use Rattle.std.proofs.Common.{◌≡◌, ℕ, List, [], ◌∷◌, ◌++◌, codes, Option, Some, refl, sym, ap, ◌∙◌, subst, append-nil, append_assoc}
+use Rattle.std.proofs.Common.{◌≡◌, ℕ, List, [], ◌∷◌, ◌++◌, codes, true, Option, Some, refl, sym, ap, ◌∙◌, subst, append-nil, append_assoc}
 use Rattle.std.specs.Io.KnownBytes.{Appends, Keeps}
 use Rattle.std.proofs.KnownBytes.{Appends-nil, Appends-kept, Appends-trans}
 use Rattle.mi_commands.specs.Holder.{HeldDatabase}
@@ -15,7 +15,8 @@ use Rattle.mi_replay.proofs.JoinLemmas.{journals_join}
 use Rattle.mi_ledger.specs.Journals.{Journals, Asks, IsWholeLine}
 use Rattle.mi_ledger.proofs.JournalLemmas.{asked_attached}
 use Rattle.mi_ledger.specs.Ledger.{holder_conn}
-use Rattle.mi_clients.specs.Steps.{Step, comes, asks, undoes, goes, undo_bytes, event_of, written_in, UndoesOwn, DoneBy, Makes, AreAsks, AreUndos}
+use Rattle.mi_clients.specs.ServiceLines.{is_service}
+use Rattle.mi_clients.specs.Steps.{Step, comes, asks, tells, undoes, goes, undo_bytes, StepDone, DoneBy, Makes, AreAsks, AreUndos}
 
 -- ---- nothing
 
@@ -42,7 +43,7 @@ makes_none s a b kept = record { acts = []; done = (refl, refl); journal = journ
 
 -- ---- one behind another
 
-done_then : (xs ys : List Step) (does more : List Act) (old mid new : HubState) → DoneBy old xs does mid → DoneBy mid ys more new
+pub done_then : (xs ys : List Step) (does more : List Act) (old mid new : HubState) → DoneBy old xs does mid → DoneBy mid ys more new
     → DoneBy old (xs ++ ys) (does ++ more) new
 done_then [] ys does more old mid new p q =
     subst (λ zs. DoneBy old ys (zs ++ more) new) (sym p.0) (subst (λ s. DoneBy s ys more new) p.1 q)
@@ -51,10 +52,8 @@ done_then (x ∷ xs) ys does more old mid new p q = (
   p.1,
   p.2 ++ more,
   p.3,
-  p.4,
-  done_then xs ys p.2 more p.0 mid new p.5 q,
-  ap (λ zs. zs ++ more) p.6 ∙ append_assoc p.1 p.2 more,
-  p.7,
+  done_then xs ys p.2 more p.0 mid new p.4 q,
+  ap (λ zs. zs ++ more) p.5 ∙ append_assoc p.1 p.2 more,
 )
 
 journals_then : (old mid new : HeldDatabase) (a b c : Option (List ℕ)) (does more : List Act) → Journals old mid a b does → Journals mid new b c more
@@ -80,24 +79,37 @@ makes_then xs ys old mid new a b c p q = record {
 
 -- ---- one step
 
-one_step : (step : Step) (old new : HubState) (acts : List Act) → Done old (event_of step) (written_in step) new
-    → ActsOfDone old (event_of step) (written_in step) acts → UndoesOwn old step → DoneBy old (step ∷ []) acts new
-one_step step old new acts done are own = (new, acts, [], done, are, (refl, refl), sym (append-nil acts), own)
+one_step : (step : Step) (old new : HubState) (acts : List Act) → StepDone old step acts new → DoneBy old (step ∷ []) acts new
+one_step step old new acts done = (new, acts, [], done, (refl, refl), sym (append-nil acts))
 
 pub undo_makes : (conn : ℕ) (line out : List ℕ) (old new : HubState) (a b : Option (List ℕ)) → line ≡ undo_bytes
     → holder_conn old.held.holder ≡ Some conn → Asks conn line old new a b out → Makes (undoes conn out ∷ []) old new a b
 undo_makes conn line out old new a b is holds p = record {
   acts = p.acts;
-  done = one_step (undoes conn out) old new p.acts (subst (λ l. Done old (piece conn l) out new) is p.done)
-      (subst (λ l. ActsOfDone old (piece conn l) out p.acts) is p.are) holds;
+  done = one_step (undoes conn out) old new p.acts (
+    (
+      subst (λ l. Done old (piece conn l) out new) is p.done,
+      subst (λ l. ActsOfDone old (piece conn l) out p.acts) is p.are,
+    ),
+    holds,
+  );
   journal = p.journal;
+}
+
+-- the service tells something to a line of its own
+pub tells_makes : (conn : ℕ) (line text : List ℕ) (s : HubState) (a b : Option (List ℕ)) → is_service line ≡ true → ¬ (text ≡ []) → Keeps a b
+    → Makes (tells conn line text ∷ []) s s a b
+tells_makes conn line text s a b own some kept = record {
+  acts = [];
+  done = one_step (tells conn line text) s s [] (refl, refl, own, some);
+  journal = journal_none s.held a b kept;
 }
 
 pub leaves_makes : (conn : ℕ) (old new : HubState) (a b : Option (List ℕ)) → Done old (cut conn) [] new
     → Journals old.held new.held a b (leaves conn ∷ []) → Makes (goes conn ∷ []) old new a b
 leaves_makes conn old new a b done journal = record {
   acts = leaves conn ∷ [];
-  done = one_step (goes conn) old new (leaves conn ∷ []) done (record { replies = []; are = refl; each = refl; written = refl }) tt;
+  done = one_step (goes conn) old new (leaves conn ∷ []) (done, record { replies = []; are = refl; each = refl; written = refl });
   journal = journal;
 }
 
@@ -105,7 +117,7 @@ pub comes_makes : (conn : ℕ) (old new : HubState) (a b : Option (List ℕ)) �
     → Makes (comes conn ∷ []) old new a b
 comes_makes conn old new a b done kept = record {
   acts = [];
-  done = one_step (comes conn) old new [] done (record { replies = []; are = refl; each = refl; written = refl }) tt;
+  done = one_step (comes conn) old new [] (done, record { replies = []; are = refl; each = refl; written = refl });
   journal = subst (λ h. Journals old.held h a b []) (sym (ap (λ (s : HubState). s.held) done.3)) (journal_none old.held a b kept);
 }
 
@@ -137,6 +149,7 @@ asks_more conn (asks k l o ∷ steps) taken given line out p = (
   ap (λ t. t ++ line) p.4 ∙ append_assoc l p.1 line,
   ap (λ t. t ++ out) p.5 ∙ append_assoc o p.2 out,
 )
+asks_more conn (tells k l o ∷ steps) taken given line out p = absurd p
 asks_more conn (undoes k o ∷ steps) taken given line out p = absurd p
 asks_more conn (goes k ∷ steps) taken given line out p = absurd p
 
@@ -144,6 +157,7 @@ pub undos_more : (conn : ℕ) (steps : List Step) (out : List ℕ) → AreUndos 
 undos_more conn [] out p = (refl, tt)
 undos_more conn (comes k ∷ steps) out p = absurd p
 undos_more conn (asks k l o ∷ steps) out p = absurd p
+undos_more conn (tells k l o ∷ steps) out p = absurd p
 undos_more conn (undoes k o ∷ steps) out p = (p.0, undos_more conn steps out p.1)
 undos_more conn (goes k ∷ steps) out p = absurd p
 

@@ -7,7 +7,9 @@ use Rattle.mi_clients.specs.Input.{waiting}
 use Rattle.mi_clients.specs.Lines.{SameLines, Ends}
 use Rattle.mi_clients.specs.Heard.{heard, still_first, is_last}
 use Rattle.mi_clients.specs.Stream.{one_more}
-use Rattle.mi_clients.specs.Steps.{Step, asks, given_to}
+use Rattle.mi_clients.specs.ServiceLines.{is_service}
+use Rattle.mi_clients.specs.Steps.{Step, asks, given_to, told_by}
+use Rattle.mi_ledger.specs.Journals.{IsWholeLine}
 use Rattle.mi_hub.specs.Ended.{ended}
 use Rattle.mi_clients.specs.declared.client.Client.{Client}
 use Rattle.mi_clients.specs.declared.client.Phase.TheVariants.{Open, Ended, Asked, Broken}
@@ -62,14 +64,28 @@ HasNoLine c = ended (waiting c.input) ≡ []
 abbrev pub GoesOn : {S : Type 0} → Client S → Type 0
 GoesOn c = (c.phase ≡ Open) ⊎ ¬ HasNoLine c
 
--- no more of its lines can be asked now: its stream has failed, or no whole line waits, or its replies have no room
-abbrev pub IsAsked : {S : Type 0} → Client S → Type 0
-IsAsked c = (c.phase ≡ Broken) ⊎ (HasNoLine c ⊎ ¬ HasRoom c)
+-- the first whole line of it that waits is the service's own
+abbrev pub IsAtService : {S : Type 0} → Client S → Type 0
+IsAtService c = (line : List ℕ) × (rest : List ℕ) × IsWholeLine line × (is_service line ≡ true) × (waiting c.input ≡ line ++ rest)
 
--- Between old and new a connection is given these replies, and no whole line of it is left waiting, unless what it was owed and these together
--- had no room.
-abbrev pub AsksAll : {S : Type 0} → List ℕ → Client S → Client S → Type 0
-AsksAll given old new = HasNoLine new ⊎ (MOST_UNSENT < length (owed old ++ given))
+-- the service may tell it something: its lines may be asked, and the first is the service's own
+abbrev pub MayTell : {S : Type 0} → Client S → Type 0
+MayTell c = MayAsk c × IsAtService c
+
+-- no more of its lines can be asked of the tables now: its stream has failed, or no whole line waits, or its replies have no room, or the next
+-- line is the service's own
+abbrev pub IsAsked : {S : Type 0} → Client S → Type 0
+IsAsked c = (c.phase ≡ Broken) ⊎ (HasNoLine c ⊎ (¬ HasRoom c ⊎ MayTell c))
+
+-- the same once the service has told what it is asked: in these steps it has told something to a line of it, and what follows waits
+abbrev pub IsHeard : {S : Type 0} → List Step → Client S → Type 0
+IsHeard steps c = (c.phase ≡ Broken) ⊎ (HasNoLine c ⊎ (¬ HasRoom c ⊎ ¬ (told_by c.conn steps ≡ [])))
+
+-- Between old and new these steps are made, and no whole line of a connection is left waiting, unless what it was owed and was given had no
+-- room, or the service has told something to a line of it.
+abbrev pub AsksAll : {S : Type 0} → List Step → Client S → Client S → Type 0
+AsksAll steps old new =
+    HasNoLine new ⊎ ((MOST_UNSENT < length (owed old ++ given_to old.conn steps)) ⊎ ¬ (told_by old.conn steps ≡ []))
 
 -- its stream is to be read: more may come, a read may give something, no whole line waits, and its replies have room
 abbrev pub WantsBytes : {S : Type 0} → Client S → Type 0
@@ -108,6 +124,18 @@ AsksWhatCame remaining taken old new =
 -- it is as far as it was, or it is broken
 abbrev pub IsAsFar : {S : Type 0} → Client S → Client S → Type 0
 IsAsFar old new = (new.phase ≡ Broken) ⊎ (new.phase ≡ old.phase)
+
+-- Between old and new the service may have told something to a line of a connection, whose bytes these are: the line is taken of what waited.
+-- One that stands at a line of the service is told something, or is broken; any other is as it was.
+pub record Takes {S : Type 0} (taken : List ℕ) (old new : Client S) : Type 0 where
+  pub conn : new.conn ≡ old.conn
+  pub stream : new.stream ≡ old.stream
+  pub waits : waiting old.input ≡ taken ++ waiting new.input
+  pub first : new.input.is_first ≡ old.input.is_first
+  pub far : IsAsFar old new
+  pub lines : new.has_lines ≡ old.has_lines
+  pub other : ¬ MayTell old → (new ≡ old) × (taken ≡ [])
+  pub told : MayTell old → (new.phase ≡ Broken) ⊎ ¬ (taken ≡ [])
 
 -- no byte of it waits that its stream may take: it is broken, or its stream takes none now, or none waits and the memory of all is let go
 abbrev pub HasSent : {S : Type 0} → Client S → Type 0

@@ -1,7 +1,7 @@
 -- What of the bytes of a connection is heard: all, but of one that begins as no command does the first line alone. A browser lets each web page
 -- send requests to a port.
 -- "POST / HTTP/1.1⏎Host: here⏎⏎undo⏎" is heard as "POST / HTTP/1.1⏎", and "{⏎POST⏎undo⏎" whole.
-use Rattle.std.specs.Prelude.{ℕ, List, [], ◌∷◌, Bool, true, false, not, ◌==◌, ◌&&◌, ◌||◌, if◌then◌else◌}
+use Rattle.std.specs.Prelude.{ℕ, List, [], ◌∷◌, Bool, false, not, ◌==◌, ◌&&◌, ◌||◌, if◌then◌else◌}
 use Rattle.mi_hub.specs.Ended.{ended, if_none}
 
 -- The bytes begin neither with an object of JSON nor with a blank: so does each request of HTTP, whatever its method, and each hello of TLS. The

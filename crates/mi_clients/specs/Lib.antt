@@ -1,4 +1,6 @@
 -- To be read in this order.
+pub mod SchemaText
+pub mod ServiceLines
 pub mod Steps
 pub mod Lines
 pub mod Heard
@@ -6,6 +8,7 @@ pub mod Input
 pub mod Output
 pub mod Stream
 pub mod Client
+pub mod Status
 pub mod Row
 pub mod Silence
 pub mod Laws

@@ -4,9 +4,11 @@ use Rattle.std.specs.List.{All, AllZip, Contains}
 use Rattle.std.specs.Io.KnownBytes.{Keeps}
 use Rattle.mi_hub.specs.declared.connection.Connection.{Connection}
 use Rattle.mi_hub.specs.Run.{HubState, attach, Refused as HubRefuses}
-use Rattle.mi_clients.specs.Client.{owed, IsServed, IsOver, IsAsFar, AsksAll, AsksWhatCame, GoesOn, IsWoken, IsWhole, BreaksWith, IsSame, IsRead}
+use Rattle.mi_clients.specs.Client.{owed, IsServed, IsOver, IsAsFar, Takes, AsksAll, AsksWhatCame, GoesOn, IsWoken, IsWhole, BreaksWith, IsSame, IsRead}
 use Rattle.mi_clients.specs.Input.{waiting}
-use Rattle.mi_clients.specs.Steps.{Step, given_to, asked_by, OnlyAsks}
+use Rattle.mi_clients.specs.Status.{IsStatus}
+use Rattle.mi_clients.specs.Steps.{Step, given_to, asked_by, OnlyAsks, DoneBy, TellsSo}
+use Rattle.mi_replay.specs.Acts.{Act}
 use Rattle.mi_clients.specs.declared.client.Client.{Client}
 use Rattle.mi_clients.specs.declared.client.Phase.TheVariants.{Open}
 use Rattle.mi_clients.specs.declared.input.Input.{Input}
@@ -70,17 +72,41 @@ abbrev pub StayersAsked : {S : Type 0} → (S → Option (List ℕ)) → List St
 StayersAsked {S} remaining steps olds news = (new : Client S) → Contains news new
     → (old : Client S) × Contains olds old × (new.conn ≡ old.conn) × AsksWhatCame remaining (asked_by old.conn steps) old new
 
+-- the service told each of a row what it asked in these steps
+abbrev pub EachTakes : {S : Type 0} → List Step → List (Client S) → List (Client S) → Type 0
+EachTakes steps olds news = AllZip (λ old new. Takes (asked_by old.conn steps) old new) olds news
+
+-- What the service tells in these steps is so: the status is that of these connections and this hub, as the first of the steps have left
+-- them, and the schema is told by this line. The connections are those that the hub has attached then: they were in the row before, or have
+-- come, and each was served meanwhile.
+pub record TellsWhatIs {S : Type 0} (contents : S → Option (List ℕ)) (schema : List ℕ) (steps : List Step) (start : HubState)
+    (olds : List (Client S)) : Type 0 where
+  pub first : List Step
+  pub later : List Step
+  pub parts : steps ≡ first ++ later
+  pub acts : List Act
+  pub hub : HubState
+  pub done : DoneBy start first acts hub
+  pub row : List (Client S)
+  pub attends : Attends (ids row) hub.attached
+  pub from : (c : Client S) → Contains row c
+      → (old : Client S) × (Contains olds old ⊎ IsNew old olds) × IsServed contents (given_to old.conn first) old c
+  pub status : List ℕ
+  pub «is» : IsStatus row hub status
+  pub told : TellsSo status schema steps
+
 -- none of a row is over
 abbrev pub NoneIsOver : {S : Type 0} → List (Client S) → Type 0
 NoneIsOver row = All (λ c. ¬ IsOver c) row
 
 -- What becomes of a row while these steps are made. Each connection that is there then was there before, or has come owed nothing; each that
 -- was there before is there, or has gone when it was over. What it was given meanwhile are the replies to its own lines: behind what it was
--- owed they were sent to its own stream, or are owed still. No whole line of those that are there waits, but where the replies had no room.
+-- owed they were sent to its own stream, or are owed still. No whole line of those that are there waits, but where the replies had no room, or
+-- where the service has told something to a line in front of it.
 pub record Serves {S : Type 0} (contents : S → Option (List ℕ)) (steps : List Step) (olds news : List (Client S)) : Type 0 where
   pub from : (new : Client S) → Contains news new
       → (old : Client S) × (Contains olds old ⊎ IsNew old olds) × IsServed contents (given_to old.conn steps) old new
-      × AsksAll (given_to old.conn steps) old new
+      × AsksAll steps old new
   pub to : (old : Client S) → Contains olds old
       → (last : Client S) × (Contains news last ⊎ IsOver last) × IsServed contents (given_to old.conn steps) old last
 

@@ -1,18 +1,20 @@
 -- What a service does to its hub, one step after another. Connection 2 comes, asks to start a session, and goes away:
 -- comes 2, asks 2 "{\"cmd\":\"start\"}⏎" "{\"ok\":true,\"revision\":1}⏎", undoes 2 "{\"ok\":true,\"revision\":0}⏎", goes 2.
-use Rattle.std.specs.Prelude.{◌≡◌, ℕ, ◌<◌, List, [], ◌∷◌, ◌++◌, ◌==◌, false, if◌then◌else◌, codes, Option, Some, None}
+use Rattle.std.specs.Prelude.{◌≡◌, ℕ, ◌<◌, List, [], ◌∷◌, ◌++◌, ◌==◌, true, false, if◌then◌else◌, codes, Option, Some, None}
 use Rattle.mi_commands.specs.declared.holder.Holder.{Holder}
 use Rattle.mi_hub.specs.Run.{HubState, Event, attach, piece, cut, Done}
 use Rattle.mi_replay.specs.Acts.{Act}
 use Rattle.mi_replay.specs.RunActs.{ActsOfDone}
 use Rattle.mi_ledger.specs.Journals.{Journals}
 use Rattle.mi_ledger.specs.Ledger.{holder_conn}
+use Rattle.mi_clients.specs.ServiceLines.{is_service, told_to}
 
--- A connection comes; it asks a line and this is the reply; a session is undone that it leaves behind, and nobody hears the reply; it goes
--- away.
+-- A connection comes; it asks a line and this is the reply; the service tells it this text to a line of its own; a session is undone that it
+-- leaves behind, and nobody hears the reply; it goes away.
 pub data Step : Type 0 where
   comes : ℕ → Step
   asks : ℕ → List ℕ → List ℕ → Step
+  tells : ℕ → List ℕ → List ℕ → Step
   undoes : ℕ → List ℕ → Step
   goes : ℕ → Step
 
@@ -20,34 +22,24 @@ pub data Step : Type 0 where
 abbrev pub undo_bytes : List ℕ
 undo_bytes = codes "{\"cmd\":\"undo\"}\n"
 
--- what a step is to the hub
-abbrev pub event_of : Step → Event
-event_of (comes conn) = attach conn
-event_of (asks conn line reply) = piece conn line
-event_of (undoes conn reply) = piece conn undo_bytes
-event_of (goes conn) = cut conn
+-- From old, the hub does this event, and writes these bytes; these are its acts, and new is left.
+abbrev pub HubDoes : HubState → Event → List ℕ → List Act → HubState → Type 0
+HubDoes old event out acts new = Done old event out new × ActsOfDone old event out acts
 
--- what the hub writes in it
-abbrev pub written_in : Step → List ℕ
-written_in (comes conn) = []
-written_in (asks conn line reply) = reply
-written_in (undoes conn reply) = reply
-written_in (goes conn) = []
+-- From old, a step is made; these are its acts, and new is left. A line that reaches the tables is none of the service's, and to one of the
+-- service's some text is told, which changes nothing. A session that is undone is the connection's own: it is the holder.
+abbrev pub StepDone : HubState → Step → List Act → HubState → Type 0
+StepDone old (comes conn) acts new = HubDoes old (attach conn) [] acts new
+StepDone old (asks conn line reply) acts new = HubDoes old (piece conn line) reply acts new × (is_service line ≡ false)
+StepDone old (tells conn line text) acts new = (acts ≡ []) × (new ≡ old) × (is_service line ≡ true) × ¬ (text ≡ [])
+StepDone old (undoes conn reply) acts new = HubDoes old (piece conn undo_bytes) reply acts new × (holder_conn old.held.holder ≡ Some conn)
+StepDone old (goes conn) acts new = HubDoes old (cut conn) [] acts new
 
--- a session that is undone in a step is the connection's own: it is the holder
-abbrev pub UndoesOwn : HubState → Step → Type 0
-UndoesOwn old (comes conn) = Unit {0}
-UndoesOwn old (asks conn line reply) = Unit {0}
-UndoesOwn old (undoes conn reply) = holder_conn old.held.holder ≡ Some conn
-UndoesOwn old (goes conn) = Unit {0}
-
--- From old, these steps are made one after another, each of them an event that is done; these are their acts, and new is left. No session is
--- undone but of the connection that holds it.
+-- From old, these steps are made one after another; these are their acts, and new is left.
 abbrev pub DoneBy : HubState → List Step → List Act → HubState → Type 0
 DoneBy old [] acts new = (acts ≡ []) × (new ≡ old)
 DoneBy old (step ∷ steps) acts new =
-    (mid : HubState) × (first : List Act) × (later : List Act) × Done old (event_of step) (written_in step) mid
-    × ActsOfDone old (event_of step) (written_in step) first × DoneBy mid steps later new × (acts ≡ first ++ later) × UndoesOwn old step
+    (mid : HubState) × (first : List Act) × (later : List Act) × StepDone old step first mid × DoneBy mid steps later new × (acts ≡ first ++ later)
 
 -- From old, these steps are made, and new is left; what was appended to the journal meanwhile are whole lines, which are a journal of their acts.
 pub record Makes (steps : List Step) (old new : HubState) (before after : Option (List ℕ)) : Type 0 where
@@ -61,6 +53,7 @@ AreAsks conn [] taken given = (taken ≡ []) × (given ≡ [])
 AreAsks conn (comes k ∷ steps) taken given = ⊥
 AreAsks conn (asks k line reply ∷ steps) taken given =
     (k ≡ conn) × (more : List ℕ) × (later : List ℕ) × AreAsks conn steps more later × (taken ≡ line ++ more) × (given ≡ reply ++ later)
+AreAsks conn (tells k line text ∷ steps) taken given = ⊥
 AreAsks conn (undoes k reply ∷ steps) taken given = ⊥
 AreAsks conn (goes k ∷ steps) taken given = ⊥
 
@@ -69,13 +62,33 @@ abbrev pub AreUndos : ℕ → List Step → Type 0
 AreUndos conn [] = Unit {0}
 AreUndos conn (comes k ∷ steps) = ⊥
 AreUndos conn (asks k line reply ∷ steps) = ⊥
+AreUndos conn (tells k line text ∷ steps) = ⊥
 AreUndos conn (undoes k reply ∷ steps) = (k ≡ conn) × AreUndos conn steps
 AreUndos conn (goes k ∷ steps) = ⊥
 
--- what a connection is replied in a step: only where it asks a line itself
+-- All of these steps are the service telling this connection something.
+abbrev pub AreTells : ℕ → List Step → Type 0
+AreTells conn [] = Unit {0}
+AreTells conn (comes k ∷ steps) = ⊥
+AreTells conn (asks k line reply ∷ steps) = ⊥
+AreTells conn (tells k line text ∷ steps) = (k ≡ conn) × AreTells conn steps
+AreTells conn (undoes k reply ∷ steps) = ⊥
+AreTells conn (goes k ∷ steps) = ⊥
+
+-- All of these steps are the service telling a connection something.
+abbrev pub AllTell : List Step → Type 0
+AllTell [] = Unit {0}
+AllTell (comes k ∷ steps) = ⊥
+AllTell (asks k line reply ∷ steps) = ⊥
+AllTell (tells k line text ∷ steps) = AllTell steps
+AllTell (undoes k reply ∷ steps) = ⊥
+AllTell (goes k ∷ steps) = ⊥
+
+-- what a connection is replied in a step: only where it asks a line itself, or a text is told to its own line
 abbrev pub reply_to : ℕ → Step → List ℕ
 reply_to k (comes conn) = []
 reply_to k (asks conn line reply) = if conn == k then reply else []
+reply_to k (tells conn line text) = if conn == k then text else []
 reply_to k (undoes conn reply) = []
 reply_to k (goes conn) = []
 
@@ -92,10 +105,11 @@ GivesOnly conn steps = (k : ℕ) → (conn == k) ≡ false → given_to k steps 
 abbrev pub GivesNone : List Step → Type 0
 GivesNone steps = (k : ℕ) → given_to k steps ≡ []
 
--- the line that a connection asks in a step, where it asks one itself
+-- the line that a connection asks in a step, of the tables or of the service, where it asks one itself
 abbrev pub line_by : ℕ → Step → List ℕ
 line_by k (comes conn) = []
 line_by k (asks conn line reply) = if conn == k then line else []
+line_by k (tells conn line text) = if conn == k then line else []
 line_by k (undoes conn reply) = []
 line_by k (goes conn) = []
 
@@ -112,11 +126,43 @@ AsksOnly conn steps = (k : ℕ) → (conn == k) ≡ false → asked_by k steps �
 abbrev pub AsksNone : List Step → Type 0
 AsksNone steps = (k : ℕ) → asked_by k steps ≡ []
 
+-- the line of a connection that a text is told to in a step
+abbrev pub told_line : ℕ → Step → List ℕ
+told_line k (comes conn) = []
+told_line k (asks conn line reply) = []
+told_line k (tells conn line text) = if conn == k then line else []
+told_line k (undoes conn reply) = []
+told_line k (goes conn) = []
+
+-- the lines of a connection that texts are told to in these steps, one behind another
+abbrev pub told_by : ℕ → List Step → List ℕ
+told_by k [] = []
+told_by k (step ∷ steps) = told_line k step ++ told_by k steps
+
+-- in none of these steps a text is told
+abbrev pub TellsNone : List Step → Type 0
+TellsNone [] = Unit {0}
+TellsNone (comes conn ∷ steps) = TellsNone steps
+TellsNone (asks conn line reply ∷ steps) = TellsNone steps
+TellsNone (tells conn line text ∷ steps) = ⊥
+TellsNone (undoes conn reply ∷ steps) = TellsNone steps
+TellsNone (goes conn ∷ steps) = TellsNone steps
+
+-- What is told in these steps is told to the line that it is told to, where this line tells the status and that one the schema.
+abbrev pub TellsSo : List ℕ → List ℕ → List Step → Type 0
+TellsSo status schema [] = Unit {0}
+TellsSo status schema (comes conn ∷ steps) = TellsSo status schema steps
+TellsSo status schema (asks conn line reply ∷ steps) = TellsSo status schema steps
+TellsSo status schema (tells conn line text ∷ steps) = (text ≡ told_to status schema line) × TellsSo status schema steps
+TellsSo status schema (undoes conn reply ∷ steps) = TellsSo status schema steps
+TellsSo status schema (goes conn ∷ steps) = TellsSo status schema steps
+
 -- in these steps a connection doesn't come, no session of it is undone, and it doesn't go
 abbrev pub OnlyAsks : ℕ → List Step → Type 0
 OnlyAsks k [] = Unit {0}
 OnlyAsks k (comes conn ∷ steps) = ((conn == k) ≡ false) × OnlyAsks k steps
 OnlyAsks k (asks conn line reply ∷ steps) = OnlyAsks k steps
+OnlyAsks k (tells conn line text ∷ steps) = OnlyAsks k steps
 OnlyAsks k (undoes conn reply ∷ steps) = ((conn == k) ≡ false) × OnlyAsks k steps
 OnlyAsks k (goes conn ∷ steps) = ((conn == k) ≡ false) × OnlyAsks k steps
 

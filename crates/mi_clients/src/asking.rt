@@ -9,11 +9,12 @@ ghost use Rattle.mi_clients.specs.Steps.{Step, asks, Makes, GivesNone, AsksNone,
 ghost use Rattle.mi_clients.specs.Input.{waiting};
 ghost use Rattle.mi_ledger.specs.HeldReplies.{bytes_of};
 ghost use Rattle.mi_clients.specs.Output.{unsent};
-ghost use Rattle.mi_clients.specs.Client.{owed, Owes, IsWhole, IsAsked, IsAsFar, AsksWithin, MayAsk};
+ghost use Rattle.mi_clients.specs.Client.{owed, Owes, IsWhole, IsAsked, IsAtService, IsAsFar, AsksWithin, MayAsk};
 ghost use Rattle.mi_hub.specs.Ended.{ended};
 ghost use Rattle.mi_clients.specs.declared.client.Phase.TheVariants as phases;
 
 use crate::client::{Client, Phase};
+use crate::service_lines::is_service;
 use mi_ledger::{HeldReplies, Ledger, LedgerFault};
 use mi_log::Log;
 use mi_sessions::Sessions;
@@ -25,7 +26,7 @@ use std::mem;
 const UNDO: &[u8] = b"{\"cmd\":\"undo\"}\n";
 
 /// Replies that stay wait for the stream behind those that do already. Without room for them the connection is broken.
-fn hand_out<S>(client: &mut Client<S>, bytes: Vec<u8>)
+pub(crate) fn hand_out<S>(client: &mut Client<S>, bytes: Vec<u8>)
     ensures unsent { ((client.new.phase ≡ phases.Broken) × (unsent client.new.output ≡ unsent client.old.output))
         ⊎ ((client.new.phase ≡ client.old.phase) × (unsent client.new.output ≡ unsent client.old.output ++ bytes.items)) }
     ensures input { client.new.input ≡ client.old.input }
@@ -39,7 +40,7 @@ fn hand_out<S>(client: &mut Client<S>, bytes: Vec<u8>)
 }
 
 /// The replies of a connection that were held are held no more.
-fn take_held<S>(client: &mut Client<S>) -> HeldReplies
+pub(crate) fn take_held<S>(client: &mut Client<S>) -> HeldReplies
     ensures held { bytes_of result ≡ bytes_of client.old.held }
     ensures none { bytes_of client.new.held ≡ [] }
     ensures same { client.new ≡ record client.old { held = client.new.held } }
@@ -97,18 +98,30 @@ fn release_each<D: Sessions + Drop, L: Log + Drop, S>(
     }
 }
 
-/// Asks the first whole line of a connection that waits, and answers whether there was one. Its reply is held.
+/// What came of asking the first whole line of a connection that waits.
+#[derive(Clone, Copy, Drop)]
+enum Found {
+    /// It is asked, and its reply is held.
+    Asked,
+    /// No whole line waits.
+    Nothing,
+    /// It is the service's own, and waits still.
+    Service,
+}
+
+/// Asks the first whole line of a connection that waits, where it is none of the service's own.
 fn ask_line<D: Sessions + Drop, L: Log + Drop, S>(
     ledger: &mut Ledger<D, L>,
     client: &mut Client<S>,
-) -> Result<bool, LedgerFault>
+) -> Result<Found, LedgerFault>
     requires here { rest_at client.old.conn (hub_of ledger.old).attached ≡ Some (Some []) }
     requires lines { IsTrue client.old.has_lines }
-    ensures one { IfOk result (λ found. found ≡ true → (line : List ℕ) × (out : List ℕ) × (0 < length line)
+    ensures one { IfOk result (λ found. found ≡ Found.Asked → (line : List ℕ) × (out : List ℕ) × (0 < length line)
         × (waiting client.old.input ≡ line ++ waiting client.new.input) × (owed client.new ≡ owed client.old ++ out)
         × Makes (asks client.old.conn line out ∷ []) (hub_of ledger.old) (hub_of ledger.new)
         (L.appended (log_of ledger.old)) (L.appended (log_of ledger.new))) }
-    ensures none { IfOk result (λ found. found ≡ false → (client.new ≡ client.old) × (ledger.new ≡ ledger.old) × (ended (waiting client.old.input) ≡ [])) }
+    ensures none { IfOk result (λ found. found ≡ Found.Nothing → (client.new ≡ client.old) × (ledger.new ≡ ledger.old) × (ended (waiting client.old.input) ≡ [])) }
+    ensures service { IfOk result (λ found. found ≡ Found.Service → (client.new ≡ client.old) × (ledger.new ≡ ledger.old) × IsAtService client.old) }
     ensures same { OnOk result ((client.new.conn ≡ client.old.conn) × (client.new.phase ≡ client.old.phase) × (client.new.stream ≡ client.old.stream)) }
     ensures first { OnOk result (client.new.input.is_first ≡ client.old.input.is_first) }
     ensures attached { OnOk result ((hub_of ledger.new).attached ≡ (hub_of ledger.old).attached) }
@@ -116,16 +129,19 @@ fn ask_line<D: Sessions + Drop, L: Log + Drop, S>(
     ensures settled { IsSettled L.appended L.synced ledger.old → IsSettled L.appended L.synced ledger.new }
 {
     let Some(line) = client.input.line() else {
-        return Ok(false);
+        return Ok(Found::Nothing);
     };
+    if is_service(line) {
+        return Ok(Found::Service);
+    }
     ledger.ask(client.conn, line, &mut client.held)?;
     let count = line.len();
     client.input.pass(count);
-    Ok(true)
+    Ok(Found::Asked)
 }
 
-/// Asks the lines of a connection that have come, as long as its replies have room: all of them, unless it breaks or the room ends. With
-/// `each` a reply is handed out, behind a sync, before the next line is asked.
+/// Asks the lines of a connection that have come, as long as its replies have room: all of them, unless it breaks, or the room ends, or the
+/// next is the service's own. With `each` a reply is handed out, behind a sync, before the next line is asked.
 pub fn ask_lines<D: Sessions + Drop, L: Log + Drop, S>(
     ledger: &mut Ledger<D, L>,
     client: &mut Client<S>,
@@ -147,11 +163,14 @@ pub fn ask_lines<D: Sessions + Drop, L: Log + Drop, S>(
     ensures settled { OnOk result (IsSettled L.appended L.synced ledger.new) }
 {
     'lines: while client.may_ask() {
-        if !ask_line(ledger, client)? {
-            client.has_lines = false;
-            return Ok(());
+        match ask_line(ledger, client)? {
+            Found::Asked => release_each(ledger, client, each)?,
+            Found::Nothing => {
+                client.has_lines = false;
+                return Ok(());
+            }
+            Found::Service => return Ok(()),
         }
-        release_each(ledger, client, each)?;
     }
     Ok(())
 }

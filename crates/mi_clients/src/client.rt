@@ -8,6 +8,7 @@ use crate::duplex::Duplex;
 use crate::input::Input;
 use crate::output::Output;
 use crate::sending::{Sending, send_out};
+use crate::service_lines::is_service;
 use crate::silence::has_passed;
 use mi_ledger::HeldReplies;
 use std::alloc::Global;
@@ -65,7 +66,10 @@ pub struct Client<S> {
 }
 
 impl<S> Client<S> {
-    ghost use Rattle.mi_clients.specs.Client.{owed, IsOver, HasRoom, MayAsk, IsAsked, WantsBytes, IsBusy, IsWoken, woken};
+    ghost use Rattle.std.specs.Prelude.{MatchOption};
+    ghost use Rattle.mi_ledger.specs.Journals.{IsWholeLine};
+    ghost use Rattle.mi_clients.specs.ServiceLines.{is_service};
+    ghost use Rattle.mi_clients.specs.Client.{owed, IsOver, HasRoom, MayAsk, MayTell, IsAsked, WantsBytes, IsBusy, IsWoken, woken};
     ghost use Rattle.mi_clients.specs.Silence.{IsSilent, IsJudged};
 
     /// A connection that has just come.
@@ -103,6 +107,13 @@ impl<S> Client<S> {
         self.conn
     }
 
+    /// How many bytes of its replies are unsent.
+    pub(crate) fn owed_bytes(&self) -> usize
+        ensures { result ≡ length (owed self.now) }
+    {
+        self.held.len() + self.output.waiting().len()
+    }
+
     /// Whether so little of its replies is unsent that a line may be asked.
     fn has_room(&self) -> bool
         ensures { IsTrue result ↔ HasRoom self.now }
@@ -117,6 +128,20 @@ impl<S> Client<S> {
         ensures not { IsFalse result → IsAsked self.now }
     {
         self.phase != Phase::Broken && self.has_lines && self.has_room()
+    }
+
+    /// The first whole line of it that waits, where its lines may be asked and that line is the service's own.
+    pub(crate) fn service_line(&self) -> Option<&[u8]>
+        ensures { MatchOption result (¬ MayTell self.now) (λ line. MayTell self.now × IsWholeLine line.now × (is_service line.now ≡ true)
+            × (rest : List ℕ) × (waiting self.now.input ≡ line.now ++ rest)) }
+    {
+        if !self.may_ask() {
+            return None;
+        }
+        let Some(line) = self.input.line() else {
+            return None;
+        };
+        if is_service(line) { Some(line) } else { None }
     }
 
     /// Whether its stream is to be read.

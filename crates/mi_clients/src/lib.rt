@@ -11,11 +11,16 @@ pub mod laws;
 mod lines;
 mod output;
 mod row;
+mod schema_line;
 mod sending;
+mod service_lines;
 mod silence;
+mod status;
+mod telling;
 
 pub use asking::part;
 pub use client::Client;
 pub use duplex::Duplex;
 pub use row::{Admission, admit, is_any_busy, serve_all, wake_one};
+pub use schema_line::SchemaLine;
 pub use silence::{Limits, give_up_silent};

@@ -3,15 +3,18 @@ ghost use Rattle.std.specs.Prelude.{◌≡◌, ◌<◌, ◌↔◌, ◌++◌, ◌
 ghost use Rattle.std.specs.List.{All, Any};
 ghost use Rattle.std.specs.Io.KnownBytes.{Keeps};
 ghost use Rattle.mi_ledger.specs.Ledger.{hub_of, log_of, IsSettled};
-ghost use Rattle.mi_clients.specs.Client.{IsServed, IsAsked, IsSent, IsBusy, IsIdle, IsWhole, GoesOn, AsksWhatCame, BreaksWith, IsSame, IsRead, told};
-ghost use Rattle.mi_clients.specs.Steps.{Step, Makes, given_to, asked_by, GivesOnly, GivesNone, AsksOnly, AsksNone, OnlyAsks, LeavesOthers};
+ghost use Rattle.mi_clients.specs.ServiceLines.{line_of};
+ghost use Rattle.mi_clients.specs.Client.{IsServed, IsAsked, IsHeard, IsSent, IsBusy, IsIdle, IsWhole, GoesOn, AsksWhatCame, BreaksWith, IsSame, IsRead, told};
+ghost use Rattle.mi_clients.specs.Steps.{Step, Makes, given_to, asked_by, GivesOnly, GivesNone, AsksOnly, AsksNone, OnlyAsks, LeavesOthers, TellsNone};
 ghost use Rattle.mi_clients.specs.Row.{ids, inputs, Attends, EachServed, EachAsked, EachUnread, StayersAsked, EachAsFar, OpenOnlyAsk, AllOnlyAsk, Joins, LetsGo, NoneIsOver, Serves, EachWoken};
-ghost use Rattle.mi_clients.specs.Row.{NoneIsWhole, AllBreakWith, NoneHasFailed, EachSame, EachRead, EachUncounted, StayersSame, StayersRead, Admits};
+ghost use Rattle.mi_clients.specs.Row.{NoneIsWhole, AllBreakWith, NoneHasFailed, EachSame, EachRead, EachUncounted, StayersSame, StayersRead, Admits, TellsWhatIs};
 ghost use Rattle.mi_hub.specs.Connections.{rest_at};
 
 use crate::asking::{ask_lines, part, release, settle};
 use crate::client::Client;
 use crate::duplex::Duplex;
+use crate::schema_line::SchemaLine;
+use crate::telling::tell_all;
 use mi_hub::HubFault;
 use mi_ledger::{Ledger, LedgerFault};
 use mi_log::Log;
@@ -42,7 +45,7 @@ fn serve<D: Sessions + Drop, L: Log + Drop, S: Duplex>(
         × Makes steps (hub_of ledger.old) (hub_of ledger.new) (L.appended (log_of ledger.old)) (L.appended (log_of ledger.new))
         × AsksWhatCame S.remaining (asked_by client.old.conn steps) client.old client.new
         × LeavesOthers client.old.conn steps × (GoesOn client.new → OnlyAsks client.old.conn steps)
-        × AsksOnly client.old.conn steps) }
+        × AsksOnly client.old.conn steps × TellsNone steps) }
     ensures goes_on { OnOk result (GoesOn client.new → GoesOn client.old) }
     ensures asked { OnOk result (IsAsked client.new) }
     ensures whole { OnOk result (¬ IsWhole client.new) }
@@ -71,7 +74,7 @@ pub fn ask_all<D: Sessions + Drop, L: Log + Drop, S: Duplex>(
     requires room { 0 < length buffer.old }
     ensures serves { OnOk result ((steps : List Step) × EachServed S.contents steps row.old.items row.new.items
         × Makes steps (hub_of ledger.old) (hub_of ledger.new) (L.appended (log_of ledger.old)) (L.appended (log_of ledger.new))
-        × OpenOnlyAsk steps row.new.items × EachAsked S.remaining steps row.old.items row.new.items) }
+        × OpenOnlyAsk steps row.new.items × EachAsked S.remaining steps row.old.items row.new.items × TellsNone steps) }
     ensures asked { OnOk result (All IsAsked row.new.items) }
     ensures whole { OnOk result (NoneIsWhole row.new.items) }
     ensures idle { All IsIdle row.old.items → IsOk result }
@@ -86,6 +89,34 @@ pub fn ask_all<D: Sessions + Drop, L: Log + Drop, S: Duplex>(
         serve(ledger, client, buffer, each)?;
     }
     Ok(())
+}
+
+/// What is ready of each connection is read, its lines are asked, and what it asks of the service is told.
+pub fn hear_all<D: Sessions + Drop, L: Log + Drop, S: Duplex>(
+    alloc: Global,
+    ledger: &mut Ledger<D, L>,
+    row: &mut Vec<Client<S>>,
+    buffer: &mut [u8],
+    each: bool,
+    schema: &SchemaLine,
+) -> Result<(), LedgerFault>
+    requires attends { Attends (ids row.old.items) (hub_of ledger.old).attached }
+    requires settled { IsSettled L.appended L.synced ledger.old }
+    requires room { 0 < length buffer.old }
+    ensures serves { OnOk result ((steps : List Step) × EachServed S.contents steps row.old.items row.new.items
+        × Makes steps (hub_of ledger.old) (hub_of ledger.new) (L.appended (log_of ledger.old)) (L.appended (log_of ledger.new))
+        × OpenOnlyAsk steps row.new.items × EachAsked S.remaining steps row.old.items row.new.items
+        × All (IsHeard steps) row.new.items × TellsWhatIs S.contents (line_of schema.now) steps (hub_of ledger.old) row.old.items) }
+    ensures whole { OnOk result (NoneIsWhole row.new.items) }
+    ensures same { OnOk result (EachSame S.handle row.old.items row.new.items) }
+    ensures read { OnOk result (EachRead S.reads row.old.items row.new.items) }
+    ensures broken { OnOk result (AllBreakWith S.has_failed row.old.items → AllBreakWith S.has_failed row.new.items) }
+    ensures attends { OnOk result (Attends (ids row.new.items) (hub_of ledger.new).attached) }
+    ensures failed { result ≡ Err LedgerFault.Journal → L.has_failed (log_of ledger.new) ≡ true }
+    ensures settled { OnOk result (IsSettled L.appended L.synced ledger.new) }
+{
+    ask_all(ledger, row, buffer, each)?;
+    tell_all(alloc, ledger, row, schema)
 }
 
 /// The replies of all connections are handed out, and each is sent what its stream takes.
@@ -157,23 +188,26 @@ fn seat<S: Drop>(row: &mut Vec<Client<S>>, client: Client<S>) -> Result<Admissio
     }
 }
 
-/// The connections of a row are served: what is ready of each is read, its lines are asked, the replies are sent once all that was appended
-/// stays, and those that are over are let go.
+/// The connections of a row are served: what is ready of each is read, its lines are asked, what it asks of the service is told, the replies are
+/// sent once all that was appended stays, and those that are over are let go.
 ///
-/// What one is sent or owed are the replies to its own lines, whole and in their order.
+/// What one is sent or owed are the replies to its own lines, whole and in their order. To one line of each the service tells something, and what
+/// follows that line waits for the next call.
 pub fn serve_all<D: Sessions + Drop, L: Log + Drop, S: Duplex + Drop>(
     alloc: Global,
     ledger: &mut Ledger<D, L>,
     row: &mut Vec<Client<S>>,
     buffer: &mut [u8],
     each: bool,
+    schema: &SchemaLine,
 ) -> Result<(), LedgerFault>
     requires attends { Attends (ids row.old.items) (hub_of ledger.old).attached }
     requires settled { IsSettled L.appended L.synced ledger.old }
     requires room { 0 < length buffer.old }
     ensures serves { OnOk result ((steps : List Step) × Serves S.contents steps row.old.items row.new.items
         × Makes steps (hub_of ledger.old) (hub_of ledger.new) (L.appended (log_of ledger.old)) (L.appended (log_of ledger.new))
-        × OpenOnlyAsk steps row.new.items × StayersAsked S.remaining steps row.old.items row.new.items) }
+        × OpenOnlyAsk steps row.new.items × StayersAsked S.remaining steps row.old.items row.new.items
+        × TellsWhatIs S.contents (line_of schema.now) steps (hub_of ledger.old) row.old.items) }
     ensures sent { OnOk result (All IsSent row.new.items) }
     ensures stay { OnOk result (NoneIsOver row.new.items) }
     ensures whole { OnOk result (NoneIsWhole row.new.items) }
@@ -184,7 +218,7 @@ pub fn serve_all<D: Sessions + Drop, L: Log + Drop, S: Duplex + Drop>(
     ensures failed { result ≡ Err LedgerFault.Journal → L.has_failed (log_of ledger.new) ≡ true }
     ensures settled { OnOk result (IsSettled L.appended L.synced ledger.new) }
 {
-    ask_all(ledger, row, buffer, each)?;
+    hear_all(alloc, ledger, row, buffer, each, schema)?;
     send_all(ledger, row)?;
     let_go(alloc, ledger, row)
 }

@@ -1,5 +1,5 @@
 -- What was opened by the options was served.
-use Rattle.std.proofs.Common.{◌≡◌, ℕ, List, Bool, true, Option, subst}
+use Rattle.std.proofs.Common.{◌≡◌, ℕ, List, Bool, Option, subst}
 use Rattle.std.specs.Prelude.{Result, Ok, Err, IfOk}
 use Rattle.mi_catalog.specs.Shape.{CatalogShape}
 use Rattle.mi_hub.specs.Run.{HubState}

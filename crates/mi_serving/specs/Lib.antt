@@ -5,5 +5,6 @@ pub mod Device
 pub mod Words
 pub mod Status
 pub mod Recovery
+pub mod SchemaSource
 pub mod Fingerprint
 pub mod Served

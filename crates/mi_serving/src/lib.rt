@@ -27,4 +27,5 @@ pub use opening::{FileLedger, JournalLedger, Journaled, opened, recovered, witho
 pub use patience::Patience;
 pub use program::run;
 pub use service::{serve, take_turn};
+pub use source::BUILT_IN;
 pub use words::{JournalWords, MOST_SECONDS, Options, SyncMode, read_words};

@@ -21,9 +21,10 @@ use crate::opening::{JournalLedger, log_fault, opened, without};
 use crate::patience::Patience;
 use crate::report::{conclude, refuse};
 use crate::service::serve;
-use crate::source::catalog;
+use crate::source::{Source, catalog};
 use crate::words::{JournalWords, Options, SyncMode, read_words};
 use mi_catalog::Catalog;
+use mi_clients::SchemaLine;
 use mi_database::Linked;
 use mi_hub::Hub;
 use mi_log::header_line;
@@ -117,6 +118,7 @@ fn serve_hub<P: JournalFiles, D: Sessions + Drop, C: Clock, W: Write>(
     journal: Option<&JournalWords>,
     door: &mut Door,
     patience: &mut Patience<'_, C>,
+    schema: &SchemaLine,
     output: &mut W,
 ) -> Result<Fault, Fault>
     requires { hub.attached ≡ [] }
@@ -126,7 +128,14 @@ fn serve_hub<P: JournalFiles, D: Sessions + Drop, C: Clock, W: Write>(
     let port = door.port()?;
     let mut ledger = ledger_of(alloc, files, hub, header, journal)?;
     announce(output, port)?;
-    let failure = serve(alloc, &mut ledger, door, patience, syncs_each(journal));
+    let failure = serve(
+        alloc,
+        &mut ledger,
+        door,
+        patience,
+        syncs_each(journal),
+        schema,
+    );
     Ok(log_fault(failure, ledger.log()))
 }
 
@@ -154,7 +163,7 @@ fn perform<R: Files + Net + AllocGlobal + RandomSource + Clock, P: JournalFiles,
         × HasServed P.File.is_locked (P.is_seen files.now) P.File.contents (journal_header catalog) (empty_hub catalog) options.now.journal
         ended.failure) }
 {
-    let catalog = catalog(rt, options.schema.as_deref())?;
+    let Source { catalog, line } = catalog(rt, options.schema.as_deref())?;
     let mut door = Door::open(rt, options.port)?;
     let Ok(header) = header_of(rt.alloc(), &catalog) else {
         return Err(Fault::from(Failure::Memory));
@@ -170,6 +179,7 @@ fn perform<R: Files + Net + AllocGlobal + RandomSource + Clock, P: JournalFiles,
         journal,
         &mut door,
         &mut patience,
+        &line,
         output,
     )
 }

@@ -4,13 +4,14 @@ ghost use Rattle.mi_value.specs.declared.limits.TheConstants.{MAX_CONNECTIONS as
 ghost use Rattle.mi_hub.specs.declared.fault.HubFault.{HubFault};
 ghost use Rattle.mi_ledger.specs.Ledger.{hub_of, log_of, IsSettled};
 ghost use Rattle.mi_clients.specs.Steps.{Step, Makes, GivesNone};
-ghost use Rattle.mi_clients.specs.Row.{ids, Attends, Joins, NoneIsOver, NoneIsWhole, SameStreams, Serves, AllOnlyAsk, StayersOnlyAsk, EachWoken};
+ghost use Rattle.mi_clients.specs.Row.{ids, Attends, Joins, NoneIsOver, NoneIsWhole, SameStreams, Serves, AllOnlyAsk, StayersOnlyAsk, EachWoken, TellsWhatIs};
+ghost use Rattle.mi_clients.specs.ServiceLines.{line_of};
 ghost use Rattle.mi_serving.specs.Turns.{Goes, AllUpTo, ends_serving};
 
 use crate::door::Door;
 use crate::failure::Failure;
 use crate::patience::Patience;
-use mi_clients::{Admission, Client, Duplex, admit, is_any_busy, serve_all};
+use mi_clients::{Admission, Client, Duplex, SchemaLine, admit, is_any_busy, serve_all};
 use mi_ledger::{Ledger, LedgerFault, REPLAYER};
 use mi_log::Log;
 use mi_sessions::Sessions;
@@ -92,9 +93,9 @@ fn accept_all<D: Sessions + Drop, L: Log + Drop>(
     Ok(())
 }
 
-/// What is done once some connections are ready: those that have come are accepted, what is ready is read, its lines are asked, the
-/// replies are sent once the journal stays, and those that are over are let go. What a connection receives are the replies to its own
-/// lines, whole and in their order. A connection keeps its number and its stream, and once its bytes have ended and its lines are asked nothing
+/// What is done once some connections are ready: those that have come are accepted, what is ready is read, its lines are asked, what it asks
+/// of the service is told, the replies are sent once the journal stays, and those that are over are let go. What a connection receives are the
+/// replies to its own lines, whole and in their order. A connection keeps its number and its stream, and once its bytes have ended and its lines are asked nothing
 /// of it is held.
 ///
 /// `Memory` where memory for a reply or for the row is refused, or one that goes holds sessions still once 1,025 lines undid some;
@@ -108,6 +109,7 @@ pub fn take_turn<D: Sessions + Drop, L: Log + Drop>(
     last: &mut u64,
     each: bool,
     buffer: &mut [u8],
+    schema: &SchemaLine,
 ) -> Result<(), LedgerFault>
     requires attends { Attends (ids row.old.items) (hub_of ledger.old).attached }
     requires settled { IsSettled L.appended L.synced ledger.old }
@@ -115,7 +117,8 @@ pub fn take_turn<D: Sessions + Drop, L: Log + Drop>(
     requires room { 0 < length buffer.old }
     ensures serves { OnOk result ((steps : List Step) × Serves (λ _. None) steps row.old.items row.new.items
         × Makes steps (hub_of ledger.old) (hub_of ledger.new) (L.appended (log_of ledger.old)) (L.appended (log_of ledger.new))
-        × StayersOnlyAsk steps row.old.items row.new.items) }
+        × StayersOnlyAsk steps row.old.items row.new.items
+        × TellsWhatIs (λ _. None) (line_of schema.now) steps (hub_of ledger.old) row.old.items) }
     ensures known { OnOk result (AllUpTo last.new row.new.items) }
     ensures rises { last.old ≤ last.new }
     ensures same { OnOk result (SameStreams ⟦<TcpStream as Duplex>⟧.handle last.old row.old.items row.new.items) }
@@ -126,7 +129,7 @@ pub fn take_turn<D: Sessions + Drop, L: Log + Drop>(
     ensures settled { OnOk result (IsSettled L.appended L.synced ledger.new) }
 {
     accept_all(alloc, ledger, door, row, last)?;
-    serve_all(alloc, ledger, row, buffer, each)
+    serve_all(alloc, ledger, row, buffer, each, schema)
 }
 
 /// Waits until something is ready, or for the longest time that is given, and tells the connections.
@@ -147,13 +150,14 @@ fn wait(
 
 /// Serves connections that come through a door until something fails, and says what: `Poll`, `Memory`, `Journal` or `Turns`. With `each` a
 /// line's reply waits for a sync of its own, else for one that all lines of a turn have together. Who is silent for longer than the patience
-/// lasts is let go.
+/// lasts is let go. `schema` is told to whoever asks for it.
 pub fn serve<D: Sessions + Drop, L: Log + Drop, C: Clock>(
     alloc: Global,
     ledger: &mut Ledger<D, L>,
     door: &mut Door,
     patience: &mut Patience<'_, C>,
     each: bool,
+    schema: &SchemaLine,
 ) -> Failure
     requires none { (hub_of ledger.old).attached ≡ [] }
     requires settled { IsSettled L.appended L.synced ledger.old }
@@ -172,7 +176,16 @@ pub fn serve<D: Sessions + Drop, L: Log + Drop, C: Clock>(
             return failure;
         }
         patience.give_up(ledger, &mut row);
-        if let Err(fault) = take_turn(alloc, ledger, door, &mut row, &mut last, each, &mut buffer) {
+        if let Err(fault) = take_turn(
+            alloc,
+            ledger,
+            door,
+            &mut row,
+            &mut last,
+            each,
+            &mut buffer,
+            schema,
+        ) {
             return Failure::of_ledger(fault);
         }
     }

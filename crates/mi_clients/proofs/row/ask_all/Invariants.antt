@@ -1,8 +1,8 @@
 use Rattle.std.proofs.Common.{List}
 use Rattle.mi_ledger.specs.Ledger.{hub_of, log_of, IsSettled}
-use Rattle.mi_clients.specs.Steps.{Step, Makes}
+use Rattle.mi_clients.specs.Steps.{Step, Makes, TellsNone}
 use Rattle.mi_clients.specs.Row.{ids, Attends, EachServed, OpenOnlyAsk}
-use Rattle.mi_clients.specs.Client.{IsAsked}
+use Rattle.mi_clients.specs.Client.{IsAsked, AsksWhatCame}
 use Rattle.mi_clients.proofs.RowLemmas.{HoldsTo, DoneTo}
 use Rattle.mi_clients.proofs.StreamLemmas.{Attended}
 use Rattle.mi_clients.proofs.ServedLemmas.{AskedTo}
@@ -18,7 +18,8 @@ invariant-loop-client g l = record {
   asked : HoldsTo (λ c. IsAsked c) l.client-index l.client-items;
   each : EachServed g.S.Duplex.contents steps l.fn.row.items l.client-items;
   done : DoneTo (λ old new. Attended g.S.Duplex.handle g.S.Duplex.reads g.S.Duplex.has_failed old new) l.client-index l.fn.row.items l.client-items;
-  came : AskedTo g.S.Duplex.remaining steps l.client-index l.fn.row.items l.client-items;
+  came : AskedTo (λ t o y. AsksWhatCame g.S.Duplex.remaining t o y) steps l.client-index l.fn.row.items l.client-items;
+  quiet : TellsNone steps;
   opens : OpenOnlyAsk steps l.client-items;
   makes : Makes steps (hub_of l.fn.ledger) (hub_of l.ledger) (g.L.Log.appended (log_of l.fn.ledger)) (g.L.Log.appended (log_of l.ledger));
 }

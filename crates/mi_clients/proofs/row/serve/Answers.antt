@@ -7,6 +7,7 @@ use Rattle.mi_clients.specs.declared.client.Client.{Client}
 use Rattle.mi_clients.specs.Steps.{AreAsks, AreUndos, asked_by}
 use Rattle.mi_clients.proofs.StepLemmas.{makes_then}
 use Rattle.mi_clients.proofs.ServedLemmas.{on_ok_all, on_ok_both, asked_still, served_read, served_whole, taken_in, asks_others, asks_alone, came_whole, went_on, on_alone, serve_asks_only}
+use Rattle.mi_clients.proofs.TellLemmas.{quiet_join, asks_quiet, undos_quiet}
 use Rattle.mi_clients.proofs.StreamLemmas.{same_owes, same_then, breaks_owes}
 use Rattle.mi_clients.proofs.row.serve.Goals as goal
 
@@ -35,6 +36,7 @@ returns-clause-serves g c =
       asks_others old.conn asked.0 undone.0 asked.1 asked.2 own gone,
       λ on. asks_alone old.conn asked.0 undone.0 asked.1 asked.2 own (on_alone mid last undone.0 settled undone.4 input on),
       serve_asks_only old.conn asked.0 undone.0 asked.1 asked.2 own gone,
+      quiet_join asked.0 undone.0 (asks_quiet old.conn asked.0 asked.1 asked.2 own) (undos_quiet old.conn undone.0 gone),
     )) c.settle.ensures.undoes c.settle.ensures.none c.settle.ensures.input
 
 pub returns-clause-goes_on : goal.returns-clause-goes_on
@@ -45,8 +47,8 @@ returns-clause-goes_on g c =
 
 pub returns-clause-asked : goal.returns-clause-asked
 returns-clause-asked g c =
-    on_ok_both c.settle.result (λ undone same. asked_still c.ask_lines.new.client c.settle.new.client undone.2 same c.in_ok-ask_lines.ensures.all)
-    c.settle.ensures.undoes c.settle.ensures.input
+    on_ok_weaker c.settle.result (λ settled. asked_still c.ask_lines.new.client c.settle.new.client settled c.in_ok-ask_lines.ensures.all)
+    c.settle.ensures.none
 
 pub returns-clause-same : goal.returns-clause-same
 returns-clause-same g c =

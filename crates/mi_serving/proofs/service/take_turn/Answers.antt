@@ -4,6 +4,8 @@ use Rattle.std.proofs.lemmas.Result.{on_ok_weaker}
 use Rattle.mi_ledger.specs.Ledger.{hub_of}
 use Rattle.mi_clients.proofs.StepLemmas.{makes_then}
 use Rattle.mi_clients.proofs.ServedLemmas.{serves_joined, stayers_ask}
+use Rattle.mi_clients.specs.ServiceLines.{line_of}
+use Rattle.mi_clients.proofs.TellLemmas.{is_told_joined}
 use Rattle.mio.specs.Net.{stream_fd}
 use Rattle.mi_clients.proofs.StreamLemmas.{streams_then, streams_stay}
 use Rattle.mi_serving.proofs.TurnLemmas.{up_to_stay}
@@ -17,6 +19,8 @@ returns-clause-serves g c =
       serves_joined (λ _. None) came.0 served.0 c.args.row.now.items c.accept_all.new.row.items c.serve_all.new.row.items came.1 came.2 served.1,
       makes_then came.0 served.0 _ (hub_of c.accept_all.new.ledger) _ _ _ _ came.3 served.2,
       stayers_ask came.0 served.0 c.args.row.now.items c.serve_all.new.row.items came.4 served.3,
+      is_told_joined (λ _. None) (line_of c.args.schema.now) came.0 served.0 came.3.acts _ (hub_of c.accept_all.new.ledger) c.args.row.now.items
+          c.accept_all.new.row.items came.3.done came.1 came.2 served.5,
     )) c.serve_all.ensures.serves
 
 pub returns-clause-known : goal.returns-clause-known

@@ -1,0 +1,428 @@
+-- What the service tells, one step behind another, and over a row.
+use Rattle.std.proofs.Common.{◌≡◌, ◌⊎◌, inl, inr, ℕ, ℤ, ◌<◌, List, [], ◌∷◌, ◌++◌, length, codes, nat_eq, cond, Bool, true, false, Option, refl, sym, ap, ◌∙◌, subst, append-nil, append_assoc, arith}
+use Rattle.std.specs.Prelude.{IfSome}
+use Rattle.std.specs.List.{All}
+use Rattle.std.specs.Io.KnownBytes.{Consumes, IsAtEnd}
+use Rattle.mi_hub.specs.Ended.{ended}
+use Rattle.mi_hub.specs.Run.{HubState}
+use Rattle.mi_replay.specs.Acts.{Act}
+use Rattle.mi_ledger.specs.HeldReplies.{bytes_of}
+use Rattle.mi_ledger.specs.Journals.{IsWholeLine}
+use Rattle.mi_ledger.specs.Ledger.{holder_conn}
+use Rattle.mi_model.specs.Database.{Database}
+use Rattle.mi_clients.specs.Output.{unsent}
+use Rattle.mi_clients.specs.ServiceLines.{is_service, asks_status, asks_schema, form_line, told_to}
+use Rattle.mi_clients.specs.Status.{listed, connection_text, database_text, status_line, memory_line}
+use Rattle.mi_clients.specs.Heard.{heard}
+use Rattle.mi_clients.specs.Input.{waiting}
+use Rattle.mi_clients.specs.Lines.{SameLines, Ends}
+use Rattle.mi_clients.specs.Client.{owed, Owes, HasRoom, MayTell, IsAsked, IsHeard, AsksWhatCame, IsAsFar, Takes, GoesOn, IsWhole, BreaksWith, IsSame, IsRead, IsServed}
+use Rattle.mi_clients.specs.Row.{EachServed, EachAsked, EachTakes, EachSame, EachRead, OpenOnlyAsk, NoneIsWhole, AllBreakWith, TellsWhatIs, Joins}
+use Rattle.mi_clients.specs.Steps.{Step, comes, asks, tells, undoes, goes, given_to, asked_by, told_by, reply_to, GivesOnly, GivesNone, AsksOnly, OnlyAsks}
+use Rattle.mi_clients.specs.Steps.{AreAsks, AreUndos, AreTells, AllTell, TellsNone, TellsSo, DoneBy}
+use Rattle.mi_clients.specs.declared.client.Client.{Client}
+use Rattle.mi_clients.specs.declared.client.Phase.{Phase}
+use Rattle.mi_clients.specs.declared.client.Phase.TheVariants.{Open, Broken}
+use Rattle.mi_clients.proofs.InputLemmas.{unended_back, same_front, first_newline}
+use Rattle.mi_clients.proofs.RowLemmas.{same_test, true_false, front_none, back_none, zip_weaker, zip_then, zip_all}
+use Rattle.mi_clients.proofs.StepLemmas.{done_then}
+use Rattle.mi_clients.proofs.ServedLemmas.{IsIn, in_from, in_to, in_join, zip_both, new_before, asked_join, told_join, only_then, given_behind, served_by}
+use Rattle.mi_clients.proofs.StreamLemmas.{whole_before}
+
+-- ---- lines of the service
+
+-- where the first line is none of the service's, no line of it comes first
+pub other_line : (w line rest : List ℕ) → IsWholeLine line → is_service line ≡ false → w ≡ line ++ rest
+    → (own : List ℕ) × (more : List ℕ) × IsWholeLine own × (is_service own ≡ true) × (w ≡ own ++ more) → ⊥
+other_line w line rest whole other is (own, more, also, own_is, same) =
+    let both : (whole.0 ++ 10 ∷ []) ++ rest ≡ (also.0 ++ 10 ∷ []) ++ more =
+    ap (λ l. l ++ rest) (sym whole.1) ∙ sym is ∙ same ∙ ap (λ l. l ++ more) also.1 in
+    let one : line ≡ own = whole.1 ∙ ap (λ t. t ++ 10 ∷ []) (same_front whole.0 also.0 rest more whole.2 also.2 both) ∙ sym also.1 in
+    true_false (is_service own) own_is (sym (ap is_service one) ∙ other)
+
+-- bytes that begin with a line have a newline
+pub line_waits : (w line rest : List ℕ) → IsWholeLine line → w ≡ line ++ rest → ended w ≡ [] → ⊥
+line_waits w line rest whole is none =
+    first_newline 10 rest refl (unended_back whole.0 (10 ∷ rest)
+    (sym (ap ended (is ∙ ap (λ l. l ++ rest) whole.1 ∙ append_assoc whole.0 (10 ∷ []) rest)) ∙ none))
+
+-- a line has a byte at least
+pub line_some : (line : List ℕ) → IsWholeLine line → ¬ (line ≡ [])
+line_some line whole none = some_byte whole.0 (sym whole.1 ∙ none)
+  where
+    some_byte : (t : List ℕ) → t ++ 10 ∷ [] ≡ [] → ⊥
+    some_byte [] e = cc
+    some_byte (x ∷ t) e = cc
+
+bytes_some : (x : ℕ) (xs : List ℕ) → ¬ (x ∷ xs ≡ [])
+bytes_some x xs e = cc
+
+-- and so has what is told to it
+pub told_some : (status schema line : List ℕ) → ¬ (status ≡ []) → ¬ (schema ≡ []) → ¬ (told_to status schema line ≡ [])
+told_some status schema line p q = by_two (asks_status line) (asks_schema line)
+  where
+    by_two : (a b : Bool) → ¬ (cond a status (cond b schema form_line) ≡ [])
+    by_two true b = p
+    by_two false true = q
+    by_two false false = bytes_some _ _
+
+pub status_some : {S : Type 0} (row : List (Client S)) (s : HubState) → ¬ (status_line row s ≡ [])
+status_some row s = bytes_some _ _
+
+pub memory_some : ¬ (memory_line ≡ [])
+memory_some = bytes_some _ _
+
+pub schema_some : (bytes : List ℕ) → 0 < length bytes → ¬ (bytes ≡ [])
+schema_some [] some e = absurd (omega arith)
+schema_some (x ∷ xs) some e = bytes_some x xs e
+
+-- the parts of a status, one behind another
+pub status_joined : {S : Type 0} (row : List (Client S)) (s : HubState) (h : Option ℕ) (d : Database) (old a b new : List ℕ)
+    → h ≡ holder_conn s.held.holder → d ≡ s.held.database → a ≡ old ++ codes "{\"connections\":["
+    → b ≡ a ++ listed (connection_text h) 0 row → new ≡ b ++ database_text h d → new ≡ old ++ status_line row s
+status_joined row s h d old a b new eh ed ea eb en =
+    let k = codes "{\"connections\":[" in
+    let cs = listed (connection_text h) 0 row in
+    let db = database_text h d in
+    en ∙ ap (λ t. t ++ db) (eb ∙ ap (λ t. t ++ cs) ea) ∙ append_assoc (old ++ k) cs db ∙ append_assoc old k (cs ++ db)
+    ∙ ap (λ x. old ++ (k ++ (listed (connection_text x) 0 row ++ database_text x d))) eh
+    ∙ ap (λ x. old ++ (k ++ (listed (connection_text (holder_conn s.held.holder)) 0 row ++ database_text (holder_conn s.held.holder) x))) ed
+
+-- ---- steps in which nothing is told
+
+pub quiet_join : (xs ys : List Step) → TellsNone xs → TellsNone ys → TellsNone (xs ++ ys)
+quiet_join [] ys p q = q
+quiet_join (comes j ∷ xs) ys p q = quiet_join xs ys p q
+quiet_join (asks j line reply ∷ xs) ys p q = quiet_join xs ys p q
+quiet_join (tells j line text ∷ xs) ys p q = absurd p
+quiet_join (undoes j reply ∷ xs) ys p q = quiet_join xs ys p q
+quiet_join (goes j ∷ xs) ys p q = quiet_join xs ys p q
+
+pub asks_quiet : (conn : ℕ) (steps : List Step) (taken given : List ℕ) → AreAsks conn steps taken given → TellsNone steps
+asks_quiet conn [] taken given p = tt
+asks_quiet conn (comes j ∷ steps) taken given p = absurd p
+asks_quiet conn (asks j line reply ∷ steps) taken given p = asks_quiet conn steps p.1 p.2 p.3
+asks_quiet conn (tells j line text ∷ steps) taken given p = absurd p
+asks_quiet conn (undoes j reply ∷ steps) taken given p = absurd p
+asks_quiet conn (goes j ∷ steps) taken given p = absurd p
+
+pub undos_quiet : (conn : ℕ) (steps : List Step) → AreUndos conn steps → TellsNone steps
+undos_quiet conn [] p = tt
+undos_quiet conn (comes j ∷ steps) p = absurd p
+undos_quiet conn (asks j line reply ∷ steps) p = absurd p
+undos_quiet conn (tells j line text ∷ steps) p = absurd p
+undos_quiet conn (undoes j reply ∷ steps) p = undos_quiet conn steps p.1
+undos_quiet conn (goes j ∷ steps) p = absurd p
+
+-- where nobody is given anything nothing is told
+pub none_quiet : (steps : List Step) (acts : List Act) (old new : HubState) → DoneBy old steps acts new → GivesNone steps → TellsNone steps
+none_quiet [] acts old new p none = tt
+none_quiet (comes j ∷ steps) acts old new p none = none_quiet steps p.2 p.0 new p.4 none
+none_quiet (asks j line reply ∷ steps) acts old new p none =
+    none_quiet steps p.2 p.0 new p.4 (λ k. back_none (reply_to k (asks j line reply)) (given_to k steps) (none k))
+none_quiet (tells j line text ∷ steps) acts old new p none =
+    absurd (p.3.3 (front_none text (given_to j steps) (sym (ap (λ b. cond b text [] ++ given_to j steps) (same_test j)) ∙ none j)))
+none_quiet (undoes j reply ∷ steps) acts old new p none = none_quiet steps p.2 p.0 new p.4 none
+none_quiet (goes j ∷ steps) acts old new p none = none_quiet steps p.2 p.0 new p.4 none
+
+pub quiet_so : (status schema : List ℕ) (steps : List Step) → TellsNone steps → TellsSo status schema steps
+quiet_so status schema [] p = tt
+quiet_so status schema (comes j ∷ steps) p = quiet_so status schema steps p
+quiet_so status schema (asks j line reply ∷ steps) p = quiet_so status schema steps p
+quiet_so status schema (tells j line text ∷ steps) p = absurd p
+quiet_so status schema (undoes j reply ∷ steps) p = quiet_so status schema steps p
+quiet_so status schema (goes j ∷ steps) p = quiet_so status schema steps p
+
+pub so_join : (status schema : List ℕ) (xs ys : List Step) → TellsSo status schema xs → TellsSo status schema ys → TellsSo status schema (xs ++ ys)
+so_join status schema [] ys p q = q
+so_join status schema (comes j ∷ xs) ys p q = so_join status schema xs ys p q
+so_join status schema (asks j line reply ∷ xs) ys p q = so_join status schema xs ys p q
+so_join status schema (tells j line text ∷ xs) ys p q = (p.0, so_join status schema xs ys p.1 q)
+so_join status schema (undoes j reply ∷ xs) ys p q = so_join status schema xs ys p q
+so_join status schema (goes j ∷ xs) ys p q = so_join status schema xs ys p q
+
+-- ---- steps in which something is told
+
+pub tells_only : (conn : ℕ) (steps : List Step) → AreTells conn steps → GivesOnly conn steps
+tells_only conn [] p = λ k other. refl
+tells_only conn (comes j ∷ steps) p = absurd p
+tells_only conn (asks j line reply ∷ steps) p = absurd p
+tells_only conn (tells j line text ∷ steps) p = λ k other.
+    ap (λ n. cond (nat_eq n k) text [] ++ given_to k steps) p.0
+    ∙ ap (λ b. cond b text [] ++ given_to k steps) other
+    ∙ tells_only conn steps p.1 k other
+tells_only conn (undoes j reply ∷ steps) p = absurd p
+tells_only conn (goes j ∷ steps) p = absurd p
+
+pub tells_asked : (conn : ℕ) (steps : List Step) → AreTells conn steps → AsksOnly conn steps
+tells_asked conn [] p = λ k other. refl
+tells_asked conn (comes j ∷ steps) p = absurd p
+tells_asked conn (asks j line reply ∷ steps) p = absurd p
+tells_asked conn (tells j line text ∷ steps) p = λ k other.
+    ap (λ n. cond (nat_eq n k) line [] ++ asked_by k steps) p.0
+    ∙ ap (λ b. cond b line [] ++ asked_by k steps) other
+    ∙ tells_asked conn steps p.1 k other
+tells_asked conn (undoes j reply ∷ steps) p = absurd p
+tells_asked conn (goes j ∷ steps) p = absurd p
+
+pub tells_all : (conn : ℕ) (steps : List Step) → AreTells conn steps → AllTell steps
+tells_all conn [] p = tt
+tells_all conn (comes j ∷ steps) p = absurd p
+tells_all conn (asks j line reply ∷ steps) p = absurd p
+tells_all conn (tells j line text ∷ steps) p = tells_all conn steps p.1
+tells_all conn (undoes j reply ∷ steps) p = absurd p
+tells_all conn (goes j ∷ steps) p = absurd p
+
+pub tell_join : (xs ys : List Step) → AllTell xs → AllTell ys → AllTell (xs ++ ys)
+tell_join [] ys p q = q
+tell_join (comes j ∷ xs) ys p q = absurd p
+tell_join (asks j line reply ∷ xs) ys p q = absurd p
+tell_join (tells j line text ∷ xs) ys p q = tell_join xs ys p q
+tell_join (undoes j reply ∷ xs) ys p q = absurd p
+tell_join (goes j ∷ xs) ys p q = absurd p
+
+-- nobody comes or goes meanwhile
+tell_alone : (k : ℕ) (steps : List Step) → AllTell steps → OnlyAsks k steps
+tell_alone k [] p = tt
+tell_alone k (comes j ∷ steps) p = absurd p
+tell_alone k (asks j line reply ∷ steps) p = absurd p
+tell_alone k (tells j line text ∷ steps) p = tell_alone k steps p
+tell_alone k (undoes j reply ∷ steps) p = absurd p
+tell_alone k (goes j ∷ steps) p = absurd p
+
+-- and each line that is asked is told something
+tell_lines : (k : ℕ) (steps : List Step) → AllTell steps → told_by k steps ≡ asked_by k steps
+tell_lines k [] p = refl
+tell_lines k (comes j ∷ steps) p = absurd p
+tell_lines k (asks j line reply ∷ steps) p = absurd p
+tell_lines k (tells j line text ∷ steps) p = ap (λ t. cond (nat_eq j k) line [] ++ t) (tell_lines k steps p)
+tell_lines k (undoes j reply ∷ steps) p = absurd p
+tell_lines k (goes j ∷ steps) p = absurd p
+
+-- one step
+pub tells_one_given : (conn : ℕ) (line text : List ℕ) → given_to conn (tells conn line text ∷ []) ≡ text
+tells_one_given conn line text = ap (λ b. cond b text [] ++ []) (same_test conn) ∙ append-nil text
+
+pub tells_one_asked : (conn : ℕ) (line text : List ℕ) → asked_by conn (tells conn line text ∷ []) ≡ line
+tells_one_asked conn line text = ap (λ b. cond b line [] ++ []) (same_test conn) ∙ append-nil line
+
+-- ---- one connection
+
+broken_open : (p : Phase) → p ≡ Broken → p ≡ Open → ⊥
+broken_open p h k = cc
+
+module _ {S : Type 0} where
+  was_open : (a b : Client S) → IsAsFar a b → b.phase ≡ Open → a.phase ≡ Open
+  was_open a b (inl broken) is = absurd (broken_open b.phase broken is)
+  was_open a b (inr same) is = sym same ∙ is
+
+  still_broken : (a b : Client S) → IsAsFar a b → a.phase ≡ Broken → b.phase ≡ Broken
+  still_broken a b (inl broken) is = broken
+  still_broken a b (inr same) is = same ∙ is
+
+  -- one that is as it was
+  pub takes_none : (c : Client S) → ¬ MayTell c → Takes [] c c
+  takes_none c never = record {
+    conn = refl;
+    stream = refl;
+    waits = refl;
+    first = refl;
+    far = inr refl;
+    lines = refl;
+    other = λ also. (refl, refl);
+    told = λ may. absurd (never may);
+  }
+
+  -- one that is told something to its line
+  pub takes_line : (line : List ℕ) (a b : Client S) → MayTell a → ¬ (line ≡ []) → b.conn ≡ a.conn → b.stream ≡ a.stream
+      → waiting a.input ≡ line ++ waiting b.input → b.input.is_first ≡ a.input.is_first → IsAsFar a b → b.has_lines ≡ a.has_lines → Takes line a b
+  takes_line line a b may some conn stream waits first far lines = record {
+    conn = conn;
+    stream = stream;
+    waits = waits;
+    first = first;
+    far = far;
+    lines = lines;
+    other = λ no. absurd (no may);
+    told = λ also. inr some;
+  }
+
+  -- replies that were held, and a text behind them, are handed out, or it is broken
+  pub owes_given : (text held : List ℕ) (a b : Client S) → ¬ (a.phase ≡ Broken) → held ≡ bytes_of a.held → bytes_of b.held ≡ [] → b.conn ≡ a.conn
+      → b.stream ≡ a.stream → ((b.phase ≡ Broken) × (unsent b.output ≡ unsent a.output))
+      ⊎ ((b.phase ≡ a.phase) × (unsent b.output ≡ unsent a.output ++ (held ++ text))) → Owes text a b
+  owes_given text held a b sound is none conn stream (inl broken) = record {
+    conn = conn;
+    stream = stream;
+    lost = held ++ text;
+    bytes = append_assoc (unsent a.output) (bytes_of a.held) text ∙ ap (λ t. unsent a.output ++ (t ++ text)) (sym is)
+        ∙ ap (λ t. t ++ (held ++ text)) (sym (append-nil (unsent a.output)) ∙ ap (λ t. t ++ []) (sym broken.1) ∙ ap (λ t. unsent b.output ++ t) (sym none));
+    whole = inl broken.0;
+    broken = λ was. absurd (sound was);
+  }
+  owes_given text held a b sound is none conn stream (inr more) = record {
+    conn = conn;
+    stream = stream;
+    lost = [];
+    bytes = append_assoc (unsent a.output) (bytes_of a.held) text ∙ ap (λ t. unsent a.output ++ (t ++ text)) (sym is) ∙ sym more.1
+        ∙ sym (append-nil (unsent b.output)) ∙ ap (λ t. unsent b.output ++ t) (sym none) ∙ sym (append-nil (owed b));
+    whole = inr refl;
+    broken = λ was. absurd (sound was);
+  }
+
+  -- what it owes doesn't change by what waits of it
+  pub owes_passed : (g : List ℕ) (a c : Client S) {b : Client S} → Owes g b c → b.conn ≡ a.conn → b.stream ≡ a.stream → owed b ≡ owed a
+      → b.phase ≡ a.phase → Owes g a c
+  owes_passed g a c p conn stream same phase = record {
+    conn = p.conn ∙ conn;
+    stream = p.stream ∙ stream;
+    lost = p.lost;
+    bytes = ap (λ t. t ++ g) (sym same) ∙ p.bytes;
+    whole = p.whole;
+    broken = λ was. p.broken (phase ∙ was);
+  }
+
+  -- it is asked of the tables, and told what it asks of the service
+  heard_one : (xs ys : List Step) (a b : Client S) → IsAsked a → Takes (asked_by a.conn ys) a b → AllTell ys → IsHeard (xs ++ ys) b
+  heard_one xs ys a b (inl broken) p all = inl (still_broken a b p.far broken)
+  heard_one xs ys a b (inr (inl none)) p all =
+      inr (inl (unended_back (asked_by a.conn ys) (waiting b.input) (ap ended (sym p.waits) ∙ none)))
+  heard_one xs ys a b (inr (inr (inl full))) p all =
+      inr (inr (inl (subst (λ (x : Client S). ¬ HasRoom x) (sym (p.other (λ may. full may.0.2)).0) full)))
+  heard_one xs ys a b (inr (inr (inr may))) p all = elim (p.told may) [
+    | inl broken ↦ inl broken
+    | inr some ↦ inr (inr (inr (λ none. some (
+        sym (tell_lines a.conn ys all) ∙ ap (λ k. told_by k ys) (sym p.conn)
+        ∙ back_none (told_by b.conn xs) (told_by b.conn ys) (sym (told_join b.conn xs ys) ∙ none)))))
+  ]
+
+  -- what came is asked of the tables or told, or waits
+  came_told : (remaining : S → Option (List ℕ)) (taken more : List ℕ) (x y z : Client S) → AsksWhatCame remaining taken x y → Takes more y z
+      → AsksWhatCame remaining (taken ++ more) x z
+  came_told remaining taken more x y z p q = (
+    p.0,
+    subst (λ s. Consumes (remaining x.stream) (remaining s) p.0) (sym q.stream) p.1,
+    λ no. ((p.2 no).0, λ is. (p.2 no).1 (was_open y z q.far is)),
+    elim p.3 [
+      | inl broken ↦ inl (
+        still_broken y z q.far broken.0,
+        ap (λ t. t ++ more) broken.1 ∙ (q.other (λ may. may.0.0 broken.0)).1,
+      )
+      | inr (inl lines) ↦ inr (inl (
+        subst (SameLines (heard x.input.is_first (waiting x.input ++ p.0))) moved lines.0,
+        q.first ∙ lines.1,
+        λ last is. lines.2 last (was_open y z q.far is),
+      ))
+      | inr (inr ends) ↦ inr (inr (
+        λ is. ends.0 (was_open y z q.far is),
+        ends.1,
+        subst (λ s. IfSome (remaining x.stream) (λ _. IsAtEnd (remaining s))) (sym q.stream) ends.2,
+        subst (Ends (waiting x.input)) moved ends.3,
+      ))
+    ],
+  )
+    where
+      moved : taken ++ waiting y.input ≡ (taken ++ more) ++ waiting z.input
+      moved = ap (λ w. taken ++ w) q.waits ∙ sym (append_assoc taken more (waiting z.input))
+
+  -- ---- a row
+
+  pub each_heard : (xs ys : List Step) (b m : List (Client S)) → All (λ c. IsAsked c) b → EachTakes ys b m → AllTell ys → All (λ c. IsHeard (xs ++ ys) c) m
+  each_heard xs ys b m asked takes all =
+      zip_all (λ c. IsAsked c) (λ c. IsHeard (xs ++ ys) c) b m
+      (zip_weaker (λ x y. Takes (asked_by x.conn ys) x y) (λ x y. IsAsked x → IsHeard (xs ++ ys) y) (λ x y p was. heard_one xs ys x y was p all) b m takes) asked
+
+  pub each_came_told : (contents remaining : S → Option (List ℕ)) (xs ys : List Step) (a b m : List (Client S)) → EachServed contents xs a b
+      → EachAsked remaining xs a b → EachTakes ys b m → EachAsked remaining (xs ++ ys) a m
+  each_came_told contents remaining xs ys a b m served asked takes =
+      let first : Client S → Client S → Type 0 = λ x y. IsServed contents (given_to x.conn xs) x y in
+      let came : Client S → Client S → Type 0 = λ x y. AsksWhatCame remaining (asked_by x.conn xs) x y in
+      let more : Client S → Client S → Type 0 = λ x y. Takes (asked_by x.conn ys) x y in
+      zip_then (λ x y. first x y × came x y) more (λ x y. AsksWhatCame remaining (asked_by x.conn (xs ++ ys)) x y)
+      (λ x y z p q. subst (λ t. AsksWhatCame remaining t x z)
+      (ap (λ k. asked_by x.conn xs ++ asked_by k ys) p.0.conn ∙ sym (asked_join x.conn xs ys))
+      (came_told remaining (asked_by x.conn xs) (asked_by y.conn ys) x y z p.1 q))
+      a b m (zip_both first came a b served asked) takes
+
+  pub opens_told : (xs ys : List Step) (b m : List (Client S)) → OpenOnlyAsk xs b → EachTakes ys b m → AllTell ys → OpenOnlyAsk (xs ++ ys) m
+  opens_told xs ys [] [] p q all = tt
+  opens_told xs ys [] (z ∷ m) p q all = absurd q
+  opens_told xs ys (y ∷ b) [] p q all = absurd q
+  opens_told xs ys (y ∷ b) (z ∷ m) p q all = (
+    λ on. subst (λ k. OnlyAsks k (xs ++ ys)) (sym q.0.conn) (only_then y.conn xs ys (p.0 (was_on on)) (tell_alone y.conn ys all)),
+    opens_told xs ys b m p.1 q.1 all,
+  )
+    where
+      was_on : GoesOn z → GoesOn y
+      was_on (inl is) = inl (was_open y z q.0.far is)
+      was_on (inr some) = inr (λ none. some (unended_back (asked_by y.conn ys) (waiting z.input) (ap ended (sym q.0.waits) ∙ none)))
+
+  pub whole_told : (ys : List Step) (b m : List (Client S)) → NoneIsWhole b → EachTakes ys b m → NoneIsWhole m
+  whole_told ys b m none takes =
+      zip_all (λ c. ¬ IsWhole c) (λ c. ¬ IsWhole c) b m
+      (zip_weaker (λ x y. Takes (asked_by x.conn ys) x y) (λ x y. ¬ IsWhole x → ¬ IsWhole y) (λ x y p. whole_before x y p.far p.lines) b m takes) none
+
+  pub same_told : (handle : S → ℤ) (ys : List Step) (a b m : List (Client S)) → EachSame handle a b → EachTakes ys b m → EachSame handle a m
+  same_told handle ys a b m same takes =
+      zip_then (λ x y. IsSame handle x y) (λ x y. Takes (asked_by x.conn ys) x y) (λ x y. IsSame handle x y)
+      (λ x y z p q. (q.conn ∙ p.0, ap handle q.stream ∙ p.1)) a b m same takes
+
+  pub read_told : (reads : S → Option ℕ) (ys : List Step) (a b m : List (Client S)) → EachRead reads a b → EachTakes ys b m → EachRead reads a m
+  read_told reads ys a b m read takes =
+      zip_then (λ x y. IsRead reads x y) (λ x y. Takes (asked_by x.conn ys) x y) (λ x y. IsRead reads x y)
+      (λ x y z p q wants. ap reads q.stream ∙ p wants) a b m read takes
+
+  pub breaks_told : (has_failed : S → Bool) (ys : List Step) (b m : List (Client S)) → AllBreakWith has_failed b → EachTakes ys b m → AllBreakWith has_failed m
+  breaks_told has_failed ys b m breaks takes =
+      zip_all (λ c. BreaksWith has_failed c) (λ c. BreaksWith has_failed c) b m
+      (zip_weaker (λ x y. Takes (asked_by x.conn ys) x y) (λ x y. BreaksWith has_failed x → BreaksWith has_failed y)
+      (λ x y p was failed. still_broken x y p.far (was (ap has_failed (sym p.stream) ∙ failed))) b m takes) breaks
+
+  -- ---- what is told is so
+
+  module _ (contents : S → Option (List ℕ)) (schema : List ℕ) where
+    -- more is done behind it
+    pub is_told_on : (xs ys : List Step) (start : HubState) (olds : List (Client S)) → TellsWhatIs contents schema xs start olds → TellsNone ys
+        → TellsWhatIs contents schema (xs ++ ys) start olds
+    is_told_on xs ys start olds p quiet = record {
+      first = p.first;
+      later = p.later ++ ys;
+      parts = ap (λ zs. zs ++ ys) p.parts ∙ append_assoc p.first p.later ys;
+      acts = p.acts;
+      hub = p.hub;
+      done = p.done;
+      row = p.row;
+      attends = p.attends;
+      from = p.from;
+      status = p.status;
+      «is» = p.«is»;
+      told = so_join p.status schema xs ys p.told (quiet_so p.status schema ys quiet);
+    }
+
+    -- some come before it
+    pub is_told_joined : (xs ys : List Step) (acts : List Act) (start mid : HubState) (olds joined : List (Client S)) → DoneBy start xs acts mid
+        → GivesNone xs → Joins olds joined → TellsWhatIs contents schema ys mid joined → TellsWhatIs contents schema (xs ++ ys) start olds
+    is_told_joined xs ys acts start mid olds joined done none joins p = record {
+      first = xs ++ p.first;
+      later = p.later;
+      parts = ap (λ zs. xs ++ zs) p.parts ∙ sym (append_assoc xs p.first p.later);
+      acts = acts ++ p.acts;
+      hub = p.hub;
+      done = done_then xs p.first acts p.acts start mid p.hub done p.done;
+      row = p.row;
+      attends = p.attends;
+      from = λ c h. let r = p.from c h in (
+        r.0,
+        elim r.1 [
+          | inl here ↦ elim (in_join olds joins.0 r.0 (subst (IsIn r.0) joins.1 (in_from joined r.0 here))) [
+            | inl old ↦ inl (in_to olds r.0 old)
+            | inr comer ↦ inr (joins.2 r.0 (in_to joins.0 r.0 comer))
+          ]
+          | inr came ↦ inr (new_before r.0 olds joined joins.0 joins.1 came)
+        ],
+        served_by contents (given_to r.0.conn p.first) (given_to r.0.conn (xs ++ p.first)) r.0 c (sym (given_behind r.0.conn xs p.first none)) r.2,
+      );
+      status = p.status;
+      «is» = p.«is»;
+      told = so_join p.status schema xs ys (quiet_so p.status schema xs (none_quiet xs acts start mid done none)) p.told;
+    }

@@ -1,0 +1,58 @@
+-- The line that tells the status of a service: its connections, who of them holds sessions, how many sessions are open, and how many rows
+-- each table has. With connection 2 alone, which holds the one session over an empty table:
+-- {"connections":[{"holds":true,"number":2,"unsent":0}],"depth":1,"holder":2,"ok":true,"tables":[{"name":"accounts","size":0}],"version":"0.1.0"}
+use Rattle.std.specs.Prelude.{◌≡◌, ◌⊎◌, ℕ, ◌+◌, List, [], ◌∷◌, ◌++◌, length, Bool, true, false, ◌==◌, if◌then◌else◌, Option, Some, None, codes, decimal}
+use Rattle.mi_catalog.specs.Shape.{Shape}
+use Rattle.mi_model.specs.Database.{Database, table_of, depth}
+use Rattle.mi_model.specs.Table.{size}
+use Rattle.mi_hub.specs.Run.{HubState}
+use Rattle.mi_ledger.specs.Ledger.{holder_conn, is_conn}
+use Rattle.mi_clients.specs.Client.{owed}
+use Rattle.mi_clients.specs.declared.client.Client.{Client}
+
+-- a comma stands before each but the first
+abbrev pub comma_before : ℕ → List ℕ
+comma_before n = if n == 0 then [] else codes ","
+
+-- the texts of a list's items, each with its place, from this place on
+abbrev pub listed : {A : Type 0} → (ℕ → A → List ℕ) → ℕ → List A → List ℕ
+listed text n [] = []
+listed text n (x ∷ xs) = comma_before n ++ (text n x ++ listed text (n + 1) xs)
+
+abbrev pub flag_text : Bool → List ℕ
+flag_text true = codes "true"
+flag_text false = codes "false"
+
+-- a connection: whether it holds sessions, its number, and how many bytes of its replies are unsent
+abbrev pub connection_text : {S : Type 0} → Option ℕ → ℕ → Client S → List ℕ
+connection_text holder n c =
+    codes "{\"holds\":" ++ (flag_text (is_conn holder c.conn) ++ (codes ",\"number\":" ++ (decimal c.conn
+    ++ (codes ",\"unsent\":" ++ (decimal (length (owed c)) ++ codes "}")))))
+
+abbrev pub holder_text : Option ℕ → List ℕ
+holder_text None = codes "null"
+holder_text (Some conn) = decimal conn
+
+-- a table: its name, and how many rows it has
+abbrev pub table_text : Database → ℕ → Shape → List ℕ
+table_text d n s = codes "{\"name\":\"" ++ (s.table_name ++ (codes "\",\"size\":" ++ (decimal (size (table_of d n)) ++ codes "}")))
+
+-- what is said of a database, some of whose sessions this connection may hold
+abbrev pub database_text : Option ℕ → Database → List ℕ
+database_text holder d =
+    codes "],\"depth\":" ++ (decimal (depth d) ++ (codes ",\"holder\":" ++ (holder_text holder ++ (codes ",\"ok\":true,\"tables\":["
+    ++ (listed (table_text d) 0 d.catalog.tables ++ codes "],\"version\":\"0.1.0\"}\n")))))
+
+-- the status of a service with these connections over this hub
+abbrev pub status_line : {S : Type 0} → List (Client S) → HubState → List ℕ
+status_line row s =
+    codes "{\"connections\":[" ++ (listed (connection_text (holder_conn s.held.holder)) 0 row
+    ++ database_text (holder_conn s.held.holder) s.held.database)
+
+-- what is told where memory for a status is refused
+abbrev pub memory_line : List ℕ
+memory_line = codes "{\"error\":\"memory\",\"ok\":false}\n"
+
+-- a line tells that status, or that memory for it is refused
+abbrev pub IsStatus : {S : Type 0} → List (Client S) → HubState → List ℕ → Type 0
+IsStatus row s line = (line ≡ status_line row s) ⊎ (line ≡ memory_line)

@@ -1,0 +1,167 @@
+//! The line that tells the status of a service, made of its connections and its hub. It changes neither.
+ghost use Rattle.std.specs.Prelude.{◌≡◌, ◌++◌, decimal, IfOk, OnOk};
+ghost use Rattle.std.specs.String.{string_bytes};
+ghost use Rattle.mi_catalog.specs.Shape.{schema_at};
+ghost use Rattle.mi_catalog.specs.Fitting.{HasTable};
+ghost use Rattle.mi_ledger.specs.Ledger.{is_conn};
+ghost use Rattle.mi_clients.specs.Status as spec;
+
+use crate::client::Client;
+use mi_hub::Hub;
+use mi_sessions::Sessions;
+use std::alloc::{AllocError, Global};
+
+/// Adds a number.
+fn add_number(alloc: Global, text: &mut String, number: u64) -> Result<(), AllocError>
+    ensures { OnOk result (string_bytes text.new ≡ string_bytes text.old ++ decimal number) }
+{
+    let digits = number.to_string(alloc)?;
+    text.push_str(digits.as_str())
+}
+
+/// Adds the comma that stands before each item of a list but the first.
+fn add_comma(text: &mut String, place: usize) -> Result<(), AllocError>
+    ensures { OnOk result (string_bytes text.new ≡ string_bytes text.old ++ spec.comma_before place) }
+{
+    if place == 0 {
+        return Ok(());
+    }
+    text.push_str(",")
+}
+
+/// Whether a connection is the holder.
+fn is_holder(holder: Option<u64>, conn: u64) -> bool
+    ensures { result ≡ is_conn holder conn }
+{
+    match holder {
+        Some(other) => other == conn,
+        None => false,
+    }
+}
+
+/// The word of a flag.
+fn flag_word(flag: bool) -> &'static str
+    ensures { result.now ≡ spec.flag_text flag }
+{
+    if flag { "true" } else { "false" }
+}
+
+/// Adds a connection: whether it holds sessions, its number, and how many bytes of its replies are unsent.
+fn add_connection<S>(
+    alloc: Global,
+    text: &mut String,
+    holder: Option<u64>,
+    client: &Client<S>,
+) -> Result<(), AllocError>
+    ensures { OnOk result (string_bytes text.new ≡ string_bytes text.old ++ spec.connection_text holder 0 client.now) }
+{
+    text.push_str("{\"holds\":")?;
+    text.push_str(flag_word(is_holder(holder, client.conn())))?;
+    text.push_str(",\"number\":")?;
+    add_number(alloc, text, client.conn())?;
+    text.push_str(",\"unsent\":")?;
+    add_number(alloc, text, client.owed_bytes() as u64)?;
+    text.push_str("}")
+}
+
+/// Adds the connections of a row.
+fn add_connections<S>(
+    alloc: Global,
+    text: &mut String,
+    holder: Option<u64>,
+    row: &[Client<S>],
+) -> Result<(), AllocError>
+    ensures { OnOk result (string_bytes text.new ≡ string_bytes text.old ++ spec.listed (spec.connection_text holder) 0 row.now) }
+{
+    'row: for i in 0..row.len() {
+        add_comma(text, i)?;
+        add_connection(alloc, text, holder, &row[i])?;
+    }
+    Ok(())
+}
+
+/// Adds the holder's number, where there is one.
+fn add_holder(alloc: Global, text: &mut String, holder: Option<u64>) -> Result<(), AllocError>
+    ensures { OnOk result (string_bytes text.new ≡ string_bytes text.old ++ spec.holder_text holder) }
+{
+    match holder {
+        Some(conn) => add_number(alloc, text, conn),
+        None => text.push_str("null"),
+    }
+}
+
+/// Adds a table: its name, and how many rows it has.
+fn add_table<D: Sessions>(
+    alloc: Global,
+    text: &mut String,
+    database: &D,
+    table: usize,
+) -> Result<(), AllocError>
+    requires { HasTable (D.state database.now).catalog table }
+    ensures { OnOk result (string_bytes text.new ≡ string_bytes text.old
+        ++ spec.table_text (D.state database.now) table (schema_at (D.state database.now).catalog table)) }
+{
+    text.push_str("{\"name\":\"")?;
+    text.push_str(database.catalog().table(table).table_name())?;
+    text.push_str("\",\"size\":")?;
+    add_number(alloc, text, database.size(table))?;
+    text.push_str("}")
+}
+
+/// Adds the tables of a database.
+fn add_tables<D: Sessions>(alloc: Global, text: &mut String, database: &D) -> Result<(), AllocError>
+    ensures { OnOk result (string_bytes text.new ≡ string_bytes text.old
+        ++ spec.listed (spec.table_text (D.state database.now)) 0 (D.state database.now).catalog.tables) }
+{
+    'tables: for i in 0..database.catalog().table_count() {
+        add_comma(text, i)?;
+        add_table(alloc, text, database, i)?;
+    }
+    Ok(())
+}
+
+/// Adds what a database and its sessions are.
+fn add_database<D: Sessions>(
+    alloc: Global,
+    text: &mut String,
+    database: &D,
+    holder: Option<u64>,
+) -> Result<(), AllocError>
+    ensures { OnOk result (string_bytes text.new ≡ string_bytes text.old ++ spec.database_text holder (D.state database.now)) }
+{
+    text.push_str("],\"depth\":")?;
+    add_number(alloc, text, database.depth())?;
+    text.push_str(",\"holder\":")?;
+    add_holder(alloc, text, holder)?;
+    text.push_str(",\"ok\":true,\"tables\":[")?;
+    add_tables(alloc, text, database)?;
+    text.push_str("],\"version\":\"0.1.0\"}\n")
+}
+
+/// Adds the line of the status.
+fn add_status<D: Sessions + Drop, S>(
+    alloc: Global,
+    text: &mut String,
+    hub: &Hub<D>,
+    row: &[Client<S>],
+) -> Result<(), AllocError>
+    ensures { OnOk result (string_bytes text.new ≡ string_bytes text.old ++ spec.status_line row.now hub.now) }
+{
+    let holder = hub.holder();
+    text.push_str("{\"connections\":[")?;
+    add_connections(alloc, text, holder, row)?;
+    add_database(alloc, text, hub.database(), holder)
+}
+
+/// The line that tells the status of a service.
+pub(crate) fn status_line<D: Sessions + Drop, S>(
+    alloc: Global,
+    hub: &Hub<D>,
+    row: &[Client<S>],
+) -> Result<String, AllocError>
+    ensures { IfOk result (λ line. string_bytes line ≡ spec.status_line row.now hub.now) }
+{
+    let mut text = String::new(alloc);
+    add_status(alloc, &mut text, hub, row)?;
+    Ok(text)
+}

@@ -1,0 +1,159 @@
+//! What the service tells to lines of its own. It asks the tables nothing, and changes no database.
+ghost use Rattle.std.specs.Prelude.{◌≡◌, ◌⊎◌, ◌++◌, ℕ, List, [], true, Err, OnOk, OnErr, IfSome};
+ghost use Rattle.std.specs.String.{string_bytes};
+ghost use Rattle.std.specs.Io.KnownBytes.{Keeps};
+ghost use Rattle.mi_ledger.specs.Ledger.{hub_of, log_of, IsSettled};
+ghost use Rattle.mi_clients.specs.Client.{Owes, Takes, IsAsFar};
+ghost use Rattle.mi_clients.specs.Output.{unsent};
+ghost use Rattle.mi_clients.specs.Row.{ids, Attends, EachServed, EachTakes};
+ghost use Rattle.mi_clients.specs.ServiceLines.{line_of};
+ghost use Rattle.mi_clients.specs.Status.{IsStatus, status_line};
+ghost use Rattle.mi_clients.specs.Steps.{Step, Makes, AreTells, AllTell, TellsSo, given_to, asked_by};
+ghost use Rattle.mi_clients.specs.declared.client.Phase.TheVariants as phases;
+
+use crate::asking::{hand_out, take_held};
+use crate::client::{Client, Phase};
+use crate::duplex::Duplex;
+use crate::schema_line::SchemaLine;
+use crate::service_lines::told_to;
+use crate::status::status_line;
+use mi_ledger::{Ledger, LedgerFault};
+use mi_log::Log;
+use mi_sessions::Sessions;
+use std::alloc::Global;
+
+/// What is told where memory for the status is refused.
+const MEMORY: &[u8] = b"{\"error\":\"memory\",\"ok\":false}\n";
+
+/// Bytes that were released, and a text behind them, wait for the stream. Without room for them the connection is broken.
+fn put_behind<S>(client: &mut Client<S>, released: Vec<u8>, text: &[u8])
+    ensures unsent { ((client.new.phase ≡ phases.Broken) × (unsent client.new.output ≡ unsent client.old.output))
+        ⊎ ((client.new.phase ≡ client.old.phase) × (unsent client.new.output ≡ unsent client.old.output ++ (released.items ++ text.now))) }
+    ensures input { client.new.input ≡ client.old.input }
+    ensures has_lines { client.new.has_lines ≡ client.old.has_lines }
+    ensures same { client.new ≡ record client.old { input = client.new.input; output = client.new.output; phase = client.new.phase; has_lines = client.new.has_lines; lines = client.new.lines; all_asked = client.new.all_asked } }
+{
+    let mut bytes = released;
+    match bytes.extend_from_slice(text) {
+        Ok(()) => hand_out(client, bytes),
+        Err(_error) => client.phase = Phase::Broken,
+    }
+}
+
+/// Hands the replies of a connection out, and a text behind them, once all that was appended stays. Without room for them it is broken.
+fn give<D: Sessions + Drop, L: Log + Drop, S>(
+    ledger: &mut Ledger<D, L>,
+    client: &mut Client<S>,
+    text: &[u8],
+) -> Result<(), LedgerFault>
+    requires settled { IsSettled L.appended L.synced ledger.old }
+    requires sound { ¬ (client.old.phase ≡ phases.Broken) }
+    ensures stays { OnOk result (Keeps (L.appended (log_of ledger.new)) (L.synced (log_of ledger.new))) }
+    ensures owes { OnOk result (Owes text.now client.old client.new) }
+    ensures far { OnOk result (IsAsFar client.old client.new) }
+    ensures input { OnOk result (client.new.input ≡ client.old.input) }
+    ensures has_lines { OnOk result (client.new.has_lines ≡ client.old.has_lines) }
+    ensures hub { hub_of ledger.new ≡ hub_of ledger.old }
+    ensures appended { Keeps (L.appended (log_of ledger.old)) (L.appended (log_of ledger.new)) }
+    ensures failed { OnErr result ((result ≡ Err LedgerFault.Journal) × (L.has_failed (log_of ledger.new) ≡ true)) }
+    ensures settled { IsSettled L.appended L.synced ledger.new }
+{
+    let held = take_held(client);
+    let released = ledger.release(held)?;
+    put_behind(client, released, text);
+    Ok(())
+}
+
+/// Tells a connection what the first line of it that waits asks of the service, where its lines may be asked and that line is the service's
+/// own. What it asked before is replied in front of that.
+fn tell<D: Sessions + Drop, L: Log + Drop, S>(
+    ledger: &mut Ledger<D, L>,
+    client: &mut Client<S>,
+    status: &[u8],
+    schema: &SchemaLine,
+) -> Result<(), LedgerFault>
+    requires settled { IsSettled L.appended L.synced ledger.old }
+    requires some { ¬ (status.now ≡ []) }
+    ensures tells { OnOk result ((steps : List Step) × AreTells client.old.conn steps × TellsSo status.now (line_of schema.now) steps
+        × Owes (given_to client.old.conn steps) client.old client.new × Takes (asked_by client.old.conn steps) client.old client.new
+        × Makes steps (hub_of ledger.old) (hub_of ledger.new) (L.appended (log_of ledger.old)) (L.appended (log_of ledger.new))) }
+    ensures hub { OnOk result (hub_of ledger.new ≡ hub_of ledger.old) }
+    ensures failed { result ≡ Err LedgerFault.Journal → L.has_failed (log_of ledger.new) ≡ true }
+    ensures settled { OnOk result (IsSettled L.appended L.synced ledger.new) }
+{
+    let Some(line) = client.service_line() else {
+        return Ok(());
+    };
+    let text = told_to(line, status, schema.as_slice());
+    let count = line.len();
+    client.input.pass(count);
+    give(ledger, client, text)?;
+    Ok(())
+}
+
+/// Tells each connection of a row what it asks of the service, by this line of the status.
+fn tell_each<D: Sessions + Drop, L: Log + Drop, S: Duplex>(
+    ledger: &mut Ledger<D, L>,
+    row: &mut Vec<Client<S>>,
+    status: &[u8],
+    schema: &SchemaLine,
+) -> Result<(), LedgerFault>
+    requires attends { Attends (ids row.old.items) (hub_of ledger.old).attached }
+    requires settled { IsSettled L.appended L.synced ledger.old }
+    requires some { ¬ (status.now ≡ []) }
+    ensures tells { OnOk result ((steps : List Step) × AllTell steps × TellsSo status.now (line_of schema.now) steps
+        × EachServed S.contents steps row.old.items row.new.items × EachTakes steps row.old.items row.new.items
+        × Makes steps (hub_of ledger.old) (hub_of ledger.new) (L.appended (log_of ledger.old)) (L.appended (log_of ledger.new))) }
+    ensures attends { OnOk result (Attends (ids row.new.items) (hub_of ledger.new).attached) }
+    ensures failed { result ≡ Err LedgerFault.Journal → L.has_failed (log_of ledger.new) ≡ true }
+    ensures settled { OnOk result (IsSettled L.appended L.synced ledger.new) }
+{
+    for client in row.iter_mut() {
+        tell(ledger, client, status, schema)?;
+    }
+    Ok(())
+}
+
+/// The line of the status, where a connection of a row asks the service something. None where memory for it is refused.
+fn status_if_asked<D: Sessions + Drop, L: Log + Drop, S>(
+    alloc: Global,
+    ledger: &Ledger<D, L>,
+    row: &[Client<S>],
+) -> Option<String>
+    ensures { IfSome result (λ line. string_bytes line ≡ status_line row.now (hub_of ledger.now)) }
+{
+    for client in row {
+        if client.service_line().is_some() {
+            return match status_line(alloc, ledger.hub(), row) {
+                Ok(line) => Some(line),
+                Err(_error) => None,
+            };
+        }
+    }
+    None
+}
+
+/// Tells each connection of a row what it asks of the service: the status of these connections and this hub, the schema, or that its form is
+/// refused. The status is that of all of them before any is told something.
+pub fn tell_all<D: Sessions + Drop, L: Log + Drop, S: Duplex>(
+    alloc: Global,
+    ledger: &mut Ledger<D, L>,
+    row: &mut Vec<Client<S>>,
+    schema: &SchemaLine,
+) -> Result<(), LedgerFault>
+    requires attends { Attends (ids row.old.items) (hub_of ledger.old).attached }
+    requires settled { IsSettled L.appended L.synced ledger.old }
+    ensures tells { OnOk result ((steps : List Step) × (status : List ℕ) × IsStatus row.old.items (hub_of ledger.old) status
+        × AllTell steps × TellsSo status (line_of schema.now) steps
+        × EachServed S.contents steps row.old.items row.new.items × EachTakes steps row.old.items row.new.items
+        × Makes steps (hub_of ledger.old) (hub_of ledger.new) (L.appended (log_of ledger.old)) (L.appended (log_of ledger.new))) }
+    ensures attends { OnOk result (Attends (ids row.new.items) (hub_of ledger.new).attached) }
+    ensures failed { result ≡ Err LedgerFault.Journal → L.has_failed (log_of ledger.new) ≡ true }
+    ensures settled { OnOk result (IsSettled L.appended L.synced ledger.new) }
+{
+    let line = status_if_asked(alloc, ledger, row.as_slice());
+    match &line {
+        Some(line) => tell_each(ledger, row, line.as_bytes(), schema),
+        None => tell_each(ledger, row, MEMORY, schema),
+    }
+}
