@@ -16,9 +16,10 @@ _weltiyo_options() {
         import) echo "$all --table --keep-going --resume --renumber --references --dump --force --format" ;;
         top) echo "$all --journal --pid --every --count" ;;
         metrics) echo "$all --journal --pid --every --count --file" ;;
+        status) echo "$all --json" ;;
         plot) echo "$all --journal --table --column --points --bins --svg --load" ;;
         web) echo "$all --journal --port --write" ;;
-        '') echo "$all --run --tables --times --version prompt dump load export import top metrics plot web" ;;
+        '') echo "$all --run --tables --times --version prompt dump load export import top metrics status plot web" ;;
         *) echo "$all --run --tables --times" ;;
     esac
 }

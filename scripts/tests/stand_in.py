@@ -11,6 +11,7 @@ fault, which the scripts are to find:
     dies     it ends by itself, a while after its connections"""
 import argparse
 import fcntl
+import json
 import os
 import selectors
 import socket
@@ -117,6 +118,10 @@ class Journal:
         self.waits = False
 
 
+def compact(reply):
+    return json.dumps(reply, separators=(",", ":"), sort_keys=True, ensure_ascii=False).encode() + b"\n"
+
+
 class Client:
     def __init__(self, number, stream):
         self.number, self.stream = number, stream
@@ -139,7 +144,11 @@ class Client:
 class Service:
     def __init__(self, options):
         schema = mi_client.schema.Schema.read(options.schema) if options.schema else mi_client.schema.Schema.built_in()
-        self.reference = Reference(schemas_of(schema), schema.first_revision)
+        self.reference, self.tables = Reference(schemas_of(schema), schema.first_revision), [it.name for it in schema.tables]
+        self.text = mi_client.schema.BUILT_IN
+        if options.schema:
+            with open(options.schema, encoding="utf-8") as file:
+                self.text = file.read()
         wanted = f'{{"journal":1,"revision":{schema.first_revision},"schema":"{mi_client.meaning.hash_of(schema)}"}}'.encode()
         self.journal = Journal(options.journal, self.reference, wanted, options.sync)
         self.listener = socket.create_server(("127.0.0.1", options.listen), backlog=128)
@@ -176,6 +185,19 @@ class Service:
         del self.clients[client.number]
         self.journal.gone(self.reference, client.number)
 
+    def told(self, text):
+        """What is told to a line of the service's own."""
+        asked = text[:-1] if text.endswith(b"\r") else text
+        if asked == b'{"service":"schema"}':
+            return compact({"ok": True, "schema": self.text})
+        if asked != b'{"service":"status"}':
+            return compact({"error": "form", "ok": False})
+        holder = self.reference.holder
+        connections = [{"holds": it.number == holder, "number": it.number, "unsent": len(it.out) + len(it.held)} for it in self.clients.values()]
+        tables = [{"name": it, "size": json.loads(self.reference.answer(0, json.dumps({"cmd": "size", "table": it}).encode()))["size"]} for it in self.tables]
+        depth = json.loads(self.reference.answer(0, b'{"cmd":"revision"}'))["depth"]
+        return compact({"connections": connections, "depth": depth, "holder": holder, "ok": True, "tables": tables, "version": "0.1.0"})
+
     def ask(self, client):
         """Lines of a connection, as long as its replies have room."""
         while client.lines and (len(client.out) + len(client.held) <= BOUND or PLANT == "hoards"):
@@ -187,8 +209,9 @@ class Service:
                 time.sleep(0.2)
                 stop(1, "it died")
             lacks = PLANT == "lacks" and self.asked % 20 == 0
-            reply = MEMORY if lacks else self.reference.answer_ended(client.number, text)
-            keep = is_kept(text, reply) and holder in (None, client.number)
+            own = text.startswith(b'{"service":"')
+            reply = MEMORY if lacks else self.told(text) if own else self.reference.answer_ended(client.number, text)
+            keep = not own and is_kept(text, reply) and holder in (None, client.number)
             client.held += reply
             if PLANT == "crossed" and self.asked % 97 == 0:
                 for it in self.clients.values():

@@ -18,6 +18,7 @@ TOOLS = {
     "import": ("transfer", "main_import", "inserts the rows of a CSV file or of JSON lines"),
     "top": ("top", "main", "shows a running server: rows, memory, bytes a second, sessions and who holds them"),
     "metrics": ("top", "main_metrics", "the same once, as text that Prometheus reads"),
+    "status": ("top", "main_status", "shows the connections of a running service, and who of them holds sessions"),
     "plot": ("plot", "main", "draws how an index is distributed, or a column along a ranked index"),
     "web": ("web", "main", "shows the tables of a running server in a browser"),
 }

@@ -1,18 +1,20 @@
-"""The tools top and metrics: what a running server holds and does, from its replies and from the system. The server tells no
+"""The tools top, metrics and status: what a running server holds and does, from its replies and from the system. The server tells no
 count of lines, so the bytes that it reads and writes stand for them, without those of the tool itself over a connection."""
 from __future__ import annotations
 
 import argparse
+import json
 import sys
 import time
-from typing import Callable, List, NamedTuple, Optional, Tuple
+from typing import Any, Callable, Dict, List, NamedTuple, Optional, Tuple
 
 from mi_client import process
 from mi_client.database import Database
 from mi_client.errors import Ended, Refused
-from mi_client.opening import add_source, opened, source_words, status_of, why
+from mi_client.opening import add_server, add_source, opened, source_words, status_of, why
 from mi_client.process import Usage
 from mi_client.rowfiles import writing
+from mi_client.service_lines import status as status_told
 from mi_client.show import table
 from mi_client.sockets import UNTOLD, Traffic
 
@@ -34,6 +36,10 @@ class Sample(NamedTuple):
     turns: int
     """How many questions this connection has asked: the server reads from all connections once in between."""
     usage: Usage
+    connections: Optional[int] = None
+    """How many connections a service has, where it tells."""
+    unsent: Optional[int] = None
+    """How many bytes of replies they haven't taken."""
 
 
 class Watcher:
@@ -43,17 +49,30 @@ class Watcher:
         """`number` is the server's process, which tells bytes of pipes alone; `moved` tells those of connections."""
         self.db, self.number, self.moved = db, number, moved
         self.turns = 0
+        self.has_status = True
+        """Whether the server may be a service, which tells its status."""
 
     def sample(self) -> Sample:
-        names = [it.name for it in self.db.schema.tables] if self.db.schema else ["(first)"]
-        sizes = [(it, self.db.size(it if self.db.schema else None)) for it in names]
+        asked = int(self.has_status)
+        told = status_told(self.db) if self.has_status else None
+        self.has_status = told is not None
+        sizes = self.sizes() if told is None else [(it["name"], it["size"]) for it in told["tables"]]
         now = self.db.revision()
-        self.turns += len(sizes) + 2
+        self.turns += asked + (len(sizes) + 2 if told is None else 1)
         usage = process.usage(self.number)
         if self.moved:
             read, written = self.moved()
             usage = usage._replace(read=read, written=written)
-        return Sample(time.monotonic(), sizes, now.revision, now.depth, self.holder(now.held), self.turns, usage)
+        if told is None:
+            return Sample(time.monotonic(), sizes, now.revision, now.depth, self.holder(now.held), self.turns, usage)
+        holder = "this connection" if now.held else "nobody" if told["holder"] is None else "another connection"
+        connections = told["connections"]
+        unsent = sum(it["unsent"] for it in connections)
+        return Sample(time.monotonic(), sizes, now.revision, now.depth, holder, self.turns, usage, len(connections), unsent)
+
+    def sizes(self) -> List[Tuple[str, int]]:
+        names = [it.name for it in self.db.schema.tables] if self.db.schema else ["(first)"]
+        return [(it, self.db.size(it if self.db.schema else None)) for it in names]
 
     def holder(self, held: int) -> str:
         """Asked by a `reserve` of nothing, which changes nothing and is refused as busy where another connection holds sessions."""
@@ -104,6 +123,7 @@ def screen(now: Sample, before: Sample) -> str:
         f"read      {moved}   processor {'not told' if busy is None else f'{busy:.0%}'}",
         f"turns     {amount(rate(now.turns, before.turns, took), '')}/s",
         f"sessions  {now.depth} open, revision {now.revision}; held by {now.holder}",
+        *([] if now.connections is None else [f"clients   {now.connections} connections, {amount(now.unsent)} unsent"]),
         "",
         table(rows, ["table", "rows", "rows/s"]),
     ])
@@ -122,6 +142,8 @@ def prometheus(it: Sample) -> str:
     add("revision", "gauge", "The revision.", ("", it.revision))
     add("open_sessions", "gauge", "Open sessions.", ("", it.depth))
     add("held_by_another", "gauge", "1 where another connection holds sessions.", ("", int(it.holder == "another connection")))
+    add("connections", "gauge", "Connections of the service.", ("", it.connections))
+    add("unsent_bytes", "gauge", "Bytes of replies that connections haven't taken.", ("", it.unsent))
     add("resident_memory_bytes", "gauge", "Memory of the process.", ("", it.usage.memory))
     add("read_bytes_total", "counter", "Bytes that the server has read, of connections since this began to look.", ("", it.usage.read))
     add("written_bytes_total", "counter", "Bytes that the server has written, likewise.", ("", it.usage.written))
@@ -202,3 +224,38 @@ def main_metrics(words: Optional[List[str]] = None) -> int:
             print(text, end="", flush=True)
 
     return watch(options, shown)
+
+
+def shown_status(told: Dict[str, Any]) -> str:
+    """A status as people read it."""
+    connections = [{"connection": it["number"], "holds sessions": "yes" if it["holds"] else "", "unsent": it["unsent"]} for it in told["connections"]]
+    holder = "nobody" if told["holder"] is None else f"connection {told['holder']}"
+    return "\n".join([
+        f"mi_service {told['version']}: {told['depth']} sessions open, held by {holder}",
+        "",
+        table(connections, ["connection", "holds sessions", "unsent"]),
+        "",
+        table([{"table": it["name"], "rows": it["size"]} for it in told["tables"]], ["table", "rows"]),
+    ])
+
+
+def main_status(words: Optional[List[str]] = None) -> int:
+    about = "Shows what a running service tells of itself: its connections, who of them holds sessions, and the rows of each table."
+    parser = argparse.ArgumentParser(prog="weltiyo status", description=about)
+    add_server(parser)
+    parser.add_argument("--json", action="store_true", help="writes the service's own reply")
+    options = parser.parse_args(words)
+    options.journal, options.wants_rows = None, False
+    if options.connect is None:
+        parser.error("--connect is needed: the port of a service that runs")
+    try:
+        with opened(options) as db:
+            told = status_told(db)
+    except (Ended, OSError, Refused, ValueError) as error:
+        print(f"weltiyo: {why(error, options)}", file=sys.stderr)
+        return status_of(error)
+    if told is None:
+        print("weltiyo: this server tells no status; mi_service does", file=sys.stderr)
+        return 1
+    print(json.dumps(told, separators=(",", ":")) if options.json else shown_status(told))
+    return 0

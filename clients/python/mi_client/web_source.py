@@ -14,6 +14,7 @@ from mi_client.commands import LOOK_UPS
 from mi_client.database import Database
 from mi_client.errors import Ended
 from mi_client.schema import Schema
+from mi_client.service_lines import STATUS_LINE
 from mi_client.web_desk import Line, Stack
 
 EVERY = 2.0
@@ -22,7 +23,6 @@ KEPT = 300
 """How many of them are kept: ten minutes."""
 PAUSE = 0.001
 """Seconds between two empty lines, by which a server that reads by turns goes on to its other connections."""
-STATUS_LINE = '{"service":"status"}'
 STATUS_MEMBERS = ("connections", "journal_bytes", "lines", "memory")
 """Members of a service's status that are shown, where its reply has them as numbers."""
 BY_TURNS = "mi_server"
@@ -191,7 +191,7 @@ class Source:
                 reply = json.loads(self._connected().ask_line(STATUS_LINE))
             except (Ended, OSError) as error:
                 raise self._went(error) from error
-        within = {**reply, **(reply["status"] if isinstance(reply.get("status"), dict) else {})}
+        within = {**reply, "connections": len(reply["connections"])} if isinstance(reply.get("connections"), list) else reply
         return {it: within[it] for it in STATUS_MEMBERS if isinstance(within.get(it), (int, float))}
 
 

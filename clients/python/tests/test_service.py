@@ -1,6 +1,7 @@
 """A service that the client starts: connections that come and go, and a journal that is there at the next start. The program is the one that
 MI_SERVICE names, else the built one, else the stand-in of the scripts' tests."""
 import asyncio
+import json
 import os
 import subprocess
 import sys
@@ -9,8 +10,9 @@ import unittest
 import kit
 from kit import ANN, BOB, TOP
 
-from mi_client import Ended, Refused, Server
+from mi_client import Ended, Refused, Server, service_lines
 from mi_client.aio import AsyncDatabase
+from mi_client.schema import Schema
 
 BUILT = f"{TOP}/crates/mi_service/out/mi_service"
 STAND_IN = f"{TOP}/scripts/tests/stand_in.py"
@@ -99,6 +101,46 @@ class Services(unittest.TestCase):
 
             asyncio.run(asyncio.wait_for(work(), 30))
             self.assertEqual((other.revision().held, other.size()), (1, 2))
+
+    def test_lines_of_its_own(self):
+        """They are answered in their turn, whoever holds sessions, and change nothing."""
+        with self.started() as server, server.connect(10) as db, server.connect(10) as other:
+            db.insert(ANN)
+            other.begin()
+            told = service_lines.status(db)
+            self.assertEqual([it["number"] for it in told["connections"] if it["holds"]], [told["holder"]])
+            self.assertEqual((len(told["connections"]), told["depth"], told["tables"]), (2, 1, [{"name": "accounts", "size": 1}]))
+            self.assertEqual({it["unsent"] for it in told["connections"]}, {0})
+            lines = ['{"cmd":"size"}', service_lines.STATUS_LINE, '{"cmd":"start"}', service_lines.SCHEMA_LINE, '{"service":"fly"}', '{"cmd":"revision"}']
+            replies = list(map(json.loads, db.ask_lines(lines)))
+            self.assertEqual([it.get("size", it.get("error", it["ok"])) for it in replies], [1, True, "busy", True, "form", True])
+            self.assertEqual(replies[1]["tables"], told["tables"])
+            self.assertEqual(other.undo(), 0)
+            self.assertIsNone(service_lines.status(db)["holder"])
+        with open(self.journal, "rb") as file:
+            self.assertNotIn(b"service", file.read())
+
+    def test_the_schema_is_told(self):
+        for path in (None, f"{TOP}/examples/shop.toml"):
+            with Server(service=SERVICE, schema=path) as server, server.connect(10) as db:
+                text = service_lines.schema_text(db)
+                self.assertEqual(Schema.of_text(text), Schema.built_in() if path is None else Schema.read(path))
+                if path:
+                    with open(path, encoding="utf-8") as file:
+                        self.assertEqual(text, file.read())
+
+    def test_a_status_that_is_shown(self):
+        with Server(service=SERVICE) as server, server.connect(10) as db:
+            db.begin()
+            shown = kit.ran("status", "--connect", str(server.port))
+            self.assertEqual((shown.returncode, shown.stderr), (0, ""))
+            self.assertRegex(shown.stdout, r"^mi_service [0-9.]+: 1 sessions open, held by connection [0-9]+\n")
+            told = json.loads(kit.ran("status", "--json", "--connect", str(server.port)).stdout)
+            self.assertEqual((told["depth"], len(told["connections"])), (1, 2))
+            self.assertIn("\nweltiyo_connections 2\n", kit.ran("metrics", "--connect", str(server.port)).stdout)
+        with Server(kit.program(), clients=1) as server:
+            refused = kit.ran("status", "--connect", str(server.port))
+            self.assertEqual((refused.returncode, refused.stderr), (1, "weltiyo: this server tells no status; mi_service does\n"))
 
     def test_a_schema(self):
         path = kit.written(self, 'table = "t"\ncolumn = [{ name = "n", type = "int" }]\n')
