@@ -1,9 +1,6 @@
+pub mod FlatLemmas
 pub mod FormLemmas
-pub mod InsertLemmas
-pub mod KeyedLemmas
-pub mod ModifyLemmas
 pub mod ObjectLemmas
-pub mod PageLemmas
 pub mod ParsingLemmas
 pub mod ShortLemmas
 pub mod WordLemmas

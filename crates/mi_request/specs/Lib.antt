@@ -1,12 +1,10 @@
 pub mod Answers
 pub mod Bare
 pub mod Commands
+pub mod Flat
 pub mod Json
-pub mod Keyed
 pub mod Lines
 pub mod ObjectCode
-pub mod Page
 pub mod Places
-pub mod Row
 pub mod Short
 pub mod ShortCode

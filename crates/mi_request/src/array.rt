@@ -1,5 +1,4 @@
 //! A JSON array, seen by contracts as its items. It lends them, and copies none.
-use bumpalo::Bump;
 use mi_tokens::Json;
 use std::marker::Model;
 
@@ -22,8 +21,7 @@ impl<'a> Model for Array<'a> {
 }
 
 impl<'a> Array<'a> {
-    ghost use Rattle.std.specs.Prelude.{◌≡◌, ◌<◌, ◌^◌, IfSome};
-    ghost use Rattle.serde_json.specs.Data.{number, unsigned, item, no_items};
+    ghost use Rattle.std.specs.Prelude.{◌≡◌};
     ghost use Rattle.mi_tokens.specs.Meaning.{items_meaning};
 
     /// The array of these items.
@@ -32,18 +30,6 @@ impl<'a> Array<'a> {
         ensures { result ≡ items_meaning items.now }
     {
         Array { items }
-    }
-
-    /// The array of this number alone, 0 to 2^63 - 1, which lies in the arena; none where there is no memory for it.
-    #[inline(always)]
-    pub(crate) fn of_number(arena: &'a Bump, n: u64) -> Option<Array<'a>>
-        requires { n < 2 ^ 63 }
-        ensures { IfSome result (λ items. items ≡ item (number (unsigned n)) no_items) }
-    {
-        let Ok(items) = arena.try_alloc_slice_copy(&[Json::Whole(n as i64)]) else {
-            return None;
-        };
-        Some(Array::new(items))
     }
 
     /// Its items in order.

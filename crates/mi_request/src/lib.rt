@@ -5,15 +5,12 @@
 mod array;
 mod bare;
 mod command;
+mod flat;
 mod forms;
-mod insert;
-mod keyed;
 mod lending;
 mod line_reader;
-mod modify;
 mod name;
 mod object;
-mod page;
 mod reading;
 mod request;
 mod short;

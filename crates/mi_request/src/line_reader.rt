@@ -8,10 +8,7 @@ ghost use Rattle.mi_request.specs.declared.request.Request.{Request as Asked};
 ghost use Rattle.mi_request.specs.declared.request.Request.TheVariants as request;
 
 use crate::bare::Bare;
-use crate::insert::insert_line;
-use crate::keyed::keyed_line;
-use crate::modify::modify_line;
-use crate::page::page_line;
+use crate::flat::flat_line;
 use crate::request::{Request, request_of};
 use crate::short::short_of;
 use crate::value::read_value;
@@ -73,16 +70,7 @@ impl LineReader {
         self.empty();
         let alloc = self.alloc;
         let arena = &self.arena;
-        if let Some(request) = insert_line(arena, line) {
-            return Ok(request);
-        }
-        if let Some(request) = modify_line(arena, line) {
-            return Ok(request);
-        }
-        if let Some(request) = page_line(arena, line) {
-            return Ok(request);
-        }
-        if let Some(request) = keyed_line(arena, line) {
+        if let Some(request) = flat_line(arena, line) {
             return Ok(request);
         }
         read_any(alloc, arena, &mut self.value, line)

@@ -22,7 +22,8 @@ fn name_of<'a>(value: &Json<'a>) -> Option<Name<'a>>
     Some(Name::new(value.as_str()?))
 }
 
-fn natural_of(value: &Json<'_>) -> Option<u64>
+#[inline(always)]
+pub(crate) fn natural_of(value: &Json<'_>) -> Option<u64>
     ensures { result ≡ kinds.natural (meaning value.now) }
 {
     let n = value.as_i64()?;

@@ -89,7 +89,7 @@ byte_there d i x e no_space =
 pub mark_within : (d : List ℕ) (i : ℕ) → class (head (drop i d)) ≡ operator → i < length d
 mark_within d i e = (byte_there d i (head (drop i d)) refl (λ s. true≢false (sym (ap is_operator_class (sym (ap class s) ∙ e))))).within
 
-lex_text : (s r : List ℕ) → escape s ≡ s → lex between (34 ∷ (s ++ 34 ∷ r)) ≡ token (string s) ∷ lex between r
+pub lex_text : (s r : List ℕ) → escape s ≡ s → lex between (34 ∷ (s ++ 34 ∷ r)) ≡ token (string s) ∷ lex between r
 unfolding lex
 lex_text s r e =
     ap (λ t. lex between (34 ∷ (t ++ 34 ∷ r))) (sym e)

@@ -1,14 +1,16 @@
 //! Lexemes of a JSON text, read where they stand, in the spacing that a writer gives: no space, or one behind a comma or a colon.
 //! It reads no escape, and no number but whole ones of at most 18 digits. It takes no memory, and knows no nesting.
-ghost use Rattle.std.specs.Prelude.{◌≡◌, ◌∷◌, ◌++◌, ◌+◌, ◌-◌, ◌^◌, ◌<◌, ◌≤◌, ◌==◌, [], length, take, drop, get_or, cond, true, decimal, Some, IfSome, IsTrue};
+ghost use Rattle.std.specs.Prelude.{◌≡◌, ◌∷◌, ◌++◌, ◌+◌, ◌-◌, ◌^◌, ◌<◌, ◌≤◌, ◌==◌, [], List, ℕ, length, take, drop, get_or, cond, true, decimal, Some, IfSome, IsTrue};
+ghost use Rattle.std.specs.Bool.{MatchBool};
 ghost use Rattle.std.specs.List.{prefix_len};
 ghost use Rattle.std.specs.Char.{is_ascii_digit};
 ghost use Rattle.std.specs.Fmt.{signed_decimal};
 ghost use Rattle.std.specs.Str.Parse.{digits_value};
 ghost use Rattle.json.specs.Token as spec;
 ghost use Rattle.json.specs.Word.{head, ends_word, after_minus, after_whole};
-ghost use Rattle.json.specs.Lex.{class, operator, operator_lexeme, token, between, lex};
-ghost use Rattle.mi_tokens.specs.Ends.{is_end};
+ghost use Rattle.json.specs.Lex.{class, operator, operator_lexeme, colon, token, between, lex};
+ghost use Rattle.json.specs.Print.{escape};
+ghost use Rattle.mi_tokens.specs.Ends.{is_end, name_text};
 
 use crate::plain::plain_end;
 use std::marker::Model;
@@ -211,19 +213,37 @@ impl<'a> Lexemes<'a> {
         Some(n)
     }
 
+    /// Passes these bytes, if they come first.
+    #[inline(always)]
+    pub(crate) fn pass_bytes(&mut self, front: &[u8]) -> bool
+        ensures { MatchBool result (self.old ≡ front.now ++ self.new) (self.new ≡ self.old) }
+    {
+        let rest = &self.text.as_bytes()[self.at..];
+        if rest.len() < front.len() || &rest[..front.len()] != front {
+            return false;
+        }
+        self.at += front.len();
+        true
+    }
+
     /// Passes a word in front of the end of a value.
     #[inline(always)]
     pub(crate) fn pass_word(&mut self, word: &[u8]) -> bool
         ensures { IsTrue result → (self.old ≡ word.now ++ self.new) × (ends_word self.new ≡ true) }
     {
-        let rest = &self.text.as_bytes()[self.at..];
-        let Some(behind) = rest.strip_prefix(word) else {
-            return false;
-        };
-        if !is_end(byte_at(behind, 0)) {
+        self.pass_bytes(word) && is_end(self.peek())
+    }
+
+    /// Passes the name of a member with its colon, and a space behind it, if this is next.
+    #[inline(always)]
+    pub(crate) fn pass_name(&mut self, front: &[u8]) -> bool
+        ensures { (s : List ℕ) → front.now ≡ name_text s → escape s ≡ s
+            → MatchBool result (lex between self.old ≡ token (spec.string s) ∷ colon ∷ lex between self.new) (self.new ≡ self.old) }
+    {
+        if !self.pass_bytes(front) {
             return false;
         }
-        self.at += word.len();
+        self.pass_space();
         true
     }
 }

@@ -1,12 +1,12 @@
-//! From a text to the JSON value that it is, in one pass and without an index, where it is written as a writer gives it. Items and
-//! members lie in an arena.
-ghost use Rattle.std.specs.Prelude.{◌≡◌, ◌∷◌, ◌++◌, IfSome, IsTrue, Some, [], length};
+//! The JSON value with which a text begins, in one pass and without an index, where it is written as a writer gives it. Items and members
+//! lie in an arena.
+ghost use Rattle.std.specs.Prelude.{◌≡◌, ◌∷◌, ◌++◌, IfSome, IsTrue, Some, [], ◌<◌, ℕ, List, length};
 ghost use Rattle.json.specs.Json.{value, items, members};
-ghost use Rattle.json.specs.Lex.{tokens};
-ghost use Rattle.json.specs.Token.{end_object};
-ghost use Rattle.serde_json.specs.Data.{no_members};
+ghost use Rattle.json.specs.Token.{Token};
+ghost use Rattle.serde_json.specs.Data.{array, no_members};
 ghost use Rattle.serde_json.specs.Read.{of_json, of_items, of_members, converted, read};
 ghost use Rattle.mi_tokens.specs.Meaning.{meaning, items_meaning, members_meaning};
+ghost use Rattle.mi_tokens.specs.Tokens.{token_of};
 
 use crate::tokens::{Start, Tokens};
 use crate::value::Json;
@@ -65,6 +65,20 @@ fn pass_members<'a>(
     Some(into_bump_slice(found))
 }
 
+/// The value that a token is by itself.
+#[inline(always)]
+fn plain(token: Start<'_>) -> Option<Json<'_>>
+    ensures { (depth : ℕ) (ts : List Token) → IfSome result (λ v. converted of_json (value depth (token_of token.entry ∷ ts)) ≡ Some (meaning v, ts)) }
+{
+    match token {
+        Start::Text(text) => Some(Json::Text(text)),
+        Start::Whole(n) => Some(Json::Whole(n)),
+        Start::Bool(b) => Some(Json::Bool(b)),
+        Start::Null => Some(Json::Null),
+        Start::Array | Start::Object => None,
+    }
+}
+
 /// The value that comes first. Arrays and objects may nest `depth` deep.
 #[cycle(pass)]
 #[inline(always)]
@@ -73,10 +87,6 @@ fn pass_value<'a>(arena: &'a Bump, tokens: &mut Tokens<'a>, depth: usize) -> Opt
 {
     let token = tokens.next()?;
     match token {
-        Start::Text(text) => Some(Json::Text(text)),
-        Start::Whole(n) => Some(Json::Whole(n)),
-        Start::Bool(b) => Some(Json::Bool(b)),
-        Start::Null => Some(Json::Null),
         Start::Array => {
             if depth == 0 {
                 return None;
@@ -89,6 +99,7 @@ fn pass_value<'a>(arena: &'a Bump, tokens: &mut Tokens<'a>, depth: usize) -> Opt
             }
             Some(Json::Object(pass_members(arena, tokens, depth - 1)?))
         }
+        _other => plain(token),
     }
 }
 
@@ -102,15 +113,29 @@ pub fn pass_text<'a>(arena: &'a Bump, text: &'a str) -> Option<Json<'a>>
     if tokens.is_done() { Some(value) } else { None }
 }
 
-/// The value of an object's last member, where the text begins with it, and has nothing behind it but the brace that ends the object.
-/// Its numbers are whole and have at most 18 digits. Want of memory counts as another way of writing.
-pub fn pass_last_member<'a>(arena: &'a Bump, text: &'a str) -> Option<Json<'a>>
-    ensures { IfSome result (λ v. converted of_json (value 126 (tokens text.now)) ≡ Some (meaning v, end_object ∷ [])) }
+/// The value of a member, where it is written as a writer gives it, with numbers alone that are whole and have at most 18 digits. Want of
+/// memory counts as another way of writing.
+#[inline(always)]
+pub fn pass_member<'a>(arena: &'a Bump, tokens: &mut Tokens<'a>) -> Option<Json<'a>>
+    ensures { IfSome result (λ v. converted of_json (value 126 tokens.old) ≡ Some (meaning v, tokens.new)) }
 {
-    let mut tokens = Tokens::new(text);
-    let value = pass_value(arena, &mut tokens, MAX_DEPTH - 1)?;
-    if tokens.next_key()?.is_some() || !tokens.is_done() {
+    pass_value(arena, tokens, MAX_DEPTH - 1)
+}
+
+/// The items of an array of one item that is no array and no object, if it comes first.
+#[inline(always)]
+pub fn pass_one<'a>(arena: &'a Bump, tokens: &mut Tokens<'a>) -> Option<&'a [Json<'a>]>
+    ensures { (depth : ℕ) → 0 < depth → IfSome result (λ xs. converted of_json (value depth tokens.old) ≡ Some (array (items_meaning xs.now), tokens.new)) }
+{
+    let Start::Array = tokens.next()? else {
+        return None;
+    };
+    let item = plain(tokens.next()?)?;
+    if !tokens.take_end_array() {
         return None;
     }
-    Some(value)
+    let Ok(items) = arena.try_alloc_slice_copy(&[item]) else {
+        return None;
+    };
+    Some(items)
 }

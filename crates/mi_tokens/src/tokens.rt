@@ -1,13 +1,16 @@
 //! Tokens of a JSON text, read where they stand and without an index: each with its commas and colons. What is written in
 //! another way than a writer gives is left to `json`.
-ghost use Rattle.std.specs.Prelude.{◌≡◌, ◌⊎◌, ◌∷◌, ◌<◌, [], IfSome, IsTrue, Some, option_map};
+ghost use Rattle.std.specs.Prelude.{◌≡◌, ◌⊎◌, ◌∷◌, ◌++◌, ◌<◌, [], List, ℕ, IfSome, IsTrue, Some, None, option_map};
 ghost use Rattle.std.specs.Bool.{MatchBool};
+ghost use Rattle.std.specs.Fmt.{signed_decimal};
 ghost use Rattle.json.specs.Token as spec;
 ghost use Rattle.json.specs.Word.{head};
 ghost use Rattle.json.specs.Lex.{between, lex, after_value, may_begin, may_close, punctuate, tokens};
 ghost use Rattle.json.specs.Json.{after_end_array, read_key};
+ghost use Rattle.json.specs.Print.{escape};
+ghost use Rattle.mi_tokens.specs.Ends.{name_text};
 ghost use Rattle.mi_tokens.specs.Tokens.{place_of, tokens_at, token_of, Begins, Closes, end_token, IsWordOf, Opens};
-ghost use Rattle.mi_tokens.specs.declared.tokens.Context.TheVariants.{Fresh};
+ghost use Rattle.mi_tokens.specs.declared.tokens.Context.TheVariants.{Fresh, AfterComma};
 
 use crate::lexemes::{Lexemes, is_end};
 use std::marker::Model;
@@ -152,7 +155,7 @@ fn begin<'a>(lexemes: &mut Lexemes<'a>) -> Option<(Start<'a>, Context)>
 
 /// A JSON text, seen as the tokens that are still to come.
 #[derive(Drop)]
-pub(crate) struct Tokens<'a> {
+pub struct Tokens<'a> {
     lexemes: Lexemes<'a>,
     context: Context,
 }
@@ -179,6 +182,93 @@ impl<'a> Tokens<'a> {
             lexemes: Lexemes::new(text),
             context: Context::Fresh,
         }
+    }
+
+    /// The tokens behind a front that ends in a comma, if the text begins with it.
+    #[inline(always)]
+    pub fn behind(text: &'a str, front: &[u8]) -> Option<Tokens<'a>>
+        ensures { IfSome result (λ ts. (rest : List ℕ) × (text.now ≡ front.now ++ rest) × (ts ≡ tokens_at AfterComma rest)) }
+    {
+        let mut lexemes = Lexemes::new(text);
+        if !lexemes.pass_bytes(front) {
+            return None;
+        }
+        Some(Tokens {
+            lexemes,
+            context: Context::AfterComma,
+        })
+    }
+
+    /// Takes the name of a member with its colon, if it is written so and comes next.
+    #[inline(always)]
+    pub fn take_key(&mut self, front: &[u8]) -> bool
+        ensures { (s : List ℕ) → front.now ≡ name_text s → escape s ≡ s → MatchBool result (read_key self.old ≡ Some (Some s, self.new)) (self.new ≡ self.old) }
+    {
+        if !self.context.may_begin() || !self.lexemes.pass_name(front) {
+            return false;
+        }
+        self.context = Context::Fresh;
+        true
+    }
+
+    /// Takes a text that is a value, if it is next.
+    #[inline(always)]
+    pub fn take_text(&mut self) -> Option<&'a str>
+        ensures { IfSome result (λ s. self.old ≡ spec.string s.now ∷ self.new) }
+    {
+        if self.lexemes.peek() != b'"' || !self.context.may_begin() {
+            return None;
+        }
+        let text = self.lexemes.string()?;
+        if !is_end(self.lexemes.peek()) {
+            return None;
+        }
+        self.context = after_value(&mut self.lexemes);
+        Some(text)
+    }
+
+    /// Takes a whole number, if it is next.
+    #[inline(always)]
+    pub fn take_whole(&mut self) -> Option<i64>
+        ensures { IfSome result (λ n. self.old ≡ spec.number (signed_decimal n) ∷ self.new) }
+    {
+        if !self.context.may_begin() {
+            return None;
+        }
+        let n = self.lexemes.number()?;
+        self.context = after_value(&mut self.lexemes);
+        Some(n)
+    }
+
+    /// Takes the brace with which an object begins, if it is next.
+    #[inline(always)]
+    pub fn take_object(&mut self) -> bool
+        ensures { IsTrue result → self.old ≡ spec.begin_object ∷ self.new }
+    {
+        if self.lexemes.peek() != b'{' || !self.context.may_begin() {
+            return false;
+        }
+        matches!(self.next(), Some(Start::Object))
+    }
+
+    /// Takes the brace that ends an object, if it is next.
+    #[inline(always)]
+    pub fn take_close(&mut self) -> bool
+        ensures { IsTrue result → read_key self.old ≡ Some (None, self.new) }
+    {
+        if self.lexemes.peek() != b'}' || !self.context.may_close() {
+            return false;
+        }
+        self.context = close(&mut self.lexemes);
+        true
+    }
+
+    /// Whether the brace that ends the object ends the text.
+    #[inline(always)]
+    pub fn take_end(&mut self) -> bool
+        ensures { IsTrue result → read_key self.old ≡ Some (None, []) }
+    {
+        self.take_close() && self.is_done()
     }
 
     /// Whether no token is left, and the text has ended.

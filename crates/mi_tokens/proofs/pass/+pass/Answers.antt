@@ -1,5 +1,5 @@
 -- A value, its items and its members are those of the grammar, a turn at a time.
-use Rattle.std.proofs.Common.{◌≡◌, ◌-◌, [], ◌∷◌, ◌++◌, length, Some, option_map, FitsSigned, w64, sym, ap, ◌∙◌, arith, rules}
+use Rattle.std.proofs.Common.{◌≡◌, ◌-◌, [], ◌∷◌, ◌++◌, length, Some, option_map, FitsSigned, w64, IfSome, subst, sym, ap, ◌∙◌, arith, rules}
 use Rattle.std.proofs.lemmas.Int.{to_z-of_z}
 use Rattle.std.specs.Fmt.{signed_decimal}
 use Rattle.json.specs.Token.{Token}
@@ -17,37 +17,10 @@ use Rattle.mi_tokens.proofs.TokenLemmas.{value_no_end}
 use Rattle.mi_tokens.proofs.WholeLemmas.{number_read}
 use Rattle.mi_tokens.proofs.pass.+pass.Goals as goal
 
-pub pass_value-returns-in-Text : goal.pass_value-returns-in-Text
-pass_value-returns-in-Text t c =
+pub pass_value-returns-in_default : goal.pass_value-returns-in_default
+pass_value-returns-in_default t c =
     let first : c.args.tokens.now ≡ token_of c.in_ok-token.token ∷ c.next.new.self = grind arith in
-    let is : c.args.tokens.now ≡ Token.string c.in-Text.text.now ∷ c.next.new.self = grind (arith, first) in
-    let means : meaning (Text c.in-Text.text) ≡ string c.in-Text.text.now = search (rules, the_lemmas) in
-    ap (converted of_json) (ap (value c.args.depth) is ∙ value_is c.args.depth _) ∙ ap (λ d. Some (d, c.next.new.self)) (sym means)
-
-pub pass_value-returns-in-Bool : goal.pass_value-returns-in-Bool
-pass_value-returns-in-Bool t c =
-    let first : c.args.tokens.now ≡ token_of c.in_ok-token.token ∷ c.next.new.self = grind arith in
-    let is : c.args.tokens.now ≡ Token.boolean c.in-Bool.b ∷ c.next.new.self = grind (arith, first) in
-    let means : meaning (Bool c.in-Bool.b) ≡ boolean c.in-Bool.b = search (rules, the_lemmas) in
-    ap (converted of_json) (ap (value c.args.depth) is ∙ value_is c.args.depth _) ∙ ap (λ d. Some (d, c.next.new.self)) (sym means)
-
-pub pass_value-returns-in-Null : goal.pass_value-returns-in-Null
-pass_value-returns-in-Null t c =
-    let first : c.args.tokens.now ≡ token_of c.in_ok-token.token ∷ c.next.new.self = grind arith in
-    let is : c.args.tokens.now ≡ Token.null ∷ c.next.new.self = grind (arith, first) in
-    let means : meaning (Null) ≡ null = search (rules, the_lemmas) in
-    ap (converted of_json) (ap (value c.args.depth) is ∙ value_is c.args.depth _) ∙ ap (λ d. Some (d, c.next.new.self)) (sym means)
-
-pub pass_value-returns-in-Whole : goal.pass_value-returns-in-Whole
-pass_value-returns-in-Whole t c =
-    let n = c.in-Whole.n in
-    let fits : FitsSigned w64 n = search rules in
-    let first : c.args.tokens.now ≡ token_of c.in_ok-token.token ∷ c.next.new.self = grind arith in
-    let is : c.args.tokens.now ≡ Token.number (signed_decimal n) ∷ c.next.new.self = grind (arith, first) in
-    let means : meaning (Whole n) ≡ number (of_integer n) = search (rules, the_lemmas) in
-    ap (converted of_json) (ap (value c.args.depth) is ∙ value_is c.args.depth _)
-    ∙ ap (λ o. option_map (λ d. (d, c.next.new.self)) (option_map number o)) (number_read n fits)
-    ∙ ap (λ d. Some (d, c.next.new.self)) (sym means ∙ ap (λ z. meaning (Whole z)) (sym (to_z-of_z w64 n fits)))
+    subst (λ ts. IfSome c.plain.result (λ v. converted of_json (value c.args.depth ts) ≡ Some (meaning v, c.next.new.self))) (sym first) (c.plain.ensures c.args.depth c.next.new.self)
 
 pub pass_value-returns-in_ok-pass_items-in-Array : goal.pass_value-returns-in_ok-pass_items-in-Array
 pass_value-returns-in_ok-pass_items-in-Array t c =

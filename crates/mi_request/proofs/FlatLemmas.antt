@@ -1,0 +1,168 @@
+-- An object that is read member by member is what its text means, and so each flat line is the request of its members.
+use Rattle.std.proofs.Common.{IfSome, sym, ◌≡◌, ℕ, ◌-◌, List, [], ◌∷◌, ◌++◌, length, Option, Some, None, Ok, IsUtf8, codes, false, refl, ap, ◌∙◌, subst, arith, append_assoc}
+use Rattle.json.specs.Json.{parse_map, read_key, members, value}
+use Rattle.json.specs.Lex.{lex, between, punctuate, tokens}
+use Rattle.json.specs.Print.{escape}
+use Rattle.json.specs.Text.{content}
+use Rattle.json.specs.Token.{Token, begin_object, key}
+use Rattle.json.specs.Token as token
+use Rattle.json.proofs.Grammar.{left, value_is, value-begin_object, read_key-shorter, skip_value-shorter}
+use Rattle.serde_json.specs.Data.{Data, string, object, Items, Members, no_members, put}
+use Rattle.serde_json.specs.Find.{as_str, as_array, as_object}
+use Rattle.serde_json.specs.Read.{of_json, converted, read}
+use Rattle.mi_tokens.proofs.LexemeLemmas.{lex_text}
+use Rattle.mi_tokens.proofs.ReadingLemmas.{converted_some, converted-object, member_read, members_over, whole_read}
+use Rattle.mi_tokens.specs.Tokens.{tokens_at}
+use Rattle.mi_tokens.specs.declared.tokens.Context.TheVariants.{AfterComma}
+use Rattle.mi_request.specs.Commands.{look_up_named, lower_end, page}
+use Rattle.mi_request.specs.Flat.{IsRest, IsMember, IsMaybe, IsKeyed, put_if, command_start, named, keyed_members}
+use Rattle.mi_request.specs.Json.{has_only, natural, if_there, default_if, option_map₃, option_map₅, option_map₆}
+use Rattle.mi_request.specs.Lines.{request_in, command_line}
+use Rattle.mi_request.specs.declared.request.End.{End}
+use Rattle.mi_request.specs.declared.request.End.TheVariants.{Open}
+use Rattle.mi_request.specs.declared.request.Request.{Request}
+use Rattle.mi_request.specs.declared.request.Request.TheVariants as request
+use Rattle.mi_request.proofs.ParsingLemmas.{request_found}
+
+-- ---- member by member
+
+pub rest_end : (ts : List Token) (found : Members) → read_key ts ≡ Some (None, []) → IsRest ts found found
+rest_end ts found e n enough = members_over (value 126) found n ts [] enough e
+
+pub rest_member : (old new : List Token) (name : List ℕ) (d : Data) (found all : Members) → IsMember old name d new → IsRest new (put name d found) all → IsRest old found all
+rest_member old new name d found all m rest n enough =
+    let ts = m.0 in
+    let is = converted_some of_json (value 126 ts) d new m.2 in
+    let less = read_key-shorter old (Some name) ts m.1 in
+    let lesser = skip_value-shorter 126 ts new (ap left is.1) in
+    member_read (value 126) found n name old ts new d (omega (arith, enough, less)) m.1 m.2 ∙ rest (n - 1) (omega (arith, enough, less, lesser))
+
+pub rest_maybe : (old new : List Token) (name : List ℕ) (o : Option Data) (found all : Members) → IsMaybe old name o new → IsRest new (put_if name o found) all → IsRest old found all
+rest_maybe old new name None found all same rest = subst (λ ts. IsRest ts found all) same rest
+rest_maybe old new name (Some d) found all m rest = rest_member old new name d found all m rest
+
+-- a member that is a whole number from 0
+pub natural_found : (r : Option ℕ) (d : Data) (old new : List Token) (name : List ℕ) → IsMember old name d new → r ≡ natural d
+    → IfSome r (λ n. (x : Data) × IsMember old name x new × (natural x ≡ Some n))
+natural_found None d old new name m e = tt
+natural_found (Some n) d old new name m e = (d, m, sym e)
+
+-- an object of one member
+pub one_member : (name : List ℕ) (s t u v w : List Token) (d : Data) → s ≡ begin_object ∷ t → read_key t ≡ Some (Some name, u) → converted of_json (value 125 u) ≡ Some (d, v)
+    → read_key v ≡ Some (None, w) → converted of_json (value 126 s) ≡ Some (object (put name d no_members), w)
+one_member name s t u v w d opens first inside closes =
+    let p = value 125 in
+    let is = converted_some of_json (p u) d v inside in
+    let less = read_key-shorter t (Some name) u first in
+    let lesser = skip_value-shorter 125 u v (ap left is.1) in
+    ap (converted of_json) (ap (value 126) opens ∙ value-begin_object 126 t (omega arith)) ∙ converted-object (members p (length t) t)
+    ∙ ap (parse_map object) (member_read p no_members (length t) name t u v d (omega (arith, less)) first inside
+    ∙ members_over p (put name d no_members) (length t - 1) v w (omega (arith, less, lesser)) closes)
+
+-- ---- the whole line
+
+start_tokens : (command rest : List ℕ) → escape command ≡ command
+    → tokens (command_start command ++ rest) ≡ begin_object ∷ key (codes "cmd") ∷ token.string command ∷ tokens_at AfterComma rest
+unfolding lex punctuate content
+start_tokens command rest plain =
+    ap (λ l. tokens (codes "{\"cmd\":" ++ (34 ∷ l))) (append_assoc command (34 ∷ (44 ∷ [])) rest)
+    ∙ ap (λ ls. begin_object ∷ key (codes "cmd") ∷ punctuate Rattle.json.specs.Lex.fresh ls) (lex_text command (44 ∷ rest) plain)
+
+pub line_reads : (command text rest : List ℕ) (all : Members) → escape command ≡ command → text ≡ command_start command ++ rest
+    → IsRest (tokens_at AfterComma rest) (named command) all → read text ≡ Some (object all)
+line_reads command text rest all plain is others =
+    let ts = tokens_at AfterComma rest in
+    let first = token.string command ∷ ts in
+    let every = key (codes "cmd") ∷ first in
+    let cmd : converted of_json (value 126 first) ≡ Some (string command, ts) = ap (converted of_json) (value_is 126 first) in
+    let inside = rest_member every ts (codes "cmd") (string command) no_members all (first, refl, cmd) others in
+    whole_read (value 127 (tokens text)) (object all)
+    (ap (converted of_json) (ap (value 127) (ap tokens is ∙ start_tokens command rest plain) ∙ value-begin_object 127 every (omega arith))
+    ∙ converted-object (members (value 126) (length every) every) ∙ ap (parse_map object) (inside (length every) (omega arith)))
+
+pub line_means : (command text rest : List ℕ) (all : Members) (r : Request) → escape command ≡ command → text ≡ command_start command ++ rest → IsUtf8 text
+    → IsRest (tokens_at AfterComma rest) (named command) all → request_in all ≡ Some r → command_line text ≡ Ok r
+line_means command text rest all r plain is utf8 others asked = request_found text (object all) r utf8 (line_reads command text rest all plain is others) asked
+
+-- ---- what each command asks
+
+three : {A B C : Type 0} (f : A → B → C → Request) (a : Option A) (b : Option B) (c : Option C) (x : A) (y : B) (z : C) → a ≡ Some x → b ≡ Some y → c ≡ Some z
+    → option_map₃ f a b c ≡ Some (f x y z)
+three f a b c x y z p q r = rw (p, q, r) refl
+
+abbrev Asks : List ℕ → (Option (List ℕ) → List ℕ → Items → Request) → Type 0
+Asks command make = (t : Option Data) (i k : Data) (table : Option (List ℕ)) (index : List ℕ) (ks : Items) → if_there as_str t ≡ Some table → as_str i ≡ Some index
+    → as_array k ≡ Some ks → request_in (keyed_members command t i k) ≡ Some (make table index ks)
+
+pub find_asked : Asks (codes "find") request.Find
+unfolding has_only look_up_named
+find_asked None i k table index ks p q r = three request.Find _ _ _ table index ks p q r
+find_asked (Some t) i k table index ks p q r = three request.Find _ _ _ table index ks p q r
+
+pub count_asked : Asks (codes "count") request.Count
+unfolding has_only look_up_named
+count_asked None i k table index ks p q r = three request.Count _ _ _ table index ks p q r
+count_asked (Some t) i k table index ks p q r = three request.Count _ _ _ table index ks p q r
+
+pub lower_rank_asked : Asks (codes "lower_rank") request.LowerRank
+unfolding has_only look_up_named
+lower_rank_asked None i k table index ks p q r = three request.LowerRank _ _ _ table index ks p q r
+lower_rank_asked (Some t) i k table index ks p q r = three request.LowerRank _ _ _ table index ks p q r
+
+pub upper_rank_asked : Asks (codes "upper_rank") request.UpperRank
+unfolding has_only look_up_named
+upper_rank_asked None i k table index ks p q r = three request.UpperRank _ _ _ table index ks p q r
+upper_rank_asked (Some t) i k table index ks p q r = three request.UpperRank _ _ _ table index ks p q r
+
+pub erase_key_asked : Asks (codes "erase_key") request.EraseKey
+unfolding has_only
+erase_key_asked None i k table index ks p q r = three request.EraseKey _ _ _ table index ks p q r
+erase_key_asked (Some t) i k table index ks p q r = three request.EraseKey _ _ _ table index ks p q r
+
+pub keyed_means : (command : List ℕ) (make : Option (List ℕ) → List ℕ → Items → Request) (table : Option (List ℕ)) (index : List ℕ) (ks : Items) (text : List ℕ)
+    → Asks command make → IsUtf8 text → IsKeyed command table index ks text → command_line text ≡ Ok (make table index ks)
+keyed_means command make table index ks text asked utf8 is =
+    request_found text (object (keyed_members command is.0 is.1 is.2)) (make table index ks) utf8 is.3 (asked is.0 is.1 is.2 table index ks is.4 is.5 is.6)
+
+pub insert_asked : (t : Option Data) (d : Data) (table : Option (List ℕ)) (row : Members) → if_there as_str t ≡ Some table → as_object d ≡ Some row
+    → request_in (put (codes "row") d (put_if (codes "table") t (named (codes "insert")))) ≡ Some (request.Insert table row None)
+unfolding has_only
+insert_asked None d table row p q = three request.Insert _ _ _ table row None p q refl
+insert_asked (Some t) d table row p q = three request.Insert _ _ _ table row None p q refl
+
+pub replace_asked : (t : Option Data) (i d : Data) (table : Option (List ℕ)) (id : ℕ) (row : Members) → if_there as_str t ≡ Some table → natural i ≡ Some id
+    → as_object d ≡ Some row → request_in (put (codes "row") d (put (codes "id") i (put_if (codes "table") t (named (codes "replace"))))) ≡ Some (request.Replace table id row)
+unfolding has_only
+replace_asked None i d table id row p q r = three request.Replace _ _ _ table id row p q r
+replace_asked (Some t) i d table id row p q r = three request.Replace _ _ _ table id row p q r
+
+modified : (t : Option (Option (List ℕ))) (i : Option ℕ) (s a : Option Members) (table : Option (List ℕ)) (id : ℕ) (set add : Members) → t ≡ Some table → i ≡ Some id
+    → s ≡ Some set → a ≡ Some add → option_map₅ request.Modify t i s a (Some false) ≡ Some (request.Modify table id set add false)
+modified t i s a table id set add p q r u = rw (p, q, r, u) refl
+
+pub modify_asked : (t : Option Data) (i : Data) (s a : Option Data) (table : Option (List ℕ)) (id : ℕ) (set add : Members) → if_there as_str t ≡ Some table
+    → natural i ≡ Some id → default_if no_members as_object s ≡ Some set → default_if no_members as_object a ≡ Some add
+    → request_in (put_if (codes "add") a (put_if (codes "set") s (put (codes "id") i (put_if (codes "table") t (named (codes "modify"))))))
+    ≡ Some (request.Modify table id set add false)
+unfolding has_only
+modify_asked None i None None table id set add p q r u = modified _ _ _ _ table id set add p q r u
+modify_asked None i None (Some a) table id set add p q r u = modified _ _ _ _ table id set add p q r u
+modify_asked None i (Some s) None table id set add p q r u = modified _ _ _ _ table id set add p q r u
+modify_asked None i (Some s) (Some a) table id set add p q r u = modified _ _ _ _ table id set add p q r u
+modify_asked (Some t) i None None table id set add p q r u = modified _ _ _ _ table id set add p q r u
+modify_asked (Some t) i None (Some a) table id set add p q r u = modified _ _ _ _ table id set add p q r u
+modify_asked (Some t) i (Some s) None table id set add p q r u = modified _ _ _ _ table id set add p q r u
+modify_asked (Some t) i (Some s) (Some a) table id set add p q r u = modified _ _ _ _ table id set add p q r u
+
+ranged : (t : Option (Option (List ℕ))) (i : Option (List ℕ)) (l : Option End) (m : Option ℕ) (table : Option (List ℕ)) (index : List ℕ) (lower : End) (limit : ℕ)
+    → t ≡ Some table → i ≡ Some index → l ≡ Some lower → m ≡ Some limit
+    → option_map₆ request.Range t i l (Some Open) (Some false) m ≡ Some (request.Range table index lower Open false limit)
+ranged t i l m table index lower limit p q r u = rw (p, q, r, u) refl
+
+pub range_asked : (t : Option Data) (i l m : Data) (table : Option (List ℕ)) (index : List ℕ) (lower : End) (limit : ℕ) → if_there as_str t ≡ Some table
+    → as_str i ≡ Some index → lower_end l ≡ Some lower → page m ≡ Some limit
+    → request_in (put (codes "limit") m (put (codes "lower") l (put (codes "index") i (put_if (codes "table") t (named (codes "range"))))))
+    ≡ Some (request.Range table index lower Open false limit)
+unfolding has_only look_up_named
+range_asked None i l m table index lower limit p q r u = ranged _ _ _ _ table index lower limit p q r u
+range_asked (Some t) i l m table index lower limit p q r u = ranged _ _ _ _ table index lower limit p q r u

@@ -1,0 +1,10 @@
+-- The members are what the command asks.
+use Rattle.std.proofs.Common.{codes, refl}
+use Rattle.json.specs.Print.{escape_byte}
+use Rattle.mi_request.specs.declared.request.Request.TheVariants as request
+use Rattle.mi_request.proofs.FlatLemmas.{keyed_means, lower_rank_asked}
+use Rattle.mi_request.proofs.flat.lower_rank.Goals as goal
+
+pub returns : goal.returns
+unfolding escape_byte
+returns c = keyed_means (codes "lower_rank") request.LowerRank _ _ _ c.args.text.now lower_rank_asked c.utf8.text (c.in_ok-table.ensures (codes "lower_rank") refl refl)

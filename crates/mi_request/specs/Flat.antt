@@ -1,0 +1,42 @@
+-- How an object is read member by member: what one member is, and what the others are.
+use Rattle.std.specs.Prelude.{◌≡◌, ℕ, ◌≤◌, List, [], ◌∷◌, ◌++◌, length, Option, Some, None, codes}
+use Rattle.json.specs.Json.{members, read_key, value}
+use Rattle.json.specs.Token.{Token}
+use Rattle.serde_json.specs.Data.{Data, Items, object, string, Members, no_members, member, put}
+use Rattle.serde_json.specs.Find.{as_str, as_array}
+use Rattle.serde_json.specs.Read.{of_json, of_members, converted, read}
+use Rattle.mi_request.specs.Json.{if_there}
+
+-- behind the members that were found these tokens give the others, and nothing else; all of them are these
+abbrev pub IsRest : List Token → Members → Members → Type 0
+IsRest ts found all = (n : ℕ) → length ts ≤ n → converted (λ ms. of_members ms found) (members (value 126) n ts) ≡ Some (all, [])
+
+-- a member of this name and this value, and the tokens behind it
+abbrev pub IsMember : List Token → List ℕ → Data → List Token → Type 0
+IsMember old name d new = (ts : List Token) × (read_key old ≡ Some (Some name, ts)) × (converted of_json (value 126 ts) ≡ Some (d, new))
+
+-- the same of a member that may be absent
+abbrev pub IsMaybe : List Token → List ℕ → Option Data → List Token → Type 0
+IsMaybe old name None new = new ≡ old
+IsMaybe old name (Some d) new = IsMember old name d new
+
+abbrev pub put_if : List ℕ → Option Data → Members → Members
+put_if name None ms = ms
+put_if name (Some d) ms = put name d ms
+
+-- what stands in front of the members of a command
+abbrev pub command_start : List ℕ → List ℕ
+command_start command = codes "{\"cmd\":" ++ (34 ∷ (command ++ (34 ∷ (44 ∷ []))))
+
+-- the member `cmd`, and those of a command over a key behind it
+abbrev pub named : List ℕ → Members
+named command = member (codes "cmd") (string command) no_members
+
+abbrev pub keyed_members : List ℕ → Option Data → Data → Data → Members
+keyed_members command table index key = put (codes "key") key (put (codes "index") index (put_if (codes "table") table (named command)))
+
+-- the text is a command over this key
+abbrev pub IsKeyed : List ℕ → Option (List ℕ) → List ℕ → Items → List ℕ → Type 0
+IsKeyed command table index key text =
+    (t : Option Data) × (i : Data) × (k : Data) × (read text ≡ Some (object (keyed_members command t i k)))
+    × (if_there as_str t ≡ Some table) × (as_str i ≡ Some index) × (as_array k ≡ Some key)
