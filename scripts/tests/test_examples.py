@@ -23,7 +23,8 @@ def read(path):
 
 def written():
     """The names that `weltiyo metrics` writes where it is told everything."""
-    sample = top.Sample(when=0, sizes=[("accounts", 1)], revision=1, depth=1, holder="nobody", turns=1, usage=Usage(1, 1, 1, 1))
+    usage = Usage(1, 1, 1, 1)
+    sample = top.Sample(0, [("accounts", 1)], 1, 1, "nobody", 1, usage, connections=1, unsent=1)
     return set(re.findall(r"^# TYPE (\w+) ", top.prometheus(sample), re.M))
 
 
