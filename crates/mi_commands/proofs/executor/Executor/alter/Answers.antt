@@ -9,4 +9,4 @@ pub returns : goal.returns
 returns g c =
     let put : PutOrMemory c.change-outcome.new.self.database.catalog (said c.change-outcome.result.reply) c.put.new.self = search rules in
     change_put c.args.self.now c.change-outcome.new.self c.args.conn c.args.command (said c.change-outcome.result.reply) c.put.new.self c.change-outcome.result.changed
-        c.requires.changes c.change-outcome.ensures.told put c.change-outcome.ensures.changed
+    c.requires.changes c.change-outcome.ensures.told put c.change-outcome.ensures.changed

@@ -9,4 +9,4 @@ pub returns : goal.returns
 returns g c =
     let put : PutOrMemory c.step-reply.new.self.database.catalog (said c.step-reply.result) c.put.new.self = search rules in
     change_put c.args.self.now c.step-reply.new.self c.args.conn c.args.command.now (said c.step-reply.result) c.put.new.self c.may_change.result
-        c.requires.looks c.step-reply.ensures.told put c.may_change.ensures
+    c.requires.looks c.step-reply.ensures.told put c.may_change.ensures
