@@ -2,4 +2,6 @@
 #![tactic(auto)]
 
 #[cfg(test)]
+mod telling;
+#[cfg(test)]
 mod tests;

@@ -6,7 +6,10 @@ use mi_catalog::{Catalog, built_in};
 use mi_hub::Hub;
 use mi_log::Device;
 use mi_plain::Plain;
-use mi_serving::{JournalFile, JournalFiles, Journaled, Keeping, opened, recovered};
+use mi_schema::read_catalog;
+use mi_serving::{
+    BUILT_IN, JournalFile, JournalFiles, Journaled, Keeping, fingerprint, opened, recovered,
+};
 use std::alloc::Global;
 use std::cell::Cell;
 use std::fs::TryLockError;
@@ -15,7 +18,7 @@ use std::io::{Error, ErrorKind};
 use std::test::Fail;
 
 /// A hub over the table `accounts`, with no connection.
-fn hub(alloc: Global) -> Result<Hub<Plain>, Fail>
+pub(crate) fn hub(alloc: Global) -> Result<Hub<Plain>, Fail>
     ensures { IfOk result (λ h. h.attached ≡ []) }
 {
     let catalog = Catalog::of(alloc, built_in(alloc)?)?;
@@ -29,6 +32,23 @@ fn torn_of(alloc: Global, bytes: &[u8]) -> Result<Option<u64>, Fail> {
         Ok(Journaled::Journal(torn)) => Ok(Some(torn)),
         _ => Ok(None),
     }
+}
+
+/// The text that tells the built-in schema is read as that schema.
+#[test]
+fn the_built_in_text_is_that_schema(rt: HostRuntime) -> Result<(), Fail> {
+    let catalog = Catalog::of(rt.alloc(), built_in(rt.alloc())?)?;
+    match read_catalog(rt.alloc(), BUILT_IN.as_bytes()) {
+        Ok(read) => {
+            let (one, other) = (
+                fingerprint(rt.alloc(), &catalog)?,
+                fingerprint(rt.alloc(), &read)?,
+            );
+            assert!(rt; one.as_str() == other.as_str());
+        }
+        Err(_fault) => assert!(rt; false),
+    }
+    Ok(())
 }
 
 #[test]

@@ -1,0 +1,147 @@
+//! Lines that the service answers itself, between lines of the tables, over streams in memory.
+ghost use Rattle.std.specs.Prelude.{◌≡◌, OnOk};
+ghost use Rattle.mi_log.specs.DeviceLog.{device_of};
+ghost use Rattle.mi_ledger.specs.Ledger.{hub_of, log_of, IsSettled};
+ghost use Rattle.mi_clients.specs.Row.{ids, Attends};
+
+use crate::tests::hub;
+use mi_clients::{Client, Duplex, SchemaLine, admit, serve_all};
+use mi_ledger::Ledger;
+use mi_log::{DeviceLog, Log, MemoryDevice};
+use mi_plain::Plain;
+use mi_sessions::Sessions;
+use std::alloc::Global;
+use std::cell::Cell;
+use std::io;
+use std::io::{Error, ErrorKind};
+use std::test::Fail;
+
+/// A stream that has these bytes, and whose replies are kept.
+#[derive(Drop)]
+struct Pipe<'a> {
+    alloc: Global,
+    bytes: &'a [u8],
+    out: &'a Cell<Vec<u8>>,
+}
+
+impl<'a> Duplex for Pipe<'a> {
+    ghost use Rattle.std.specs.Prelude.{pos};
+
+    ghost handle = { λ _. pos 0 };
+
+    fn read(&mut self, buffer: &mut [u8]) -> io::Result<usize> {
+        let count = self.bytes.len().min(buffer.len());
+        if count == 0 {
+            return Err(Error::from(ErrorKind::WouldBlock));
+        }
+        let (front, rest) = self.bytes.split_at(count);
+        buffer[..count].copy_from_slice(front);
+        self.bytes = rest;
+        Ok(count)
+    }
+
+    fn write(&mut self, bytes: &[u8]) -> io::Result<usize> {
+        let mut out = self.out.replace(Vec::new(self.alloc));
+        let added = out.extend_from_slice(bytes);
+        self.out.set(out);
+        match added {
+            Ok(()) => Ok(bytes.len()),
+            Err(_error) => Err(Error::from(ErrorKind::OutOfMemory)),
+        }
+    }
+}
+
+/// A connection comes.
+fn come<'a, D: Sessions + Drop, L: Log + Drop>(
+    alloc: Global,
+    ledger: &mut Ledger<D, L>,
+    row: &mut Vec<Client<Pipe<'a>>>,
+    conn: u64,
+    stream: Pipe<'a>,
+) -> Result<(), Fail>
+    requires attends { Attends (ids row.old.items) (hub_of ledger.old).attached }
+    requires settled { IsSettled L.appended L.synced ledger.old }
+    ensures attends { OnOk result (Attends (ids row.new.items) (hub_of ledger.new).attached) }
+    ensures settled { OnOk result (IsSettled L.appended L.synced ledger.new) }
+{
+    match admit(alloc, ledger, row, conn, stream) {
+        Ok(_admission) => Ok(()),
+        Err(_fault) => Err(Fail::from("a connection isn't admitted")),
+    }
+}
+
+/// One turn.
+fn turn<'a, D: Sessions + Drop, L: Log + Drop>(
+    alloc: Global,
+    ledger: &mut Ledger<D, L>,
+    row: &mut Vec<Client<Pipe<'a>>>,
+) -> Result<(), Fail>
+    requires attends { Attends (ids row.old.items) (hub_of ledger.old).attached }
+    requires settled { IsSettled L.appended L.synced ledger.old }
+    ensures attends { OnOk result (Attends (ids row.new.items) (hub_of ledger.new).attached) }
+    ensures settled { OnOk result (IsSettled L.appended L.synced ledger.new) }
+{
+    let schema = SchemaLine::of(alloc, "a \"t\"\n")?;
+    let mut buffer = [0u8; 4096];
+    match serve_all(alloc, ledger, row, &mut buffer, false, &schema) {
+        Ok(()) => Ok(()),
+        Err(_fault) => Err(Fail::from("a turn fails")),
+    }
+}
+
+/// Three turns of two connections, 2 and 3, that have sent these bytes.
+fn serve_two<'a>(alloc: Global, first: Pipe<'a>, second: Pipe<'a>) -> Result<(), Fail> {
+    let log = DeviceLog::new(MemoryDevice::new(alloc, 100, 100));
+    let mut ledger = Ledger::<Plain, DeviceLog<MemoryDevice>>::new(hub(alloc)?, log);
+    let mut row = Vec::new(alloc);
+    come(alloc, &mut ledger, &mut row, 2, first)?;
+    come(alloc, &mut ledger, &mut row, 3, second)?;
+    turn(alloc, &mut ledger, &mut row)?;
+    turn(alloc, &mut ledger, &mut row)?;
+    turn(alloc, &mut ledger, &mut row)
+}
+
+/// What is replied to connection 3, beside connection 2, which has sent other bytes.
+fn replied(alloc: Global, beside: &[u8], bytes: &[u8]) -> Result<Vec<u8>, Fail> {
+    let (unheard, out) = (Cell::new(Vec::new(alloc)), Cell::new(Vec::new(alloc)));
+    let first = Pipe {
+        alloc,
+        bytes: beside,
+        out: &unheard,
+    };
+    let second = Pipe {
+        alloc,
+        bytes,
+        out: &out,
+    };
+    serve_two(alloc, first, second)?;
+    Ok(out.replace(Vec::new(alloc)))
+}
+
+#[test]
+fn the_status_of_two(rt: HostRuntime) -> Result<(), Fail> {
+    let out = replied(
+        rt.alloc(),
+        b"{\"cmd\":\"start\"}\n",
+        b"{\"service\":\"status\"}\n",
+    )?;
+    let want =
+        b"{\"connections\":[{\"holds\":true,\"number\":2,\"unsent\":25},{\"holds\":false,\"number\":3,\"unsent\":0}],\
+\"depth\":1,\"holder\":2,\"ok\":true,\"tables\":[{\"name\":\"accounts\",\"size\":0}],\"version\":\"0.1.0\"}\n";
+    assert!(rt; out.as_slice() == want.as_slice());
+    Ok(())
+}
+
+#[test]
+fn lines_keep_their_turns(rt: HostRuntime) -> Result<(), Fail> {
+    let out = replied(
+        rt.alloc(),
+        b"{\"cmd\":\"start\"}\n",
+        b"{\"cmd\":\"size\"}\n{\"service\":\"schema\"}\r\n{\"cmd\":\"start\"}\n{\"service\":\"fly\"}\n{\"service\":1}\n",
+    )?;
+    let want =
+        b"{\"ok\":true,\"size\":0}\n{\"ok\":true,\"schema\":\"a \\\"t\\\"\\n\"}\n{\"error\":\"busy\",\"ok\":false}\n\
+{\"error\":\"form\",\"ok\":false}\n{\"error\":\"form\",\"ok\":false}\n";
+    assert!(rt; out.as_slice() == want.as_slice());
+    Ok(())
+}
