@@ -311,6 +311,29 @@ fn put_page(
     put_behind(text, end, b"]}")
 }
 
+/// The same without labels from before: for many rows they are made here.
+#[inline(never)]
+fn put_plain_page(
+    alloc: Global,
+    text: &mut Vec<u8>,
+    at: usize,
+    rows: &[(u64, &Record)],
+    more: bool,
+    columns: &[Column],
+) -> Result<usize, AllocError>
+    requires few { length columns.now ≤ MAX_COLUMNS }
+    requires within { at ≤ vec_len text.old }
+    ensures text { IfOk result (λ end. take end text.new.items
+        ≡ take at text.old.items ++ compact_text (object (member (codes "more") (boolean more) (member (codes "ok") (boolean true)
+        (member (codes "rows") (array (rows_items columns.now (map (λ r. (r.0, r.1.now)) rows.now))) no_members))))) }
+    ensures within { IfOk result (λ end. end < vec_len text.new) }
+{
+    if rows.len() > FEW_ROWS {
+        return put_page(alloc, text, at, rows, more, columns, &labels_of(columns));
+    }
+    put_page(alloc, text, at, rows, more, columns, &None)
+}
+
 /// Puts the text of the reply that shows several rows, and whether more follow, behind the first bytes of a vector, without a newline, and
 /// answers how many bytes count then: `{"more":false,"ok":true,"rows":[..]}`. One byte at least is free behind them. Of columns there are at
 /// most 16. Labels that were made of these columns before save time.
@@ -335,10 +358,7 @@ pub fn put_rows_reply(
 {
     match labels {
         Some(labels) => put_page(alloc, text, at, rows, more, columns, labels.members()),
-        None if rows.len() > FEW_ROWS => {
-            put_page(alloc, text, at, rows, more, columns, &labels_of(columns))
-        }
-        None => put_page(alloc, text, at, rows, more, columns, &None),
+        None => put_plain_page(alloc, text, at, rows, more, columns),
     }
 }
 
@@ -392,6 +412,25 @@ fn put_wide(
     put_one(alloc, text, at, id, row, columns, labels, &mut cells)
 }
 
+/// The same without labels.
+#[inline(never)]
+fn put_plain_row(
+    alloc: Global,
+    text: &mut Vec<u8>,
+    at: usize,
+    id: u64,
+    row: &Record,
+    columns: &[Column],
+) -> Result<usize, AllocError>
+    requires few { length columns.now ≤ MAX_COLUMNS }
+    requires within { at ≤ vec_len text.old }
+    ensures text { IfOk result (λ end. take end text.new.items ≡ take at text.old.items
+        ++ compact_text (object (member (codes "ok") (boolean true) (member (codes "row") (row_data columns.now id row.now) no_members)))) }
+    ensures within { IfOk result (λ end. end < vec_len text.new) }
+{
+    put_wide(alloc, text, at, id, row, columns, &None)
+}
+
 /// Puts the text of the reply that shows a row behind the first bytes of a vector, without a newline, and answers how many bytes count then:
 /// `{"ok":true,"row":{..}}`. One byte at least is free behind them. A row with fewer values than columns shows those that it has. Of columns
 /// there are at most 16. Labels that were made of these columns before save time.
@@ -413,11 +452,10 @@ pub fn put_row_reply(
         ++ compact_text (object (member (codes "ok") (boolean true) (member (codes "row") (row_data columns.now id row.now) no_members)))) }
     ensures within { IfOk result (λ end. end < vec_len text.new) }
 {
-    let none = None;
-    let labels = match labels {
-        Some(labels) => labels.members(),
-        None => &none,
+    let Some(labels) = labels else {
+        return put_plain_row(alloc, text, at, id, row, columns);
     };
+    let labels = labels.members();
     if columns.len() >= FEW_CELLS {
         return put_wide(alloc, text, at, id, row, columns, labels);
     }
