@@ -23,16 +23,6 @@ looks_up (command.Size table) = true
 looks_up command.Revision = true
 looks_up other = false
 
--- a command that changes a table; one that neither does so nor looks up is a session step
-abbrev pub changes_table : Command → Bool
-changes_table (command.Insert table row before) = true
-changes_table (command.Replace table id row) = true
-changes_table (command.Modify table id edits rollback) = true
-changes_table (command.Erase table id) = true
-changes_table (command.EraseKey table index key) = true
-changes_table (command.Relocate table index id before) = true
-changes_table other = false
-
 -- memory is refused
 abbrev pub SaysMemory : Said → Type 0
 SaysMemory (refused table Memory) = Unit {0}

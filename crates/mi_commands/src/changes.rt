@@ -1,8 +1,7 @@
 //! The changes of a table, and all that isn't a look-up by its command. What they answer lends nothing.
-ghost use Rattle.std.specs.Prelude.{◌≡◌, ℕ, true, false};
+ghost use Rattle.std.specs.Prelude.{◌≡◌, true, false};
 ghost use Rattle.mi_protocol.specs.Binding.{FitsCatalog};
 ghost use Rattle.mi_protocol.specs.Replies.{said, IsSaidOf};
-ghost use Rattle.mi_commands.specs.Told as spec;
 
 use crate::executor::Executor;
 use crate::outcome::Outcome;
@@ -10,25 +9,10 @@ use mi_protocol::{Command, Reply};
 use mi_sessions::Sessions;
 use mi_value::{Edit, Record, Value};
 
-/// Whether a command changes a table.
-pub(crate) fn changes_table(command: &Command) -> bool
-    ensures { result ≡ spec.changes_table command.now }
-{
-    matches!(
-        command,
-        Command::Insert { .. }
-            | Command::Replace { .. }
-            | Command::Modify { .. }
-            | Command::Erase { .. }
-            | Command::EraseKey { .. }
-            | Command::Relocate { .. }
-    )
-}
-
 impl<D: Sessions + Drop> Executor<D> {
     ghost use Rattle.mi_commands.specs.Performed.{performed as done};
     ghost use Rattle.mi_commands.specs.Answer.{done_without};
-    ghost use Rattle.mi_commands.specs.Told.{ToldOrMemory, looks_up, changes_table, may_change};
+    ghost use Rattle.mi_commands.specs.Told.{ToldOrMemory, looks_up, may_change};
 
     /// Does a command that doesn't look up: a change of a table, or a session step. `Memory` may stand in the place of any answer but those
     /// of the session steps other than a start, and then nothing has changed. Where it isn't `changed`, tables, sessions and holder are as
@@ -52,21 +36,6 @@ impl<D: Sessions + Drop> Executor<D> {
         ensures told { ToldOrMemory (done_without command ≡ false) (done self.old conn command) self.old (said result) self.new }
         ensures fits { IsSaidOf self.new.database.catalog (said result) }
     {
-        if changes_table(&command) {
-            self.change_table(command)
-        } else {
-            self.step(conn, &command)
-        }
-    }
-
-    /// Changes a table. It doesn't matter which connection asks.
-    #[inline(never)]
-    fn change_table(&mut self, command: Command) -> Reply<'static>
-        requires fits { FitsCatalog self.old.database.catalog command }
-        requires changes { changes_table command ≡ true }
-        ensures told { (conn : ℕ) → ToldOrMemory (done_without command ≡ false) (done self.old conn command) self.old (said result) self.new }
-        ensures fits { IsSaidOf self.new.database.catalog (said result) }
-    {
         match command {
             Command::Insert { table, row, before } => self.insert(table, row, before),
             Command::Replace { table, id, row } => self.replace(table, id, row),
@@ -84,6 +53,13 @@ impl<D: Sessions + Drop> Executor<D> {
                 id,
                 before,
             } => self.relocate(table, index, id, before),
+            Command::Start => self.start(conn),
+            Command::Undo => self.undo(),
+            Command::Squash => self.squash(),
+            Command::Commit { revision } => self.commit(revision),
+            Command::UndoAll => self.undo_all(),
+            Command::Push => self.push(conn),
+            Command::Reserve { changes, sessions } => self.reserve(changes, sessions),
             _ => unreachable!(),
         }
     }

@@ -8,10 +8,8 @@ ghost use Rattle.mi_request.specs.Lines.{command_line};
 ghost use Rattle.mi_protocol.specs.Replies.{reply_text, refused};
 ghost use Rattle.mi_commands.specs.Told as spec;
 
-use crate::changes::changes_table;
 use crate::holder::{Holder, held_by, is_busy, without_holder};
 use crate::line::Line;
-use crate::outcome::may_change;
 use mi_protocol::{Command, LineReader, Output, Reply, ReplyLabels, bind};
 use mi_sessions::Sessions;
 use mi_value::Refusal;
@@ -131,49 +129,6 @@ impl<D: Sessions + Drop> Executor<D> {
         }
     }
 
-    /// Shows what a look-up answers.
-    #[inline(never)]
-    fn show(&self, conn: u64, command: &Command, out: &mut Output)
-        requires fits { FitsCatalog self.now.database.catalog command.now }
-        requires looks { spec.looks_up command.now ≡ true }
-        ensures { AnsweredOrMemory (done_without command.now ≡ false) (performed self.now conn command.now)
-            (spec.may_change command.now (performed self.now conn command.now).0) self.now out.new false self.now }
-    {
-        let reply = self.look(conn, command);
-        out.put(self.alloc, &reply, self.database.catalog(), &self.labels);
-    }
-
-    /// Makes a session step, and says whether it may have changed anything.
-    #[inline(never)]
-    fn take_step(&mut self, conn: u64, command: &Command, out: &mut Output) -> bool
-        requires looks { spec.looks_up command.now ≡ false }
-        requires changes { spec.changes_table command.now ≡ false }
-        ensures { AnsweredOrMemory (done_without command.now ≡ false) (performed self.old conn command.now)
-            (spec.may_change command.now (performed self.old conn command.now).0) self.old out.new result self.new }
-    {
-        let reply = self.step(conn, command);
-        out.put(self.alloc, &reply, self.database.catalog(), &self.labels);
-        may_change(command, &reply)
-    }
-
-    /// Changes a table, and says whether anything may have changed.
-    #[inline(never)]
-    fn alter(&mut self, conn: u64, command: Command, out: &mut Output) -> bool
-        requires fits { FitsCatalog self.old.database.catalog command }
-        requires changes { spec.looks_up command ≡ false }
-        ensures { AnsweredOrMemory (done_without command ≡ false) (performed self.old conn command)
-            (spec.may_change command (performed self.old conn command).0) self.old out.new result self.new }
-    {
-        let outcome = self.change(conn, command);
-        out.put(
-            self.alloc,
-            &outcome.reply,
-            self.database.catalog(),
-            &self.labels,
-        );
-        outcome.changed
-    }
-
     /// Does a command that fits the catalog, and says whether anything may have changed. The session commands other than a start, `revision`,
     /// `size` and `rank` take no memory.
     fn perform(&mut self, conn: u64, command: Command, out: &mut Output) -> bool
@@ -182,12 +137,18 @@ impl<D: Sessions + Drop> Executor<D> {
             (spec.may_change command (performed self.old conn command).0) self.old out.new result self.new }
     {
         if looks_up(&command) {
-            self.show(conn, &command, out);
+            let reply = self.look(conn, &command);
+            out.put(self.alloc, &reply, self.database.catalog(), &self.labels);
             false
-        } else if changes_table(&command) {
-            self.alter(conn, command, out)
         } else {
-            self.take_step(conn, &command, out)
+            let outcome = self.change(conn, command);
+            out.put(
+                self.alloc,
+                &outcome.reply,
+                self.database.catalog(),
+                &self.labels,
+            );
+            outcome.changed
         }
     }
 

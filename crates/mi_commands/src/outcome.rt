@@ -3,7 +3,7 @@ ghost use Rattle.std.specs.Prelude.{◌≡◌, false, if◌then◌else◌};
 ghost use Rattle.mi_protocol.specs.Replies.{said};
 ghost use Rattle.mi_commands.specs.Told as spec;
 
-use mi_protocol::{Command, Reply};
+use mi_protocol::Reply;
 use mi_value::Refusal;
 
 /// What a change or a session step is answered.
@@ -30,16 +30,6 @@ fn loses(refusal: Refusal) -> bool
     ensures { result ≡ spec.loses refusal }
 {
     matches!(refusal, Refusal::Lost { .. })
-}
-
-/// Whether a command that is answered so may have changed something. A reserve changes nothing.
-pub(crate) fn may_change(command: &Command, reply: &Reply<'_>) -> bool
-    ensures { result ≡ spec.may_change command.now (said reply.now) }
-{
-    match command {
-        Command::Reserve { .. } => false,
-        _ => tells_change(reply),
-    }
 }
 
 /// Whether a reply is to a change or a session step that was accepted, or that lost a record.

@@ -1,5 +1,5 @@
 //! The session steps, and who holds the open sessions after each.
-ghost use Rattle.std.specs.Prelude.{◌≡◌, false};
+ghost use Rattle.std.specs.Prelude.{◌≡◌};
 ghost use Rattle.mi_protocol.specs.Replies.{said, IsSaidOf};
 
 use crate::executor::Executor;
@@ -10,30 +10,10 @@ use mi_value::Refusal;
 
 impl<D: Sessions + Drop> Executor<D> {
     ghost use Rattle.mi_commands.specs.Performed.{performed as done};
-    ghost use Rattle.mi_commands.specs.Answer.{done_without};
-    ghost use Rattle.mi_commands.specs.Told.{ToldOrMemory, looks_up, changes_table};
-
-    /// Does a session step. Those other than a start and a reserve take no memory.
-    pub(crate) fn step(&mut self, conn: u64, command: &Command) -> Reply<'static>
-        requires looks { looks_up command.now ≡ false }
-        requires changes { changes_table command.now ≡ false }
-        ensures told { ToldOrMemory (done_without command.now ≡ false) (done self.old conn command.now) self.old (said result) self.new }
-        ensures fits { IsSaidOf self.new.database.catalog (said result) }
-    {
-        match command {
-            Command::Start => self.start(conn),
-            Command::Undo => self.undo(),
-            Command::Squash => self.squash(),
-            Command::Commit { revision } => self.commit(*revision),
-            Command::UndoAll => self.undo_all(),
-            Command::Push => self.push(conn),
-            Command::Reserve { changes, sessions } => self.reserve(*changes, *sessions),
-            _ => unreachable!(),
-        }
-    }
+    ghost use Rattle.mi_commands.specs.Told.{ToldOrMemory};
 
     /// Opens a session, which the connection then holds.
-    fn start(&mut self, conn: u64) -> Reply<'static>
+    pub(crate) fn start(&mut self, conn: u64) -> Reply<'static>
         ensures told { ToldOrMemory (Unit {0}) (done self.old conn Command.Start) self.old (said result) self.new }
         ensures fits { IsSaidOf self.new.database.catalog (said result) }
     {
@@ -48,7 +28,7 @@ impl<D: Sessions + Drop> Executor<D> {
     }
 
     /// Undoes the newest session. It takes no memory.
-    fn undo(&mut self) -> Reply<'static>
+    pub(crate) fn undo(&mut self) -> Reply<'static>
         ensures said { said result ≡ (done self.old 0 Command.Undo).0 }
         ensures left { self.new ≡ (done self.old 0 Command.Undo).1 }
         ensures fits { IsSaidOf self.new.database.catalog (said result) }
@@ -66,7 +46,7 @@ impl<D: Sessions + Drop> Executor<D> {
     }
 
     /// Joins the newest session into the one below. It takes no memory.
-    fn squash(&mut self) -> Reply<'static>
+    pub(crate) fn squash(&mut self) -> Reply<'static>
         ensures said { said result ≡ (done self.old 0 Command.Squash).0 }
         ensures left { self.new ≡ (done self.old 0 Command.Squash).1 }
         ensures fits { IsSaidOf self.new.database.catalog (said result) }
@@ -84,7 +64,7 @@ impl<D: Sessions + Drop> Executor<D> {
     }
 
     /// Ends the sessions up to a number. It takes no memory.
-    fn commit(&mut self, number: u64) -> Reply<'static>
+    pub(crate) fn commit(&mut self, number: u64) -> Reply<'static>
         ensures said { said result ≡ (done self.old 0 (Command.Commit number)).0 }
         ensures left { self.new ≡ (done self.old 0 (Command.Commit number)).1 }
         ensures fits { IsSaidOf self.new.database.catalog (said result) }
@@ -95,7 +75,7 @@ impl<D: Sessions + Drop> Executor<D> {
     }
 
     /// Undoes every open session. It takes no memory.
-    fn undo_all(&mut self) -> Reply<'static>
+    pub(crate) fn undo_all(&mut self) -> Reply<'static>
         ensures said { said result ≡ (done self.old 0 Command.UndoAll).0 }
         ensures left { self.new ≡ (done self.old 0 Command.UndoAll).1 }
         ensures fits { IsSaidOf self.new.database.catalog (said result) }
@@ -106,7 +86,7 @@ impl<D: Sessions + Drop> Executor<D> {
     }
 
     /// Lets go of the sessions that the connection holds; they stay open. It takes no memory.
-    fn push(&mut self, conn: u64) -> Reply<'static>
+    pub(crate) fn push(&mut self, conn: u64) -> Reply<'static>
         ensures said { said result ≡ (done self.old conn Command.Push).0 }
         ensures left { self.new ≡ (done self.old conn Command.Push).1 }
         ensures fits { IsSaidOf self.new.database.catalog (said result) }
@@ -117,7 +97,7 @@ impl<D: Sessions + Drop> Executor<D> {
     }
 
     /// Asks the database for room for so many changes and so many sessions.
-    fn reserve(&mut self, changes: u64, sessions: u64) -> Reply<'static>
+    pub(crate) fn reserve(&mut self, changes: u64, sessions: u64) -> Reply<'static>
         ensures told { ToldOrMemory (Unit {0}) (done self.old 0 (Command.Reserve changes sessions)) self.old (said result) self.new }
         ensures fits { IsSaidOf self.new.database.catalog (said result) }
     {
