@@ -100,6 +100,8 @@ class AtATerminal(unittest.TestCase):
             it = Terminal(self, "--connect", str(listener.getsockname()[1]), "--timeout", "0")
             with listener.accept()[0] as there:
                 there.recv(100)
+                # (by now it waits for the reply)
+                time.sleep(0.3)
                 os.kill(it.process.pid, signal.SIGINT)
                 it.until("interrupted while a reply was awaited. The connection is closed")
                 it.asked("quit", "quit")
