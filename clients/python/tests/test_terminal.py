@@ -1,4 +1,5 @@
 """The prompt at a terminal, and what it does alike in a pipe: the depth before each line, pages, files, and a server that goes away."""
+import functools
 import os
 import pty
 import re
@@ -28,7 +29,9 @@ class Terminal:
         mine, its = pty.openpty()
         env = {**kit.environment(), "TERM": "dumb", "HOME": kit.folder(test), "COLUMNS": "80", "LINES": "24", **variables}
         command = [sys.executable, "-m", "mi_client", *words]
-        self.process = subprocess.Popen(command, stdin=its, stdout=its, stderr=its, env=env, start_new_session=True)
+        # (what a shell starts behind itself ignores interrupts, and so would this)
+        heeds = functools.partial(signal.signal, signal.SIGINT, signal.SIG_DFL)
+        self.process = subprocess.Popen(command, stdin=its, stdout=its, stderr=its, env=env, start_new_session=True, preexec_fn=heeds)
         os.close(its)
         self._end, self._test, self.seen = mine, test, b""
         test.addCleanup(os.close, mine)
@@ -100,8 +103,6 @@ class AtATerminal(unittest.TestCase):
             it = Terminal(self, "--connect", str(listener.getsockname()[1]), "--timeout", "0")
             with listener.accept()[0] as there:
                 there.recv(100)
-                # (by now it waits for the reply)
-                time.sleep(0.3)
                 os.kill(it.process.pid, signal.SIGINT)
                 it.until("interrupted while a reply was awaited. The connection is closed")
                 it.asked("quit", "quit")
