@@ -188,11 +188,11 @@ fn seat<S: Drop>(row: &mut Vec<Client<S>>, client: Client<S>) -> Result<Admissio
     }
 }
 
-/// The connections of a row are served: what is ready of each is read, its lines are asked, what it asks of the service is told, the replies are
-/// sent once all that was appended stays, and those that are over are let go.
+/// The connections of a row are served. What is ready of each is read, its lines are asked, and what it asks of the service is told. The replies
+/// are sent once all that was appended stays, and those that are over are let go.
 ///
-/// What one is sent or owed are the replies to its own lines, whole and in their order. To one line of each the service tells something, and what
-/// follows that line waits for the next call.
+/// What one is sent or owed are the replies to its own lines, whole and in their order. The service tells something to one line of a
+/// connection at most, and what follows that line waits for the next call.
 pub fn serve_all<D: Sessions + Drop, L: Log + Drop, S: Duplex + Drop>(
     alloc: Global,
     ledger: &mut Ledger<D, L>,

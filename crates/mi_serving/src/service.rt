@@ -93,10 +93,10 @@ fn accept_all<D: Sessions + Drop, L: Log + Drop>(
     Ok(())
 }
 
-/// What is done once some connections are ready: those that have come are accepted, what is ready is read, its lines are asked, what it asks
-/// of the service is told, the replies are sent once the journal stays, and those that are over are let go. What a connection receives are the
-/// replies to its own lines, whole and in their order. A connection keeps its number and its stream, and once its bytes have ended and its lines are asked nothing
-/// of it is held.
+/// What is done once some connections are ready. Those that have come are accepted, what is ready is read, its lines are asked, and what it
+/// asks of the service is told. The replies are sent once the journal stays, and those that are over are let go. What a connection receives
+/// are the replies to its own lines, whole and in their order. A connection keeps its number and its stream, and once its bytes have ended
+/// and its lines are asked nothing of it is held.
 ///
 /// `Memory` where memory for a reply or for the row is refused, or one that goes holds sessions still once 1,025 lines undid some;
 /// `Journal` where a line can't be appended whole, or what was appended can't be made to stay. Nothing is said of the hub then, and
