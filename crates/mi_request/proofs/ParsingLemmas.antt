@@ -1,18 +1,11 @@
 -- From the value that a text is to the request that it is.
 use Rattle.std.proofs.Common.{◌≡◌, ℕ, List, Bool, true, false, cond, Option, Some, None}
-use Rattle.std.proofs.Common.{◌≤◌, [], option_and_then, Ok, refl, sym, ap, ◌∙◌, inl, inr, ◌⊎◌, append-nil}
+use Rattle.std.proofs.Common.{Ok, refl, sym, ap, ◌∙◌, inl, inr, ◌⊎◌}
 use Rattle.std.specs.Option.{ok_or}
 use Rattle.std.specs.Str.{IsUtf8, is_utf8}
 use Rattle.std.proofs.lemmas.Str.{IsUtf8-from_is_utf8, is_utf8-from_IsUtf8}
-use Rattle.json.specs.Json as json
-use Rattle.json.specs.Json.{value, if_last}
-use Rattle.json.specs.Lex.{tokens}
-use Rattle.json.specs.Print.{print}
-use Rattle.json.specs.Tree.{json_tokens, depth, HasNumbers}
-use Rattle.json.proofs.Printed.Tokens.{tokens-print}
-use Rattle.json.proofs.Printed.Trees.{value-json_tokens, ArePrintable-json_tokens}
 use Rattle.serde_json.specs.Data.{Data}
-use Rattle.serde_json.specs.Read.{of_json, read}
+use Rattle.serde_json.specs.Read.{read}
 use Rattle.mi_value.specs.declared.refusal.Refusal.TheVariants.{Form}
 use Rattle.mi_request.specs.Answers.{IsAnswer}
 use Rattle.mi_request.specs.Lines.{json_of, request_of, request_or_refusal, command_line}
@@ -35,14 +28,6 @@ json-refused bytes none = elim (test_of (is_utf8 bytes)) [
 pub answer-value : (r : Option Request) (bytes : List ℕ) (d : Data) → json_of bytes ≡ Some d → r ≡ request_of d → IsAnswer (ok_or r Form) (command_line bytes)
 answer-value None bytes d found is = ap request_or_refusal found ∙ ap (λ o. ok_or o Form) (sym is)
 answer-value (Some r) bytes d found is = ap request_or_refusal found ∙ ap (λ o. ok_or o Form) (sym is)
-
--- what is written of a value is read as it
-pub printed_read : (j : json.Json) (text : List ℕ) (d : Data) → print (json_tokens j) ≡ text → HasNumbers j → depth j ≤ 127 → of_json j ≡ Some d → read text ≡ Some d
-printed_read j text d is numbers shallow means =
-    ap (λ ts. option_and_then of_json (option_and_then (λ p. if_last p.0 p.1) (value 127 ts)))
-    (ap tokens (sym is) ∙ tokens-print (json_tokens j) (ArePrintable-json_tokens j numbers) ∙ sym (append-nil (json_tokens j)))
-    ∙ ap (λ o. option_and_then of_json (option_and_then (λ p. if_last p.0 p.1) o)) (value-json_tokens j 127 [] shallow)
-    ∙ means
 
 -- a line is the request of its value
 pub request_found : (line : List ℕ) (d : Data) (r : Request) → IsUtf8 line → read line ≡ Some d → request_of d ≡ Some r → command_line line ≡ Ok r

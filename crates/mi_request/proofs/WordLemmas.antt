@@ -415,19 +415,6 @@ member-read a_whole m t rest w e =
     (option_and_then_some whole_at (behind (whole_front m) t) (n, rest) found (λ r front at. numbered m t rest r n front at)))
 member-read perhaps_whole m t rest w e = perhaps_numbered m t rest w (behind (whole_front m) t) refl e
 
--- what the code finds behind a front
-pub behind_is : (front t : List ℕ) (r : Option (Bor (List ℕ))) (x : Bor (List ℕ)) → option_map (λ y. y.now) r ≡ behind front t → r ≡ Some x → t ≡ front ++ x.now
-behind_is front t r x found is = front-behind front t x.now (sym found ∙ ap (option_map (λ y. y.now)) is)
-
-whole_behind_read : (front t rest : List ℕ) (n : ℕ) → needed_at whole_at front t ≡ Some (n, rest) → (t ≡ front ++ (decimal n ++ rest)) × (n < 2 ^ 63)
-whole_behind_read front t rest n e =
-    option_and_then_some whole_at (behind front t) (n, rest) e
-    (λ r found at. let q = whole-read r rest n at in (front-behind front t r found ∙ ap (λ l. front ++ l) q.0, q.1))
-
-pub whole_behind_is : (front t : List ℕ) (r : Option (ℕ × Bor (List ℕ))) (n : ℕ) (x : Bor (List ℕ))
-    → option_map {U = ℕ × List ℕ} (λ p. (p.0, p.1.now)) r ≡ needed_at whole_at front t → r ≡ Some (n, x) → (t ≡ front ++ (decimal n ++ x.now)) × (n < 2 ^ 63)
-whole_behind_is front t r n x found is = whole_behind_read front t x.now n (sym found ∙ ap (option_map {U = ℕ × List ℕ} (λ p. (p.0, p.1.now))) is)
-
 -- what is read of members was written
 abbrev WereWritten : List ℕ → List Member → Type 0
 WereWritten t ms = (t ≡ members_text ms) × (are_words ms ≡ true)
