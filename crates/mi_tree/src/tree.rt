@@ -165,9 +165,15 @@ impl<O> Tree<O> {
             (retagged (record { key = O.tag_of self.now.order v; stamp = stamp }) (link_of p.old node.name self.now.slot)) }
     {
         let key = self.order.tag(p.value(node));
-        let tag = Tag { key, stamp };
         let link = p.link(node, self.slot);
-        p.set_link(node, self.slot, Link { tag, ..link });
+        p.set_link(
+            node,
+            self.slot,
+            Link {
+                tag: Tag { key, stamp },
+                ..link
+            },
+        );
     }
 
     /// How many nodes it has. Reads one link.

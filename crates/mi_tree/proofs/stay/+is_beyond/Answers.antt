@@ -15,16 +15,48 @@ compare_value-side-requires-clause-right g t c =
 pub is_beyond-requires : goal.is_beyond-requires
 is_beyond-requires g t c κs within =
     let v = c.args in let w = c.requires.tree in let order = g.O.NodeOrder.order v.order.now in let total = g.met.O.NodeOrder.total v.order.now in
-    let falls = lower order total w.1 w.2 c.in-Some.is c.link-link.ensures in
-    (omega (arith, c.decreases, falls.1), (within.0, (within.1, (c.requires.slot, (c.requires.tag, (c.requires.decided,
-    right_is order total w.1 w.2 c.in-Some.is c.link-link.ensures (g.O.NodeOrder.tag_of v.order.now) w.3))))))
+    let falls = lower order total w.1 w.2 c.in-Some.is c.link-link.ensures in (
+      omega (arith, c.decreases, falls.1),
+      (
+        within.0,
+        (
+          within.1,
+          (
+            c.requires.slot,
+            (
+              c.requires.tag,
+              (
+                c.requires.decided,
+                right_is order total w.1 w.2 c.in-Some.is c.link-link.ensures (g.O.NodeOrder.tag_of v.order.now) w.3,
+              ),
+            ),
+          ),
+        ),
+      ),
+    )
 
 pub is_beyond-requires-then-is_lt : goal.is_beyond-requires-then-is_lt
 is_beyond-requires-then-is_lt g t c κs within =
     let v = c.args in let w = c.requires.tree in let order = g.O.NodeOrder.order v.order.now in let total = g.met.O.NodeOrder.total v.order.now in
-    let falls = lower order total w.1 w.2 c.in-Some.is c.link-link.ensures in
-    (omega (arith, c.decreases, falls.0), (within.0, (within.1, (c.requires.slot, (c.requires.tag, (c.requires.decided,
-    left_is order total w.1 w.2 c.in-Some.is c.link-link.ensures (g.O.NodeOrder.tag_of v.order.now) w.3))))))
+    let falls = lower order total w.1 w.2 c.in-Some.is c.link-link.ensures in (
+      omega (arith, c.decreases, falls.0),
+      (
+        within.0,
+        (
+          within.1,
+          (
+            c.requires.slot,
+            (
+              c.requires.tag,
+              (
+                c.requires.decided,
+                left_is order total w.1 w.2 c.in-Some.is c.link-link.ensures (g.O.NodeOrder.tag_of v.order.now) w.3,
+              ),
+            ),
+          ),
+        ),
+      ),
+    )
 
 pub returns-then-is_gt-clause-beyond : goal.returns-then-is_gt-clause-beyond
 returns-then-is_gt-clause-beyond g t c u h up =

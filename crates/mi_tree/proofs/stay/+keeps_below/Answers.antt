@@ -54,18 +54,62 @@ compare_value-requires-in-Greater-clause-right g t c =
 pub keeps_below-requires : goal.keeps_below-requires
 keeps_below-requires g t c κs within =
     let o = goal.at.keeps_below-requires g t c in let v = c.args in let w = c.requires.tree in let order = g.O.NodeOrder.order v.order.now in
-    let total = g.met.O.NodeOrder.total v.order.now in let i = c.link-link.ensures in let falls = lower order total w.3 w.4 c.in-Some.is i in
-    (omega (arith, c.decreases, falls.0), (within.0, (within.1, (c.requires.slot, (c.requires.tag, (c.requires.decided, (c.requires.new, (c.requires.exact,
-    part_left order total w.3 w.4 c.in-Some.is i v.value.now v.new.stamp v.node w.1 w.2 w.6 (g.O.NodeOrder.tag_of v.order.now) w.5
-    (side_found g t o.After-compare_nodes ∙ c.in-Less.is)))))))))
+    let total = g.met.O.NodeOrder.total v.order.now in let i = c.link-link.ensures in let falls = lower order total w.3 w.4 c.in-Some.is i in (
+      omega (arith, c.decreases, falls.0),
+      (
+        within.0,
+        (
+          within.1,
+          (
+            c.requires.slot,
+            (
+              c.requires.tag,
+              (
+                c.requires.decided,
+                (
+                  c.requires.new,
+                  (
+                    c.requires.exact,
+                    part_left order total w.3 w.4 c.in-Some.is i v.value.now v.new.stamp v.node w.1 w.2 w.6 (g.O.NodeOrder.tag_of v.order.now) w.5
+                        (side_found g t o.After-compare_nodes ∙ c.in-Less.is),
+                  ),
+                ),
+              ),
+            ),
+          ),
+        ),
+      ),
+    )
 
 pub keeps_below-requires-then-is_gt : goal.keeps_below-requires-then-is_gt
 keeps_below-requires-then-is_gt g t c κs within =
     let o = goal.at.keeps_below-requires-then-is_gt g t c in let v = c.args in let w = c.requires.tree in let order = g.O.NodeOrder.order v.order.now in
-    let total = g.met.O.NodeOrder.total v.order.now in let i = c.link-link.ensures in let falls = lower order total w.3 w.4 c.in-Some.is i in
-    (omega (arith, c.decreases, falls.1), (within.0, (within.1, (c.requires.slot, (c.requires.tag, (c.requires.decided, (c.requires.new, (c.requires.exact,
-    part_right order total w.3 w.4 c.in-Some.is i v.value.now v.new.stamp v.node w.1 w.2 w.6 (g.O.NodeOrder.tag_of v.order.now) w.5
-    (side_found g t o.After-compare_nodes ∙ c.in-Greater.is)))))))))
+    let total = g.met.O.NodeOrder.total v.order.now in let i = c.link-link.ensures in let falls = lower order total w.3 w.4 c.in-Some.is i in (
+      omega (arith, c.decreases, falls.1),
+      (
+        within.0,
+        (
+          within.1,
+          (
+            c.requires.slot,
+            (
+              c.requires.tag,
+              (
+                c.requires.decided,
+                (
+                  c.requires.new,
+                  (
+                    c.requires.exact,
+                    part_right order total w.3 w.4 c.in-Some.is i v.value.now v.new.stamp v.node w.1 w.2 w.6 (g.O.NodeOrder.tag_of v.order.now) w.5
+                        (side_found g t o.After-compare_nodes ∙ c.in-Greater.is),
+                  ),
+                ),
+              ),
+            ),
+          ),
+        ),
+      ),
+    )
 
 pub is_beyond-requires-clause-tree : goal.is_beyond-requires-clause-tree
 is_beyond-requires-clause-tree g t c =
