@@ -16,7 +16,8 @@ use mi_value::Refusal;
 use std::alloc::Global;
 use std::marker::Model;
 
-/// A database, who holds its open sessions, what reads the lines that ask it, and the labels of the rows that are shown.
+/// A database, who holds its open sessions, what reads the lines that ask it, and the labels of the rows that are shown. The labels are
+/// none, or those of the database's catalog, which never changes.
 #[derive(Drop)]
 pub struct Executor<D: Sessions + Drop> {
     pub(crate) database: D,
@@ -30,12 +31,13 @@ impl<D: Sessions + Drop> Model for Executor<D> {
     ghost use Rattle.std.specs.Prelude.{◌≤◌, length};
     ghost use Rattle.mi_commands.specs.Holder.{HeldDatabase, held_count};
     ghost use Rattle.mi_model.specs.Database.{depth};
+    ghost use Rattle.mi_protocol.specs.Labels.{AreLabelsOf};
 
     ghost Value = { HeldDatabase };
 
     ghost view = { λ d. record { database = D.state d.database; holder = d.holder } };
 
-    ghost invariant = { λ d. held_count d.holder ≤ depth (D.state d.database) };
+    ghost invariant = { λ d. (held_count d.holder ≤ depth (D.state d.database)) × AreLabelsOf (D.state d.database).catalog d.labels };
 }
 
 impl<D: Sessions + Drop> Executor<D> {

@@ -4,6 +4,7 @@ pub mod EditOrder
 pub mod Edits
 pub mod FirstTable
 pub mod Keys
+pub mod Labels
 pub mod Output
 pub mod Replies
 pub mod ReplyJson

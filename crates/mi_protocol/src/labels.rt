@@ -1,13 +1,15 @@
 //! The labels of the rows of a catalog's tables, made once and kept beside the catalog. It shows no row.
 ghost use Rattle.std.specs.Prelude.{◌≡◌, map, IfOk};
+ghost use Rattle.mi_catalog.specs.Shape.{CatalogShape, schema_at};
+ghost use Rattle.mi_protocol.specs.Labels.{AreLabelsOf};
 
-use mi_catalog::{Catalog, Column};
+use mi_catalog::Catalog;
 use mi_rows::RowLabels;
 use std::alloc::{AllocError, Global};
 use std::marker::Model;
 
-/// The labels of the rows of tables, by their numbers. Each table's keep the columns that they were made of, and are used for rows of
-/// these columns alone, whichever catalog a reply is over.
+/// The labels of the rows of a catalog's tables, by their numbers, or none. A reply is put with the labels of its own catalog or with none,
+/// so it compares nothing.
 #[derive(Drop)]
 pub struct ReplyLabels {
     tables: Vec<RowLabels>,
@@ -65,15 +67,10 @@ impl ReplyLabels {
         self.tables.is_empty()
     }
 
-    /// The labels of a table's rows, if they were made of these columns.
-    pub(crate) fn of_table(&self, table: usize, columns: &[Column]) -> Option<&RowLabels>
-        ensures { IfSome result (λ labels. labels.now ≡ columns.now) }
+    /// The labels of a table's rows, if any were made. Where these labels are a catalog's, they are of its table's columns.
+    pub(crate) fn of_table(&self, table: usize) -> Option<&RowLabels>
+        ensures { (c : CatalogShape) → AreLabelsOf c self.now → IfSome result (λ labels. labels.now ≡ (schema_at c table).columns) }
     {
-        let labels = self.tables.get(table)?;
-        if labels.are_of(columns) {
-            Some(labels)
-        } else {
-            None
-        }
+        self.tables.get(table)
     }
 }

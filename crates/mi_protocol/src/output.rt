@@ -1,6 +1,7 @@
 //! The text of the last reply, with its newline, where it is made and written from. A short one stands in an array, rows in memory that is kept.
 ghost use Rattle.std.specs.Prelude.{◌≡◌, ◌≤◌, ◌<◌, ◌++◌, ◌∷◌, [], length, take, false, true, IfOk};
 ghost use Rattle.mi_value.specs.declared.limits.TheConstants.{SHORT_REPLY as short_reply};
+ghost use Rattle.mi_protocol.specs.Labels.{AreLabelsOf};
 ghost use Rattle.mi_protocol.specs.Output.{PutOrMemory, EndsLine};
 ghost use Rattle.mi_protocol.specs.Replies.{reply_text, said, is_short, IsSaidOf};
 
@@ -77,6 +78,7 @@ fn long_line(
 ) -> Result<usize, AllocError>
     requires said { IsSaidOf catalog.now (said reply.now) }
     requires long { is_short (said reply.now) ≡ false }
+    requires labels { AreLabelsOf catalog.now labels.now }
     ensures text { IfOk result (λ end. take end text.new.items ≡ reply_text catalog.now (said reply.now)) }
     ensures line { IfOk result (λ end. EndsLine end text.new.items) }
 {
@@ -140,6 +142,7 @@ impl Output {
     )
         requires said { IsSaidOf catalog.now (said reply.now) }
         requires long { is_short (said reply.now) ≡ false }
+        requires labels { AreLabelsOf catalog.now labels.now }
         ensures { PutOrMemory catalog.now (said reply.now) self.new }
     {
         if self.long.len() > KEPT {
@@ -158,9 +161,10 @@ impl Output {
     }
 
     /// Puts a reply in the place of the one before. Its table, and the index of a conflict, are in the catalog. One that shows rows takes
-    /// memory; where that is refused, the refusal `memory` is put. Labels that were made of the table's columns before save time.
+    /// memory; where that is refused, the refusal `memory` is put. The labels are none or those of the catalog's tables: they save time.
     pub fn put(&mut self, alloc: Global, reply: &Reply<'_>, catalog: &Catalog, labels: &ReplyLabels)
-        requires { IsSaidOf catalog.now (said reply.now) }
+        requires said { IsSaidOf catalog.now (said reply.now) }
+        requires labels { AreLabelsOf catalog.now labels.now }
         ensures { PutOrMemory catalog.now (said reply.now) self.new }
     {
         if reply.is_short() {

@@ -2,6 +2,7 @@
 ghost use Rattle.std.specs.Prelude.{◌≡◌, ◌+◌, ◌≤◌, ◌<◌, ◌++◌, length, map, take, codes, decimal, true, false, vec_len, IfOk, IfErr, IsOk, IfSome, MatchOption};
 ghost use Rattle.json.specs.Filled.{Placed};
 ghost use Rattle.mi_value.specs.declared.limits.TheConstants.{MAX_NAME, SHORT_REPLY};
+ghost use Rattle.mi_protocol.specs.Labels.{AreLabelsOf};
 ghost use Rattle.mi_protocol.specs.Replies as replies;
 ghost use Rattle.mi_catalog.specs.Shape.{CatalogShape};
 ghost use Rattle.mi_protocol.specs.Replies.{reply_text, said, is_short, says_number, index_name, shown, rows, IsSaidOf, IsRefusalOf};
@@ -192,13 +193,14 @@ fn put_shown(
 ) -> Result<usize, AllocError>
     requires within { at ≤ vec_len text.old }
     requires table { table < length catalog.now.tables }
+    requires labels { AreLabelsOf catalog.now labels.now }
     ensures text { IfOk result (λ end. take end text.new.items ≡ take at text.old.items ++ reply_text catalog.now (shown table id row.now)) }
     ensures within { IfOk result (λ end. end < vec_len text.new) }
 {
     let schema = catalog.table(table);
     schema.keeps_rules();
     let columns = schema.columns();
-    let labels = labels.of_table(table, columns);
+    let labels = labels.of_table(table);
     put_row_reply(alloc, text, at, id, row, columns, labels)
 }
 
@@ -215,6 +217,7 @@ fn put_page(
 ) -> Result<usize, AllocError>
     requires within { at ≤ vec_len text.old }
     requires table { table < length catalog.now.tables }
+    requires labels { AreLabelsOf catalog.now labels.now }
     ensures text { IfOk result (λ end. take end text.new.items
         ≡ take at text.old.items ++ reply_text catalog.now (rows table (map (λ r. (r.0, r.1.now)) records.now) more)) }
     ensures within { IfOk result (λ end. end < vec_len text.new) }
@@ -222,7 +225,7 @@ fn put_page(
     let schema = catalog.table(table);
     schema.keeps_rules();
     let columns = schema.columns();
-    let labels = labels.of_table(table, columns);
+    let labels = labels.of_table(table);
     put_rows_reply(alloc, text, at, records, more, columns, labels)
 }
 
@@ -287,7 +290,7 @@ impl Reply<'_> {
     }
 
     /// Puts the text of a reply that shows rows behind the first bytes of a vector, without a newline, and answers how many bytes count
-    /// then; one byte at least is free behind them. Labels of the reply's table are used where they were made of its columns.
+    /// then; one byte at least is free behind them. The labels are the catalog's, or none.
     ///
     /// It errs where memory is refused.
     pub(crate) fn put_long(
@@ -300,6 +303,7 @@ impl Reply<'_> {
     ) -> Result<usize, AllocError>
         requires said { IsSaidOf catalog.now (said self.now) }
         requires long { is_short (said self.now) ≡ false }
+        requires labels { AreLabelsOf catalog.now labels.now }
         requires within { at ≤ vec_len text.old }
         ensures text { IfOk result (λ end. take end text.new.items ≡ take at text.old.items ++ reply_text catalog.now (said self.now)) }
         ensures within { IfOk result (λ end. end < vec_len text.new) }
