@@ -7,6 +7,7 @@ ghost use Rattle.mi_model.specs.LookUp as look;
 ghost use Rattle.mi_sessions.specs.LookUps.{WithinLookUps};
 
 use crate::shown::shows_each;
+use mi_catalog::compare_to_row;
 use mi_sessions::Sessions;
 use mi_value::{Steps, Value};
 
@@ -32,7 +33,7 @@ pub fn find<D: Sessions>(
     }
 }
 
-/// The first id of a key in an ordered or ranked index: its lower bound, unless that is its upper bound too.
+/// The first id of a key in an ordered or ranked index: its lower bound, if the record there has the key.
 fn find_sorted<D: Sessions>(
     db: &D,
     table: usize,
@@ -46,10 +47,16 @@ fn find_sorted<D: Sessions>(
     ensures id { result ≡ look.find (schema_of (D.state db.now) table) (table_of (D.state db.now) table) index key.now }
     ensures steps { WithinLookUps D.bound 2 (size_of (table_of (D.state db.now) table)) steps.old.count steps.new.count }
 {
+    db.keeps_rules();
     shows_each(db, table, index);
-    let lower = db.lower(table, index, key, steps);
-    let upper = db.upper(table, index, key, steps);
-    if lower == upper { None } else { lower }
+    let id = db.lower(table, index, key, steps)?;
+    let row = db.get(table, id, steps)?;
+    let parts = db.catalog().table(table).parts(index);
+    if compare_to_row(parts, key, id, row).is_eq() {
+        Some(id)
+    } else {
+        None
+    }
 }
 
 /// How many records have a key in an index. A hashed index is asked for a whole key and walks its records, an ordered or
