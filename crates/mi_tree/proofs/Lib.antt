@@ -7,6 +7,7 @@ pub mod LookUpLemmas
 pub mod ApartLemmas
 pub mod InsertLemmas
 pub mod RankLemmas
+pub mod RevaluedLemmas
 pub mod BinaryTreeLemmas
 pub mod RemovalWayLemmas
 pub mod SortedLemmas

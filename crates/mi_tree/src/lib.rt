@@ -9,6 +9,7 @@ pub mod laws;
 mod look;
 mod order;
 mod parts;
+mod stay;
 mod tree;
 mod turns;
 mod walk;
