@@ -9,15 +9,14 @@ use Rattle.std.proofs.Common.{◌≡◌, ℕ, zero, suc, ◌+◌, ◌<◌, ◌�
 use Rattle.std.proofs.Math.ListN.{get_or-append}
 use Rattle.std.proofs.Math.Seq.{get_or-append_seam}
 use Rattle.std.specs.declared.cmp.Ordering.{Ordering}
-use Rattle.std.specs.Cmp.{IsTotalOrder}
 use Rattle.std.specs.declared.cmp.Ordering.TheVariants.{Less, Greater}
 use Rattle.mi_node.specs.Pool.{Pooled, ref_of, value_of, link_of, IsHeld, with_link}
 use Rattle.mi_node.specs.Refs.{Ref}
 use Rattle.mi_node.specs.declared.link.Link.{Link}
 use Rattle.mi_node.proofs.EntryLemmas.{some_inj, none_some, same_name, slots-with_link, ref-with_link, value-with_link, link_there, link_beside, link_here}
 use Rattle.mi_tree.specs.Sorted.{AllAre, compared, by_stamp, stamped, item_of}
-use Rattle.mi_tree.specs.Revalued.{side_of_value, FitsBetween, StandsWhereRevalued}
-use Rattle.mi_tree.specs.declared.tree.Tree.{Tree}
+use Rattle.mi_tree.specs.Revalued.{side_of_value, FitsBetween}
+use Rattle.mi_tree.proofs.RevaluedLemmas.{stands_revalued}
 use Rattle.mi_chain.specs.Keying.{stamp_at}
 use Rattle.mi_order.specs.Orders.{stored_order, stored_tag}
 use Rattle.mi_order.specs.OrderLaws.{stored_total}
@@ -161,10 +160,6 @@ module _ (F : ℕ → Structure → Link → Link) (xs : List Structure) (r : Re
 
       above : (k : ℕ) → i + 1 ≤ k → (i == k) ≡ false
       above k l = grind arith
-
--- STUB
-stands_revalued : {T O : Type 0} (order : T → T → Ordering) (tag : T → ℕ) (total : IsTotalOrder order) → StandsWhereRevalued T O order tag
-stands_revalued order tag total = ?
 
 -- Structures of one kind
 

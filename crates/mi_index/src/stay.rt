@@ -1,9 +1,7 @@
 //! A node that gets another value, and stays in the trees in which it keeps its place: in which it does, and the tags that
 //! it gets there. Chains and lists it leaves, since there its place is among others.
 ghost use Rattle.std.specs.Prelude.{◌≡◌, ◌<◌, Some, min, length, List as Seq};
-ghost use Rattle.mi_node.specs.Pool.{IsHeld, value_of, link_of, with_link};
-ghost use Rattle.mi_tree.specs.Revalued.{retagged};
-ghost use Rattle.mi_order.specs.Orders.{stored_tag};
+ghost use Rattle.mi_node.specs.Pool.{IsHeld, value_of};
 ghost use Rattle.mi_node.specs.Refs.{Ref};
 ghost use Rattle.mi_index.specs.Standing.{slot_in, Stands};
 ghost use Rattle.mi_index.specs.Pass.{IsReady, AreReady};
@@ -15,7 +13,7 @@ ghost use Rattle.mi_order.specs.declared.stored.Stored.{Stored as Value};
 use crate::moves::{Stamps, is_marked};
 use crate::structure::Structure;
 use arrayvec::ArrayVec;
-use mi_node::{Counted, MAX_SLOTS, NodeRef, Pool};
+use mi_node::{MAX_SLOTS, NodeRef, Pool};
 use mi_order::{ByKey, Stored};
 use mi_tree::Tree;
 use mi_value::Steps;
@@ -34,8 +32,7 @@ fn stays_in_tree(
     requires { (rs : Seq Ref) × Stands (Sorted tree.now) p.now rs × stay.HasNodeFor (Some stamp) node rs }
     ensures { stay.TellsStay result (Some stamp) (Sorted tree.now) p.now node stored.now }
 {
-    let _ = stored; let _ = stamp;
-    tree.rank(&mut Counted::new(p), node, &mut Steps::new()) == 0 //STUB
+    tree.keeps_place(p, node, stored, stamp, &mut Steps::new())
 }
 
 /// Whether a node stays in the structure of this number, where its key changes.
@@ -98,7 +95,7 @@ fn retag_one(
     if is_marked(stays, slot) {
         if let Some(stamp) = to.stamp_in(slot) {
             if let Structure::Sorted(tree) = structure {
-                retag_stub(tree, p, node, stamp);
+                tree.retag(p, node, stamp);
             }
         }
     }
@@ -120,13 +117,4 @@ pub(crate) fn retag_all(
     for (slot, structure) in structures.iter().enumerate() {
         retag_one(structure, slot, p, node, to, stays);
     }
-}
-
-fn retag_stub(tree: &Tree<ByKey>, p: &mut Pool<Stored>, node: NodeRef, stamp: u64)
-    requires held { IsHeld p.old node }
-    requires slot { tree.now.slot < p.old.slots }
-    ensures { (v : Value) → value_of p.old node.name ≡ Some v → p.new ≡ with_link p.old node.name tree.now.slot
-            (retagged (record { key = stored_tag tree.now.order.types tree.now.order.parts v; stamp = stamp }) (link_of p.old node.name tree.now.slot)) }
-{
-   let _ = tree; let _ = stamp; let link = p.link(node, 0); p.set_link(node, 0, link);
 }
