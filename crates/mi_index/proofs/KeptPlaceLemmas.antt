@@ -5,7 +5,7 @@
 --     sets_none, sets_link, AreSet      links of the node are set, one after another
 --     set_over, keeps_over      the same seen on another structure of its kind, and after a pass that left it alone
 --     stands_kept, stamped_kept      a tree stands with the node's new value and tag, and the node has its stamp
-use Rattle.std.proofs.Common.{◌≡◌, ℕ, zero, suc, ◌+◌, ◌<◌, ◌≤◌, ◌==◌, Bool, true, false, List, [], ◌∷◌, ◌++◌, length, Option, Some, None, slice_get, refl, sym, ap, ◌∙◌, subst, arith}
+use Rattle.std.proofs.Common.{◌≡◌, ℕ, zero, suc, ◌+◌, ◌<◌, ◌≤◌, ◌==◌, Bool, true, false, List, [], ◌∷◌, ◌++◌, length, Option, Some, slice_get, refl, sym, ap, ◌∙◌, subst, arith}
 use Rattle.std.proofs.Math.ListN.{get_or-append}
 use Rattle.std.proofs.Math.Seq.{get_or-append_seam}
 use Rattle.std.specs.declared.cmp.Ordering.{Ordering}
@@ -17,16 +17,15 @@ use Rattle.mi_node.proofs.EntryLemmas.{some_inj, none_some, same_name, slots-wit
 use Rattle.mi_tree.specs.Sorted.{AllAre, compared, by_stamp, stamped, item_of}
 use Rattle.mi_tree.specs.Revalued.{side_of_value, FitsBetween}
 use Rattle.mi_tree.proofs.RevaluedLemmas.{stands_revalued}
-use Rattle.mi_chain.specs.Keying.{stamp_at}
 use Rattle.mi_order.specs.Orders.{stored_order, stored_tag}
 use Rattle.mi_order.specs.OrderLaws.{stored_total}
 use Rattle.mi_order.specs.declared.stored.Stored.{Stored}
 use Rattle.mi_order.specs.declared.orders.ByKey.{ByKey}
 use Rattle.mi_index.specs.Standing.{slot_in, Stands, IsLike}
 use Rattle.mi_index.specs.Places.{mark_at, HasStamp}
-use Rattle.mi_index.specs.Pass.{Asks, AllStand, AllCan, AllLike, AreReady, IsReady}
+use Rattle.mi_index.specs.Pass.{Asks, AllStand, AllCan, AreReady, IsReady}
 use Rattle.mi_index.specs.Passes.{IsSame}
-use Rattle.mi_index.specs.Staying.{KeepsPlace, KeepsFor, set_tag, set_in, IsSet, SetsOwn, SetsLink, AllAt, HasSlot}
+use Rattle.mi_index.specs.Staying.{KeepsPlace, set_tag, IsSet, SetsOwn, SetsLink, AllAt, HasSlot}
 use Rattle.mi_index.specs.declared.structure.Structure.{Structure}
 use Rattle.mi_index.specs.declared.structure.Structure.TheVariants.{Sorted, Hashed, Sequenced}
 use Rattle.mi_index.proofs.LikeLemmas.{by_kind}

@@ -4,7 +4,7 @@
 --     set_in, IsSet      its link in a structure in which it stays, which has the tag of its value and that stamp
 --     AllAt      a fact of each structure, with its number
 --     SetsOwn, SetsLink      no more than links of the node were set, or than one
-use Rattle.std.specs.Prelude.{◌≡◌, ◌↔◌, ℕ, ◌<◌, ◌==◌, Bool, true, false, cond, List, ◌∷◌, ◌++◌, length, Option, Some, None, option_map, slice_get}
+use Rattle.std.specs.Prelude.{◌≡◌, ◌↔◌, ℕ, ◌<◌, ◌==◌, Bool, true, false, cond, List, ◌∷◌, ◌++◌, length, Option, Some, None, slice_get}
 use Rattle.mi_node.specs.Pool.{Pooled, ref_of, value_of, link_of}
 use Rattle.mi_node.specs.Refs.{Ref}
 use Rattle.mi_node.specs.declared.link.Link.{Link}

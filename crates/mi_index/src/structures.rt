@@ -120,13 +120,7 @@ impl Structures {
     }
 
     /// Sets the tag of a node in each structure in which it stays: that of its value, and the stamp by which it is to stand there.
-    pub(crate) fn retag(
-        &self,
-        p: &mut Pool<Stored>,
-        node: NodeRef,
-        to: &Stamps<'_>,
-        stays: &[bool],
-    )
+    pub(crate) fn retag(&self, p: &mut Pool<Stored>, node: NodeRef, to: &Stamps<'_>, stays: &[bool])
         requires held { IsHeld p.old node }
         requires slots { stay.AllAt self.now.items (stay.HasSlot p.old) }
         ensures own { stay.SetsOwn node p.old p.new }

@@ -1,5 +1,5 @@
 -- One link after another, each in the slot of its structure's number.
-use Rattle.std.proofs.Common.{◌≡◌, ◌<◌, length, Some, slice_get, ◌∙◌, refl, sym, subst, arith}
+use Rattle.std.proofs.Common.{◌≡◌, length, Some, slice_get, ◌∙◌, refl, sym, subst, arith}
 use Rattle.std.proofs.lemmas.Option.{slice_get_read}
 use Rattle.mi_node.specs.Pool.{link_of}
 use Rattle.mi_node.proofs.EntryLemmas.{held_has}
@@ -16,9 +16,9 @@ loop-slot-preserved c =
     let w = held_has m r c.requires.held in (
       sets_both r m n o inv.0 (c.retag_one.ensures w.0 (inv.0.values r.name ∙ w.1)).own,
       λ v is.
-      set_next (λ k y. set_in (mark_at c.args.stays.now k) (stamp_for c.args.to.now k) y v) xs r m i x n o here (inv.1 v is)
-      (subst (λ s. SetsLink (set_in (mark_at c.args.stays.now i) (stamp_for c.args.to.now i) x v) s r n o)
-      (c.requires.slots i x here).0 (c.retag_one.ensures v (inv.0.values r.name ∙ is))),
+          set_next (λ k y. set_in (mark_at c.args.stays.now k) (stamp_for c.args.to.now k) y v) xs r m i x n o here (inv.1 v is)
+          (subst (λ s. SetsLink (set_in (mark_at c.args.stays.now i) (stamp_for c.args.to.now i) x v) s r n o)
+          (c.requires.slots i x here).0 (c.retag_one.ensures v (inv.0.values r.name ∙ is))),
     )
 
 pub returns-clause-set : goal.returns-clause-set

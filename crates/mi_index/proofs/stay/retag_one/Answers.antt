@@ -1,6 +1,5 @@
 -- The tag of a node of a tree in which it stays.
 use Rattle.std.proofs.Common.{◌≡◌, true, Some, ◌∙◌, sym, subst}
-use Rattle.mi_node.specs.declared.link.Link.{Link}
 use Rattle.mi_index.specs.Standing.{slot_in}
 use Rattle.mi_index.specs.Places.{mark_at}
 use Rattle.mi_index.specs.Staying.{stamp_for, set_in, SetsLink}

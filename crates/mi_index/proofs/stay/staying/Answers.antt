@@ -21,6 +21,6 @@ loop-slot-preserved c =
       omega (arith, long, more),
       omega arith,
       subst (λ bs. AllAt xs (λ k y. k < i + 1 → TellsStay (mark_at bs k) (stamp_for c.args.to.now k) y p r v)) (sym c.push.ensures.items)
-      (tell_next (λ k y b. TellsStay b (stamp_for c.args.to.now k) y p r v) xs c.loop-slot.stays.items c.stays_in.result i x
-      inv.0 here inv.2 c.stays_in.ensures),
+          (tell_next (λ k y b. TellsStay b (stamp_for c.args.to.now k) y p r v) xs c.loop-slot.stays.items c.stays_in.result i x
+          inv.0 here inv.2 c.stays_in.ensures),
     )

@@ -1,11 +1,8 @@
 -- The node leaves the indexes that are marked, but for those in which it keeps its place, gets its value, and comes into them again.
-use Rattle.std.proofs.Common.{◌≡◌, [], ◌∙◌, sym, subst, Some, None}
+use Rattle.std.proofs.Common.{◌≡◌, [], ◌∙◌, sym, subst, Some}
 use Rattle.mi_node.specs.Pool.{IsHeld, value_of}
 use Rattle.mi_node.proofs.EntryLemmas.{ref-with_value, value_here}
-use Rattle.mi_index.specs.Pass.{AreReady, IsPass}
-use Rattle.mi_index.specs.Passes.{joining, joined}
 use Rattle.mi_index.specs.Staying.{AllAt, HasSlot, SetsOwn, AllTell, AllSet}
-use Rattle.mi_index.specs.declared.moves.Moves.TheVariants.{Marked}
 use Rattle.mi_index.specs.declared.moves.Stamps.TheVariants.{Marked as Stamped}
 use Rattle.mi_index.proofs.InsertLemmas.{like_both}
 use Rattle.mi_index.proofs.RekeyLemmas.{can_ask, can_leave, can_come, is_rekeyed, kept_refs, kept_values, kept_slots}

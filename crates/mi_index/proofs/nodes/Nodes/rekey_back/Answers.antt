@@ -3,8 +3,6 @@
 use Rattle.std.proofs.Common.{◌≡◌, [], ◌∙◌, sym, subst, Some}
 use Rattle.mi_node.specs.Pool.{IsHeld, value_of}
 use Rattle.mi_node.proofs.EntryLemmas.{ref-with_value, value_here}
-use Rattle.mi_index.specs.Pass.{AreReady, IsPass}
-use Rattle.mi_index.specs.Passes.{returning, returned}
 use Rattle.mi_index.specs.Staying.{AllAt, HasSlot, SetsOwn, AllTell, AllSet}
 use Rattle.mi_index.specs.declared.moves.Stamps.TheVariants.{Placed as Stamped}
 use Rattle.mi_index.proofs.InsertLemmas.{like_both}
