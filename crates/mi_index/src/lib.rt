@@ -8,6 +8,7 @@ pub mod laws;
 mod look;
 mod moves;
 mod nodes;
+mod stay;
 mod structure;
 mod structures;
 mod walk;
