@@ -131,26 +131,49 @@ impl<D: Sessions + Drop> Executor<D> {
         }
     }
 
+    /// Answers a command that looks up. It is a call of its own, and so is a change: each then has no room for what the other needs.
+    #[inline(never)]
+    fn answer_look(&self, conn: u64, command: &Command, out: &mut Output)
+        requires fits { FitsCatalog self.now.database.catalog command.now }
+        requires looks { spec.looks_up command.now ≡ true }
+        ensures { AnsweredOrMemory (done_without command.now ≡ false) (performed self.now conn command.now)
+            (spec.may_change command.now (performed self.now conn command.now).0) self.now out.new false self.now }
+    {
+        let reply = self.look(conn, command);
+        out.put(self.alloc, &reply, self.database.catalog(), &self.labels);
+    }
+
+    /// Does any other command, and says whether anything may have changed.
+    #[inline(never)]
+    fn answer_change(&mut self, conn: u64, command: Command, out: &mut Output) -> bool
+        requires fits { FitsCatalog self.old.database.catalog command }
+        requires changes { spec.looks_up command ≡ false }
+        ensures { AnsweredOrMemory (done_without command ≡ false) (performed self.old conn command)
+            (spec.may_change command (performed self.old conn command).0) self.old out.new result self.new }
+    {
+        let outcome = self.change(conn, command);
+        out.put(
+            self.alloc,
+            &outcome.reply,
+            self.database.catalog(),
+            &self.labels,
+        );
+        outcome.changed
+    }
+
     /// Does a command that fits the catalog, and says whether anything may have changed. The session commands other than a start, `revision`,
     /// `size` and `rank` take no memory.
+    #[inline(always)]
     fn perform(&mut self, conn: u64, command: Command, out: &mut Output) -> bool
         requires { FitsCatalog self.old.database.catalog command }
         ensures { AnsweredOrMemory (done_without command ≡ false) (performed self.old conn command)
             (spec.may_change command (performed self.old conn command).0) self.old out.new result self.new }
     {
         if looks_up(&command) {
-            let reply = self.look(conn, &command);
-            out.put(self.alloc, &reply, self.database.catalog(), &self.labels);
+            self.answer_look(conn, &command, out);
             false
         } else {
-            let outcome = self.change(conn, command);
-            out.put(
-                self.alloc,
-                &outcome.reply,
-                self.database.catalog(),
-                &self.labels,
-            );
-            outcome.changed
+            self.answer_change(conn, command, out)
         }
     }
 
