@@ -56,7 +56,9 @@ impl LineReader {
 
     /// Gives up the value that is kept, and makes the arena empty. An arena that has grown past what is kept is given up.
     fn empty(&mut self) {
-        self.value = Value::Null;
+        if !self.value.is_null() {
+            self.value = Value::Null;
+        }
         if self.arena.reset().is_err() || self.arena.allocated_bytes() > KEPT_ARENA {
             self.arena = Bump::new(self.alloc);
         }
@@ -70,10 +72,10 @@ impl LineReader {
         self.empty();
         let alloc = self.alloc;
         let arena = &self.arena;
-        if let Some(request) = flat_line(arena, line) {
-            return Ok(request);
+        match flat_line(arena, line) {
+            Some(flat) => Ok(flat),
+            None => read_any(alloc, arena, &mut self.value, line),
         }
-        read_any(alloc, arena, &mut self.value, line)
     }
 
     /// The request that a line, without its newline, is. Its names and values are borrowed from the line and from this reader.

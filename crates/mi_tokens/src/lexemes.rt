@@ -219,7 +219,7 @@ impl<'a> Lexemes<'a> {
         ensures { MatchBool result (self.old ≡ front.now ++ self.new) (self.new ≡ self.old) }
     {
         let rest = &self.text.as_bytes()[self.at..];
-        if rest.len() < front.len() || &rest[..front.len()] != front {
+        if !rest.starts_with(front) {
             return false;
         }
         self.at += front.len();

@@ -240,6 +240,17 @@ impl<'a> Tokens<'a> {
         Some(n)
     }
 
+    /// Takes the bracket with which an array begins, if it is next.
+    #[inline(always)]
+    pub(crate) fn take_array(&mut self) -> bool
+        ensures { IsTrue result → self.old ≡ spec.begin_array ∷ self.new }
+    {
+        if self.lexemes.peek() != b'[' || !self.context.may_begin() {
+            return false;
+        }
+        matches!(self.next(), Some(Start::Array))
+    }
+
     /// Takes the brace with which an object begins, if it is next.
     #[inline(always)]
     pub fn take_object(&mut self) -> bool

@@ -1,8 +1,8 @@
 -- The bytes stand in front of what is left.
-use Rattle.std.proofs.Common.{◌≡◌, ◌-◌, ◌++◌, length, take, drop, take_all, length-drop, sym, ap, ap₂, ◌∙◌, arith}
-use Rattle.std.proofs.lemmas.Bool.{not-false}
-use Rattle.std.proofs.lemmas.List.{drop-drop, take-append-drop}
-use Rattle.std.proofs.lemmas.Slice.Eq.{bytes_eq-Decides}
+use Rattle.std.proofs.Common.{◌≡◌, ◌-◌, ◌++◌, length, take, drop, take_all, length-drop, sym, ap, ◌∙◌, arith}
+use Rattle.std.proofs.lemmas.Bool.Decides.{Decides-eqb}
+use Rattle.std.proofs.lemmas.List.{drop-drop}
+use Rattle.std.proofs.lemmas.Slice.Eq.{starts_is}
 use Rattle.mi_tokens.proofs.lexemes.Lexemes.pass_bytes.Goals as goal
 
 pub returns : goal.returns
@@ -13,6 +13,7 @@ returns c =
     let bytes = c.as_bytes.result.now in
     let rest = take (length bytes - a.at) (drop a.at bytes) in
     let whole : rest ≡ drop a.at bytes = take_all _ (drop a.at bytes) (omega (arith, length-drop a.at bytes)) in
-    let found : take (length w) rest ≡ w = (bytes_eq-Decides (take (length w) rest) w).0 (not-false _ (sym c.ne.ensures ∙ c.if-ne.false)) in
-    let first : take (length w) (drop a.at d) ≡ w = rw (← c.as_bytes.ensures.value) (ap (take (length w)) (sym whole) ∙ found) in
-    sym c.self.view_is ∙ sym (take-append-drop (length w) (drop a.at d)) ∙ ap₂ (λ s t. s ++ t) first (drop-drop (length w) a.at d)
+    let found : rest ≡ w ++ drop (length w) rest = (starts_is Decides-eqb rest w _ c.starts_with.ensures.value).0 c.if-not-starts_with.false in
+    let parts : drop a.at d ≡ w ++ drop (length w) (drop a.at d) =
+    rw (← c.as_bytes.ensures.value) (sym whole ∙ found ∙ ap (λ t. w ++ drop (length w) t) whole) in
+    sym c.self.view_is ∙ parts ∙ ap (λ t. w ++ t) (drop-drop (length w) a.at d)
