@@ -142,8 +142,8 @@ fn keyed_tokens<'a>(command: KeyCommand, text: &'a str) -> Option<Tokens<'a>>
 }
 
 /// A command over a key of one value.
-#[inline(never)]
-fn keyed<'a>(arena: &'a Bump, text: &'a str, command: KeyCommand) -> Option<Request<'a>>
+#[inline(always)]
+pub(crate) fn keyed<'a>(arena: &'a Bump, text: &'a str, command: KeyCommand) -> Option<Request<'a>>
     ensures { IfSome result (λ r. command_line text.now ≡ Ok r) }
 {
     let mut tokens = keyed_tokens(command, text)?;
@@ -156,8 +156,8 @@ fn keyed<'a>(arena: &'a Bump, text: &'a str, command: KeyCommand) -> Option<Requ
     Some(command.request(table, index, key))
 }
 
-#[inline(never)]
-fn insert<'a>(arena: &'a Bump, text: &'a str) -> Option<Request<'a>>
+#[inline(always)]
+pub(crate) fn insert<'a>(arena: &'a Bump, text: &'a str) -> Option<Request<'a>>
     ensures { IfSome result (λ r. command_line text.now ≡ Ok r) }
 {
     let mut tokens = Tokens::behind(text, b"{\"cmd\":\"insert\",")?;
@@ -173,8 +173,8 @@ fn insert<'a>(arena: &'a Bump, text: &'a str) -> Option<Request<'a>>
     })
 }
 
-#[inline(never)]
-fn replace<'a>(arena: &'a Bump, text: &'a str) -> Option<Request<'a>>
+#[inline(always)]
+pub(crate) fn replace<'a>(arena: &'a Bump, text: &'a str) -> Option<Request<'a>>
     ensures { IfSome result (λ r. command_line text.now ≡ Ok r) }
 {
     let mut tokens = Tokens::behind(text, b"{\"cmd\":\"replace\",")?;
@@ -187,8 +187,8 @@ fn replace<'a>(arena: &'a Bump, text: &'a str) -> Option<Request<'a>>
     Some(Request::Replace { table, id, row })
 }
 
-#[inline(never)]
-fn modify<'a>(arena: &'a Bump, text: &'a str) -> Option<Request<'a>>
+#[inline(always)]
+pub(crate) fn modify<'a>(arena: &'a Bump, text: &'a str) -> Option<Request<'a>>
     ensures { IfSome result (λ r. command_line text.now ≡ Ok r) }
 {
     let mut tokens = Tokens::behind(text, b"{\"cmd\":\"modify\",")?;
@@ -209,8 +209,8 @@ fn modify<'a>(arena: &'a Bump, text: &'a str) -> Option<Request<'a>>
 }
 
 /// A page of a range from a key on.
-#[inline(never)]
-fn range<'a>(arena: &'a Bump, text: &'a str) -> Option<Request<'a>>
+#[inline(always)]
+pub(crate) fn range<'a>(arena: &'a Bump, text: &'a str) -> Option<Request<'a>>
     ensures { IfSome result (λ r. command_line text.now ≡ Ok r) }
 {
     let mut tokens = Tokens::behind(text, b"{\"cmd\":\"range\",")?;
@@ -233,7 +233,7 @@ fn range<'a>(arena: &'a Bump, text: &'a str) -> Option<Request<'a>>
 
 /// A command that can be read so.
 #[derive(Clone, Copy)]
-enum Flat {
+pub(crate) enum Flat {
     Insert,
     Replace,
     Modify,
@@ -243,7 +243,7 @@ enum Flat {
 
 /// The command whose name has this first letter and this third one, if it can be read so.
 #[inline(always)]
-fn flat_of(first: u8, third: u8) -> Option<Flat> {
+fn command_of(first: u8, third: u8) -> Option<Flat> {
     match (first, third) {
         (b'i', b's') => Some(Flat::Insert),
         (b'r', b'p') => Some(Flat::Replace),
@@ -258,23 +258,17 @@ fn flat_of(first: u8, third: u8) -> Option<Flat> {
     }
 }
 
-/// The request of such a line. Two letters of the command's name tell which it can be.
+/// The command that a line may be, by two letters of its name, and the line's text.
 #[inline(always)]
-pub(crate) fn flat_line<'a>(arena: &'a Bump, line: &'a [u8]) -> Option<Request<'a>>
-    ensures { IfSome result (λ r. command_line line.now ≡ Ok r) }
+pub(crate) fn flat_of(line: &[u8]) -> Option<(Flat, &str)>
+    ensures { IfSome result (λ p. p.1.now ≡ line.now) }
 {
     if line.len() <= THIRD_AT {
         return None;
     }
-    let command = flat_of(line[FIRST_AT], line[THIRD_AT])?;
-    let Ok(text) = text_of(line) else {
-        return None;
-    };
-    match command {
-        Flat::Insert => insert(arena, text),
-        Flat::Replace => replace(arena, text),
-        Flat::Modify => modify(arena, text),
-        Flat::Range => range(arena, text),
-        Flat::Keyed(command) => keyed(arena, text, command),
+    let command = command_of(line[FIRST_AT], line[THIRD_AT])?;
+    match text_of(line) {
+        Ok(text) => Some((command, text)),
+        Err(_) => None,
     }
 }

@@ -8,7 +8,7 @@ ghost use Rattle.mi_request.specs.declared.request.Request.{Request as Asked};
 ghost use Rattle.mi_request.specs.declared.request.Request.TheVariants as request;
 
 use crate::bare::Bare;
-use crate::flat::flat_line;
+use crate::flat::{Flat, flat_of, insert, keyed, modify, range, replace};
 use crate::request::{Request, request_of};
 use crate::short::short_of;
 use crate::value::read_value;
@@ -65,6 +65,7 @@ impl LineReader {
     }
 
     /// The request that a line is, whatever its length.
+    #[inline(never)]
     fn read<'a>(&'a mut self, line: &'a [u8]) -> Result<Request<'a>, Refusal>
         ensures answer { IsAnswer result (command_line line.now) }
         ensures refusal { IfErr result NamesNoIndex }
@@ -72,10 +73,27 @@ impl LineReader {
         self.empty();
         let alloc = self.alloc;
         let arena = &self.arena;
-        match flat_line(arena, line) {
-            Some(flat) => Ok(flat),
-            None => read_any(alloc, arena, &mut self.value, line),
+        match flat_of(line) {
+            Some((Flat::Insert, text)) => if let Some(asked) = insert(arena, text) {
+                return Ok(asked);
+            },
+            Some((Flat::Replace, text)) => if let Some(asked) = replace(arena, text) {
+                return Ok(asked);
+            },
+            Some((Flat::Modify, text)) => if let Some(asked) = modify(arena, text) {
+                return Ok(asked);
+            },
+            Some((Flat::Range, text)) => if let Some(asked) = range(arena, text) {
+                return Ok(asked);
+            },
+            Some((Flat::Keyed(command), text)) => {
+                if let Some(asked) = keyed(arena, text, command) {
+                    return Ok(asked);
+                }
+            }
+            None => {}
         }
+        read_any(alloc, arena, &mut self.value, line)
     }
 
     /// The request that a line, without its newline, is. Its names and values are borrowed from the line and from this reader.
