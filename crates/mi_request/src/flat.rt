@@ -34,7 +34,11 @@ const THIRD_AT: usize = 10;
 
 /// The object of a member that must come next.
 #[inline(always)]
-fn object_in<'a>(arena: &'a Bump, tokens: &mut Tokens<'a>, name: &[u8]) -> Option<Object<'a>>
+fn object_in<'a, const N: usize>(
+    arena: &'a Bump,
+    tokens: &mut Tokens<'a>,
+    name: &[u8; N],
+) -> Option<Object<'a>>
     ensures { (s : List ℕ) → name.now ≡ name_text s → escape s ≡ s → IfSome result (λ ms. IsMember tokens.old s (object ms) tokens.new) }
 {
     if !tokens.take_key(name) {
@@ -45,7 +49,11 @@ fn object_in<'a>(arena: &'a Bump, tokens: &mut Tokens<'a>, name: &[u8]) -> Optio
 
 /// The object of a member that may come next; absent it has no members.
 #[inline(always)]
-fn edits<'a>(arena: &'a Bump, tokens: &mut Tokens<'a>, name: &[u8]) -> Option<Object<'a>>
+fn edits<'a, const N: usize>(
+    arena: &'a Bump,
+    tokens: &mut Tokens<'a>,
+    name: &[u8; N],
+) -> Option<Object<'a>>
     ensures { (s : List ℕ) → name.now ≡ name_text s → escape s ≡ s
         → IfSome result (λ ms. (o : Option Data) × IsMaybe tokens.old s o tokens.new × (default_if no_members as_object o ≡ Some ms)) }
 {
@@ -57,7 +65,7 @@ fn edits<'a>(arena: &'a Bump, tokens: &mut Tokens<'a>, name: &[u8]) -> Option<Ob
 
 /// The text of a member that must come next.
 #[inline(always)]
-fn name_in<'a>(tokens: &mut Tokens<'a>, name: &[u8]) -> Option<Name<'a>>
+fn name_in<'a, const N: usize>(tokens: &mut Tokens<'a>, name: &[u8; N]) -> Option<Name<'a>>
     ensures { (s : List ℕ) → name.now ≡ name_text s → escape s ≡ s → IfSome result (λ n. IsMember tokens.old s (string n) tokens.new) }
 {
     if !tokens.take_key(name) {
@@ -68,7 +76,7 @@ fn name_in<'a>(tokens: &mut Tokens<'a>, name: &[u8]) -> Option<Name<'a>>
 
 /// The whole number from 0 of a member that must come next.
 #[inline(always)]
-fn whole(tokens: &mut Tokens<'_>, name: &[u8]) -> Option<u64>
+fn whole<const N: usize>(tokens: &mut Tokens<'_>, name: &[u8; N]) -> Option<u64>
     ensures { (s : List ℕ) → name.now ≡ name_text s → escape s ≡ s
         → IfSome result (λ n. (d : Data) × IsMember tokens.old s d tokens.new × (natural d ≡ Some n)) }
 {

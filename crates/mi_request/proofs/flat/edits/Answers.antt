@@ -4,10 +4,10 @@ use Rattle.serde_json.specs.Data.{object}
 use Rattle.mi_request.proofs.flat.edits.Goals as goal
 
 pub returns-then-not-take_key : goal.returns-then-not-take_key
-returns-then-not-take_key c s is plain = (None, c.if-not-take_key.ensures s is plain, ap Some (sym c.new.ensures))
+returns-then-not-take_key g c s is plain = (None, c.if-not-take_key.ensures s is plain, ap Some (sym c.new.ensures))
 
 pub returns : goal.returns
-returns c s is plain = (
+returns g c s is plain = (
   Some (object c.new-2.result),
   (
     c.take_key.new.self,
