@@ -2,7 +2,7 @@
 use Rattle.std.proofs.Common.{IfSome, sym, ◌≡◌, ℕ, ◌-◌, List, [], ◌∷◌, ◌++◌, length, Option, Some, None, Ok, IsUtf8, codes, false, refl, ap, ◌∙◌, subst, arith, append_assoc}
 use Rattle.json.specs.Json.{parse_map, read_key, members, value}
 use Rattle.json.specs.Lex.{lex, between, punctuate, tokens}
-use Rattle.json.specs.Print.{escape}
+use Rattle.json.specs.Print.{escape, escape_byte}
 use Rattle.json.specs.Text.{content}
 use Rattle.json.specs.Token.{Token, begin_object, key}
 use Rattle.json.specs.Token as token
@@ -15,9 +15,12 @@ use Rattle.mi_tokens.proofs.ReadingLemmas.{converted_some, converted-object, mem
 use Rattle.mi_tokens.specs.Tokens.{tokens_at}
 use Rattle.mi_tokens.specs.declared.tokens.Context.TheVariants.{AfterComma}
 use Rattle.mi_request.specs.Commands.{look_up_named, lower_end, page}
-use Rattle.mi_request.specs.Flat.{IsRest, IsMember, IsMaybe, IsKeyed, put_if, command_start, named, keyed_members}
+use Rattle.mi_request.specs.Flat.{IsRest, IsMember, IsMaybe, put_if, command_start, named, keyed_members}
 use Rattle.mi_request.specs.Json.{has_only, natural, if_there, default_if, option_map₃, option_map₅, option_map₆}
+use Rattle.mi_request.specs.Keyed.{key_name, asked_key}
 use Rattle.mi_request.specs.Lines.{request_in, command_line}
+use Rattle.mi_request.specs.declared.keyed.KeyCommand.{KeyCommand}
+use Rattle.mi_request.specs.declared.keyed.KeyCommand.TheVariants as keyed
 use Rattle.mi_request.specs.declared.request.End.{End}
 use Rattle.mi_request.specs.declared.request.End.TheVariants.{Open}
 use Rattle.mi_request.specs.declared.request.Request.{Request}
@@ -90,39 +93,27 @@ three : {A B C : Type 0} (f : A → B → C → Request) (a : Option A) (b : Opt
     → option_map₃ f a b c ≡ Some (f x y z)
 three f a b c x y z p q r = rw (p, q, r) refl
 
-abbrev Asks : List ℕ → (Option (List ℕ) → List ℕ → Items → Request) → Type 0
-Asks command make = (t : Option Data) (i k : Data) (table : Option (List ℕ)) (index : List ℕ) (ks : Items) → if_there as_str t ≡ Some table → as_str i ≡ Some index
-    → as_array k ≡ Some ks → request_in (keyed_members command t i k) ≡ Some (make table index ks)
+pub key_plain : (k : KeyCommand) → escape (key_name k) ≡ key_name k
+unfolding escape_byte
+key_plain keyed.EraseKey = refl
+key_plain keyed.Find = refl
+key_plain keyed.Count = refl
+key_plain keyed.LowerRank = refl
+key_plain keyed.UpperRank = refl
 
-pub find_asked : Asks (codes "find") request.Find
+pub key_asked : (c : KeyCommand) (t : Option Data) (i k : Data) (table : Option (List ℕ)) (index : List ℕ) (ks : Items) → if_there as_str t ≡ Some table
+    → as_str i ≡ Some index → as_array k ≡ Some ks → request_in (keyed_members (key_name c) t i k) ≡ Some (asked_key c table index ks)
 unfolding has_only look_up_named
-find_asked None i k table index ks p q r = three request.Find _ _ _ table index ks p q r
-find_asked (Some t) i k table index ks p q r = three request.Find _ _ _ table index ks p q r
-
-pub count_asked : Asks (codes "count") request.Count
-unfolding has_only look_up_named
-count_asked None i k table index ks p q r = three request.Count _ _ _ table index ks p q r
-count_asked (Some t) i k table index ks p q r = three request.Count _ _ _ table index ks p q r
-
-pub lower_rank_asked : Asks (codes "lower_rank") request.LowerRank
-unfolding has_only look_up_named
-lower_rank_asked None i k table index ks p q r = three request.LowerRank _ _ _ table index ks p q r
-lower_rank_asked (Some t) i k table index ks p q r = three request.LowerRank _ _ _ table index ks p q r
-
-pub upper_rank_asked : Asks (codes "upper_rank") request.UpperRank
-unfolding has_only look_up_named
-upper_rank_asked None i k table index ks p q r = three request.UpperRank _ _ _ table index ks p q r
-upper_rank_asked (Some t) i k table index ks p q r = three request.UpperRank _ _ _ table index ks p q r
-
-pub erase_key_asked : Asks (codes "erase_key") request.EraseKey
-unfolding has_only
-erase_key_asked None i k table index ks p q r = three request.EraseKey _ _ _ table index ks p q r
-erase_key_asked (Some t) i k table index ks p q r = three request.EraseKey _ _ _ table index ks p q r
-
-pub keyed_means : (command : List ℕ) (make : Option (List ℕ) → List ℕ → Items → Request) (table : Option (List ℕ)) (index : List ℕ) (ks : Items) (text : List ℕ)
-    → Asks command make → IsUtf8 text → IsKeyed command table index ks text → command_line text ≡ Ok (make table index ks)
-keyed_means command make table index ks text asked utf8 is =
-    request_found text (object (keyed_members command is.0 is.1 is.2)) (make table index ks) utf8 is.3 (asked is.0 is.1 is.2 table index ks is.4 is.5 is.6)
+key_asked keyed.EraseKey None i k table index ks p q r = three request.EraseKey _ _ _ table index ks p q r
+key_asked keyed.EraseKey (Some t) i k table index ks p q r = three request.EraseKey _ _ _ table index ks p q r
+key_asked keyed.Find None i k table index ks p q r = three request.Find _ _ _ table index ks p q r
+key_asked keyed.Find (Some t) i k table index ks p q r = three request.Find _ _ _ table index ks p q r
+key_asked keyed.Count None i k table index ks p q r = three request.Count _ _ _ table index ks p q r
+key_asked keyed.Count (Some t) i k table index ks p q r = three request.Count _ _ _ table index ks p q r
+key_asked keyed.LowerRank None i k table index ks p q r = three request.LowerRank _ _ _ table index ks p q r
+key_asked keyed.LowerRank (Some t) i k table index ks p q r = three request.LowerRank _ _ _ table index ks p q r
+key_asked keyed.UpperRank None i k table index ks p q r = three request.UpperRank _ _ _ table index ks p q r
+key_asked keyed.UpperRank (Some t) i k table index ks p q r = three request.UpperRank _ _ _ table index ks p q r
 
 pub insert_asked : (t : Option Data) (d : Data) (table : Option (List ℕ)) (row : Members) → if_there as_str t ≡ Some table → as_object d ≡ Some row
     → request_in (put (codes "row") d (put_if (codes "table") t (named (codes "insert")))) ≡ Some (request.Insert table row None)

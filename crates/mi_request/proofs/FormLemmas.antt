@@ -1,10 +1,13 @@
 -- The request of members without `table` names no table.
 use Rattle.std.proofs.Common.{◌≡◌, ℕ, List, false, Option, Some, None, IfSome, codes, refl, sym, ap, subst}
 use Rattle.std.specs.Option.{option_map, option_and_then}
-use Rattle.serde_json.specs.Data.{Members, no_members}
+use Rattle.serde_json.specs.Data.{Items, Members, no_members}
 use Rattle.serde_json.specs.Find.{get_member, as_object, as_str, as_bool}
 use Rattle.mi_value.specs.declared.limits.TheConstants.{MAX_RESERVED_CHANGES, MAX_RESERVED_SESSIONS}
 use Rattle.mi_request.specs.Bare.{asked_bare}
+use Rattle.mi_request.specs.Keyed.{asked_key}
+use Rattle.mi_request.specs.declared.keyed.KeyCommand.{KeyCommand}
+use Rattle.mi_request.specs.declared.keyed.KeyCommand.TheVariants as keyed
 use Rattle.mi_request.specs.Json.{natural, needed, optional, default, option_map₂, option_map₃, option_map₄, option_map₅, option_map₆, if_there}
 use Rattle.mi_request.specs.Commands.{Form, form_of, command_named, names_table, table_in, index_in, id_in}
 use Rattle.mi_request.specs.Commands.{key_in, limit_in, lower_end, upper_end, up_to, place_or_none, natural_or_null}
@@ -71,6 +74,13 @@ bare_names : (b : Bare) → names_table (asked_bare b) ≡ false
 bare_names bare.Undo = refl
 bare_names b = refl
 
+key_names : (k : KeyCommand) (index : List ℕ) (ks : Items) → names_table (asked_key k None index ks) ≡ false
+key_names keyed.EraseKey index ks = refl
+key_names keyed.Find index ks = refl
+key_names keyed.Count index ks = refl
+key_names keyed.LowerRank index ks = refl
+key_names keyed.UpperRank index ks = refl
+
 module _ (ms : Members) (none : get_member (codes "table") ms ≡ None) where
   no_table : table_in ms ≡ Some None
   no_table = ap (if_there as_str) none
@@ -88,23 +98,19 @@ module _ (ms : Members) (none : get_member (codes "table") ms ≡ None) where
       first₅ request.Modify (λ a b c d. refl) (table_in ms) no_table (id_in ms) (default no_members as_object (codes "set") ms)
       (default no_members as_object (codes "add") ms) (default false as_bool (codes "rollback") ms)
   form_names name.Erase = first₂ request.Erase (λ a. refl) (table_in ms) no_table (id_in ms)
-  form_names name.EraseKey = first₃ request.EraseKey (λ a b. refl) (table_in ms) no_table (index_in ms) (key_in ms)
+  form_names (name.Keyed k) = first₃ (asked_key k) (λ a b. key_names k a b) (table_in ms) no_table (index_in ms) (key_in ms)
   form_names name.Relocate =
       first₄ request.Relocate (λ a b c. refl) (table_in ms) no_table (index_in ms) (id_in ms) (default None natural_or_null (codes "before") ms)
   form_names name.Commit = all₁ request.Commit (λ a. refl) (needed natural (codes "revision") ms)
   form_names name.Reserve = all₂ request.Reserve (λ a b. refl) (needed (up_to MAX_RESERVED_CHANGES) (codes "changes") ms)
       (needed (up_to MAX_RESERVED_SESSIONS) (codes "sessions") ms)
   form_names name.Get = first₂ request.Get (λ a. refl) (table_in ms) no_table (id_in ms)
-  form_names name.Find = first₃ request.Find (λ a b. refl) (table_in ms) no_table (index_in ms) (key_in ms)
   form_names name.Nth = first₃ request.Nth (λ a b. refl) (table_in ms) no_table (index_in ms) (needed natural (codes "n") ms)
-  form_names name.Count = first₃ request.Count (λ a b. refl) (table_in ms) no_table (index_in ms) (key_in ms)
   form_names name.Range =
       first₆ request.Range (λ a b c d e. refl) (table_in ms) no_table (index_in ms) (default Open lower_end (codes "lower") ms)
       (default Open upper_end (codes "upper") ms) (default false as_bool (codes "reverse") ms) (limit_in ms)
   form_names name.List = first₄ request.List (λ a b c. refl) (table_in ms) no_table (index_in ms) (optional natural (codes "after") ms) (limit_in ms)
   form_names name.Rank = first₃ request.Rank (λ a b. refl) (table_in ms) no_table (index_in ms) (id_in ms)
-  form_names name.LowerRank = first₃ request.LowerRank (λ a b. refl) (table_in ms) no_table (index_in ms) (key_in ms)
-  form_names name.UpperRank = first₃ request.UpperRank (λ a b. refl) (table_in ms) no_table (index_in ms) (key_in ms)
   form_names name.Size = first₁ request.Size refl (table_in ms) no_table
   form_names (name.Bare b) = bare_names b
 

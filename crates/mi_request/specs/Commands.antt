@@ -5,10 +5,12 @@ use Rattle.std.specs.Option.{option_map_or}
 use Rattle.serde_json.specs.Data.{Data, null, boolean, number, string, array, object, Items, Members, no_members}
 use Rattle.serde_json.specs.Find.{get_member, as_str, as_array, as_bool, as_object}
 use Rattle.mi_request.specs.Bare.{asked_bare, bare_named}
+use Rattle.mi_request.specs.Keyed.{asked_key}
 use Rattle.mi_request.specs.Json.{has_only, natural, needed, optional, default, option_map₂, option_map₃, option_map₄, option_map₅, option_map₆}
 use Rattle.mi_value.specs.declared.limits.TheConstants.{MAX_PAGE, MAX_RESERVED_CHANGES, MAX_RESERVED_SESSIONS}
 use Rattle.mi_request.specs.declared.command.CommandName.{CommandName}
 use Rattle.mi_request.specs.declared.command.CommandName.TheVariants as name
+use Rattle.mi_request.specs.declared.keyed.KeyCommand.TheVariants as keyed
 use Rattle.mi_request.specs.declared.request.End.{End}
 use Rattle.mi_request.specs.declared.request.End.TheVariants.{Open, With, Without}
 use Rattle.mi_request.specs.declared.request.NamedPlace.{NamedPlace}
@@ -30,14 +32,14 @@ step_named t =
 unfoldable pub look_up_named : List ℕ → Option CommandName
 look_up_named t =
     if bytes_eq t (codes "get") then Some name.Get
-    else if bytes_eq t (codes "find") then Some name.Find
+    else if bytes_eq t (codes "find") then Some (name.Keyed keyed.Find)
     else if bytes_eq t (codes "nth") then Some name.Nth
-    else if bytes_eq t (codes "count") then Some name.Count
+    else if bytes_eq t (codes "count") then Some (name.Keyed keyed.Count)
     else if bytes_eq t (codes "range") then Some name.Range
     else if bytes_eq t (codes "list") then Some name.List
     else if bytes_eq t (codes "rank") then Some name.Rank
-    else if bytes_eq t (codes "lower_rank") then Some name.LowerRank
-    else if bytes_eq t (codes "upper_rank") then Some name.UpperRank
+    else if bytes_eq t (codes "lower_rank") then Some (name.Keyed keyed.LowerRank)
+    else if bytes_eq t (codes "upper_rank") then Some (name.Keyed keyed.UpperRank)
     else if bytes_eq t (codes "size") then Some name.Size
     else step_named t
 
@@ -48,7 +50,7 @@ command_named t =
     else if bytes_eq t (codes "replace") then Some name.Replace
     else if bytes_eq t (codes "modify") then Some name.Modify
     else if bytes_eq t (codes "erase") then Some name.Erase
-    else if bytes_eq t (codes "erase_key") then Some name.EraseKey
+    else if bytes_eq t (codes "erase_key") then Some (name.Keyed keyed.EraseKey)
     else if bytes_eq t (codes "relocate") then Some name.Relocate
     else look_up_named t
 
@@ -149,9 +151,9 @@ form_of name.Erase = record {
   members = codes "table" ∷ codes "id" ∷ [];
   request = λ ms. option_map₂ request.Erase (table_in ms) (id_in ms);
 }
-form_of name.EraseKey = record {
+form_of (name.Keyed k) = record {
   members = codes "table" ∷ codes "index" ∷ codes "key" ∷ [];
-  request = λ ms. option_map₃ request.EraseKey (table_in ms) (index_in ms) (key_in ms);
+  request = λ ms. option_map₃ (asked_key k) (table_in ms) (index_in ms) (key_in ms);
 }
 form_of name.Relocate = record {
   members = codes "table" ∷ codes "index" ∷ codes "id" ∷ codes "before" ∷ [];
@@ -168,17 +170,9 @@ form_of name.Get = record {
   members = codes "table" ∷ codes "id" ∷ [];
   request = λ ms. option_map₂ request.Get (table_in ms) (id_in ms);
 }
-form_of name.Find = record {
-  members = codes "table" ∷ codes "index" ∷ codes "key" ∷ [];
-  request = λ ms. option_map₃ request.Find (table_in ms) (index_in ms) (key_in ms);
-}
 form_of name.Nth = record {
   members = codes "table" ∷ codes "index" ∷ codes "n" ∷ [];
   request = λ ms. option_map₃ request.Nth (table_in ms) (index_in ms) (needed natural (codes "n") ms);
-}
-form_of name.Count = record {
-  members = codes "table" ∷ codes "index" ∷ codes "key" ∷ [];
-  request = λ ms. option_map₃ request.Count (table_in ms) (index_in ms) (key_in ms);
 }
 form_of name.Range = record {
   members = codes "table" ∷ codes "index" ∷ codes "lower" ∷ codes "upper" ∷ codes "reverse" ∷ codes "limit" ∷ [];
@@ -192,14 +186,6 @@ form_of name.List = record {
 form_of name.Rank = record {
   members = codes "table" ∷ codes "index" ∷ codes "id" ∷ [];
   request = λ ms. option_map₃ request.Rank (table_in ms) (index_in ms) (id_in ms);
-}
-form_of name.LowerRank = record {
-  members = codes "table" ∷ codes "index" ∷ codes "key" ∷ [];
-  request = λ ms. option_map₃ request.LowerRank (table_in ms) (index_in ms) (key_in ms);
-}
-form_of name.UpperRank = record {
-  members = codes "table" ∷ codes "index" ∷ codes "key" ∷ [];
-  request = λ ms. option_map₃ request.UpperRank (table_in ms) (index_in ms) (key_in ms);
 }
 form_of name.Size = record { members = codes "table" ∷ []; request = λ ms. option_map request.Size (table_in ms) }
 

@@ -2,10 +2,8 @@
 use Rattle.std.specs.Prelude.{◌≡◌, ℕ, ◌≤◌, List, [], ◌∷◌, ◌++◌, length, Option, Some, None, codes}
 use Rattle.json.specs.Json.{members, read_key, value}
 use Rattle.json.specs.Token.{Token}
-use Rattle.serde_json.specs.Data.{Data, Items, object, string, Members, no_members, member, put}
-use Rattle.serde_json.specs.Find.{as_str, as_array}
-use Rattle.serde_json.specs.Read.{of_json, of_members, converted, read}
-use Rattle.mi_request.specs.Json.{if_there}
+use Rattle.serde_json.specs.Data.{Data, string, Members, no_members, member, put}
+use Rattle.serde_json.specs.Read.{of_json, of_members, converted}
 
 -- behind the members that were found these tokens give the others, and nothing else; all of them are these
 abbrev pub IsRest : List Token → Members → Members → Type 0
@@ -34,9 +32,3 @@ named command = member (codes "cmd") (string command) no_members
 
 abbrev pub keyed_members : List ℕ → Option Data → Data → Data → Members
 keyed_members command table index key = put (codes "key") key (put (codes "index") index (put_if (codes "table") table (named command)))
-
--- the text is a command over this key
-abbrev pub IsKeyed : List ℕ → Option (List ℕ) → List ℕ → Items → List ℕ → Type 0
-IsKeyed command table index key text =
-    (t : Option Data) × (i : Data) × (k : Data) × (read text ≡ Some (object (keyed_members command t i k)))
-    × (if_there as_str t ≡ Some table) × (as_str i ≡ Some index) × (as_array k ≡ Some key)

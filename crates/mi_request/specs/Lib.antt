@@ -3,6 +3,7 @@ pub mod Bare
 pub mod Commands
 pub mod Flat
 pub mod Json
+pub mod Keyed
 pub mod Lines
 pub mod ObjectCode
 pub mod Places

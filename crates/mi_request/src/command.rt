@@ -4,6 +4,7 @@ ghost use Rattle.mi_request.specs.Commands.{look_up_named, step_named, command_n
 ghost use Rattle.mi_request.specs.Json.{has_only};
 
 use crate::bare::Bare;
+use crate::keyed::KeyCommand;
 use crate::object::Object;
 
 /// The commands.
@@ -13,20 +14,17 @@ pub(crate) enum CommandName {
     Replace,
     Modify,
     Erase,
-    EraseKey,
     Relocate,
     Get,
-    Find,
     Nth,
-    Count,
     Range,
     List,
     Rank,
-    LowerRank,
-    UpperRank,
     Size,
     Commit,
     Reserve,
+    /// One over a key of an index.
+    Keyed(KeyCommand),
     /// One without members.
     Bare(Bare),
 }
@@ -50,14 +48,14 @@ fn look_up_of(text: &str) -> Option<CommandName>
 {
     match text {
         "get" => Some(CommandName::Get),
-        "find" => Some(CommandName::Find),
+        "find" => Some(CommandName::Keyed(KeyCommand::Find)),
         "nth" => Some(CommandName::Nth),
-        "count" => Some(CommandName::Count),
+        "count" => Some(CommandName::Keyed(KeyCommand::Count)),
         "range" => Some(CommandName::Range),
         "list" => Some(CommandName::List),
         "rank" => Some(CommandName::Rank),
-        "lower_rank" => Some(CommandName::LowerRank),
-        "upper_rank" => Some(CommandName::UpperRank),
+        "lower_rank" => Some(CommandName::Keyed(KeyCommand::LowerRank)),
+        "upper_rank" => Some(CommandName::Keyed(KeyCommand::UpperRank)),
         "size" => Some(CommandName::Size),
         _ => step_of(text),
     }
@@ -73,7 +71,7 @@ impl CommandName {
             "replace" => Some(CommandName::Replace),
             "modify" => Some(CommandName::Modify),
             "erase" => Some(CommandName::Erase),
-            "erase_key" => Some(CommandName::EraseKey),
+            "erase_key" => Some(CommandName::Keyed(KeyCommand::EraseKey)),
             "relocate" => Some(CommandName::Relocate),
             _ => look_up_of(text),
         }
@@ -90,11 +88,7 @@ impl CommandName {
                 object.has_only(&["cmd", "table", "id", "set", "add", "rollback"])
             }
             CommandName::Erase | CommandName::Get => object.has_only(&["cmd", "table", "id"]),
-            CommandName::EraseKey
-            | CommandName::Find
-            | CommandName::Count
-            | CommandName::LowerRank
-            | CommandName::UpperRank => object.has_only(&["cmd", "table", "index", "key"]),
+            CommandName::Keyed(_) => object.has_only(&["cmd", "table", "index", "key"]),
             CommandName::Relocate => object.has_only(&["cmd", "table", "index", "id", "before"]),
             CommandName::Nth => object.has_only(&["cmd", "table", "index", "n"]),
             CommandName::Range => object.has_only(&[

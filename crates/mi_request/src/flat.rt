@@ -1,28 +1,30 @@
 //! Commands over keys, rows and ranges as a compact writer gives them: `cmd` first, and then the members in the order of the table of
 //! commands. Each member goes to its place as it is read. What is written in another way is left to the reading of any line.
-ghost use Rattle.std.specs.Prelude.{◌≡◌, ℕ, List, Option, IfSome, Some, None, Ok, codes, option_map};
+ghost use Rattle.std.specs.Prelude.{◌≡◌, ◌++◌, ℕ, List, Option, IfSome, Some, None, Ok, codes};
 ghost use Rattle.json.specs.Json.{read_key, value};
 ghost use Rattle.json.specs.Print.{escape};
 ghost use Rattle.json.specs.Token.{Token};
-ghost use Rattle.serde_json.specs.Data.{Data, array, string, no_members};
+ghost use Rattle.serde_json.specs.Data.{Data, array, object, string, no_members};
 ghost use Rattle.serde_json.specs.Read.{of_json, converted};
 ghost use Rattle.serde_json.specs.Find.{as_str, as_object};
 ghost use Rattle.mi_tokens.specs.Ends.{name_text};
-ghost use Rattle.mi_tokens.specs.Meaning.{meaning};
+ghost use Rattle.mi_tokens.specs.Tokens.{tokens_at};
+ghost use Rattle.mi_tokens.specs.declared.tokens.Context.TheVariants.{AfterComma};
 ghost use Rattle.mi_request.specs.Commands.{lower_end};
-ghost use Rattle.mi_request.specs.Flat.{IsMember, IsMaybe, IsKeyed, command_start};
+ghost use Rattle.mi_request.specs.Flat.{IsMember, IsMaybe, command_start};
 ghost use Rattle.mi_request.specs.Json.{natural, if_there, default_if};
+ghost use Rattle.mi_request.specs.Keyed.{key_name};
 ghost use Rattle.mi_request.specs.Lines.{command_line};
 
 use crate::array::Array;
-use crate::forms::KeyMembers;
+use crate::keyed::KeyCommand;
 use crate::name::Name;
 use crate::object::Object;
-use crate::reading::{if_page, natural_of, object_of};
+use crate::reading::{if_page, natural_of};
 use crate::request::{End, Request};
 use crate::text::text_of;
 use bumpalo::Bump;
-use mi_tokens::{Json, Tokens, pass_member, pass_one};
+use mi_tokens::{Json, Tokens, pass_object, pass_one};
 
 /// Where the first letter of the command's name stands in such a line.
 const FIRST_AT: usize = 8;
@@ -30,31 +32,40 @@ const FIRST_AT: usize = 8;
 /// Where the third letter stands.
 const THIRD_AT: usize = 10;
 
-/// The value of a member that must come next.
+/// The object of a member that must come next.
 #[inline(always)]
-fn needed<'a>(arena: &'a Bump, tokens: &mut Tokens<'a>, name: &[u8]) -> Option<Json<'a>>
-    ensures { (s : List ℕ) → name.now ≡ name_text s → escape s ≡ s → IfSome result (λ v. IsMember tokens.old s (meaning v) tokens.new) }
+fn object_in<'a, const N: usize>(
+    arena: &'a Bump,
+    tokens: &mut Tokens<'a>,
+    name: &[u8; N],
+) -> Option<Object<'a>>
+    ensures { (s : List ℕ) → name.now ≡ name_text s → escape s ≡ s → IfSome result (λ ms. IsMember tokens.old s (object ms) tokens.new) }
 {
     if !tokens.take_key(name) {
         return None;
     }
-    pass_member(arena, tokens)
+    Some(Object::new(pass_object(arena, tokens)?))
 }
 
-/// The value of a member that may come next.
+/// The object of a member that may come next; absent it has no members.
 #[inline(always)]
-fn maybe<'a>(arena: &'a Bump, tokens: &mut Tokens<'a>, name: &[u8]) -> Option<Option<Json<'a>>>
-    ensures { (s : List ℕ) → name.now ≡ name_text s → escape s ≡ s → IfSome result (λ o. IsMaybe tokens.old s (option_map meaning o) tokens.new) }
+fn edits<'a, const N: usize>(
+    arena: &'a Bump,
+    tokens: &mut Tokens<'a>,
+    name: &[u8; N],
+) -> Option<Object<'a>>
+    ensures { (s : List ℕ) → name.now ≡ name_text s → escape s ≡ s
+        → IfSome result (λ ms. (o : Option Data) × IsMaybe tokens.old s o tokens.new × (default_if no_members as_object o ≡ Some ms)) }
 {
     if !tokens.take_key(name) {
-        return Some(None);
+        return Some(Object::new(&[]));
     }
-    Some(Some(pass_member(arena, tokens)?))
+    Some(Object::new(pass_object(arena, tokens)?))
 }
 
 /// The text of a member that must come next.
 #[inline(always)]
-fn name_in<'a>(tokens: &mut Tokens<'a>, name: &[u8]) -> Option<Name<'a>>
+fn name_in<'a, const N: usize>(tokens: &mut Tokens<'a>, name: &[u8; N]) -> Option<Name<'a>>
     ensures { (s : List ℕ) → name.now ≡ name_text s → escape s ≡ s → IfSome result (λ n. IsMember tokens.old s (string n) tokens.new) }
 {
     if !tokens.take_key(name) {
@@ -65,7 +76,7 @@ fn name_in<'a>(tokens: &mut Tokens<'a>, name: &[u8]) -> Option<Name<'a>>
 
 /// The whole number from 0 of a member that must come next.
 #[inline(always)]
-fn whole(tokens: &mut Tokens<'_>, name: &[u8]) -> Option<u64>
+fn whole<const N: usize>(tokens: &mut Tokens<'_>, name: &[u8; N]) -> Option<u64>
     ensures { (s : List ℕ) → name.now ≡ name_text s → escape s ≡ s
         → IfSome result (λ n. (d : Data) × IsMember tokens.old s d tokens.new × (natural d ≡ Some n)) }
 {
@@ -123,74 +134,43 @@ fn lower<'a>(arena: &'a Bump, tokens: &mut Tokens<'a>) -> Option<End<'a>>
     Some(End::Without(last_key(arena, tokens)?))
 }
 
-/// The members of a command over a key.
+/// The tokens behind the name of a command over a key.
 #[inline(always)]
-fn keyed<'a>(arena: &'a Bump, text: &'a str, start: &[u8]) -> Option<KeyMembers<'a>>
-    ensures { (command : List ℕ) → start.now ≡ command_start command → escape command ≡ command
-        → IfSome result (λ m. IsKeyed command m.table m.index m.key text.now) }
+fn keyed_tokens<'a>(command: KeyCommand, text: &'a str) -> Option<Tokens<'a>>
+    ensures { IfSome result
+        (λ ts. (rest : List ℕ) × (text.now ≡ command_start (key_name command) ++ rest) × (ts ≡ tokens_at AfterComma rest)) }
 {
-    let mut tokens = Tokens::behind(text, start)?;
+    match command {
+        KeyCommand::EraseKey => Tokens::behind(text, b"{\"cmd\":\"erase_key\","),
+        KeyCommand::Find => Tokens::behind(text, b"{\"cmd\":\"find\","),
+        KeyCommand::Count => Tokens::behind(text, b"{\"cmd\":\"count\","),
+        KeyCommand::LowerRank => Tokens::behind(text, b"{\"cmd\":\"lower_rank\","),
+        KeyCommand::UpperRank => Tokens::behind(text, b"{\"cmd\":\"upper_rank\","),
+    }
+}
+
+/// A command over a key of one value.
+#[inline(always)]
+pub(crate) fn keyed<'a>(arena: &'a Bump, text: &'a str, command: KeyCommand) -> Option<Request<'a>>
+    ensures { IfSome result (λ r. command_line text.now ≡ Ok r) }
+{
+    let mut tokens = keyed_tokens(command, text)?;
     let table = table(&mut tokens)?;
     let index = name_in(&mut tokens, b"\"index\":")?;
     let key = one_key(arena, &mut tokens)?;
     if !tokens.take_end() {
         return None;
     }
-    Some(KeyMembers { table, index, key })
+    Some(command.request(table, index, key))
 }
 
-#[inline(never)]
-fn find<'a>(arena: &'a Bump, text: &'a str) -> Option<Request<'a>>
-    ensures { IfSome result (λ r. command_line text.now ≡ Ok r) }
-{
-    let start = b"{\"cmd\":\"find\",";
-    let KeyMembers { table, index, key } = keyed(arena, text, start)?;
-    Some(Request::Find { table, index, key })
-}
-
-#[inline(never)]
-fn count<'a>(arena: &'a Bump, text: &'a str) -> Option<Request<'a>>
-    ensures { IfSome result (λ r. command_line text.now ≡ Ok r) }
-{
-    let start = b"{\"cmd\":\"count\",";
-    let KeyMembers { table, index, key } = keyed(arena, text, start)?;
-    Some(Request::Count { table, index, key })
-}
-
-#[inline(never)]
-fn lower_rank<'a>(arena: &'a Bump, text: &'a str) -> Option<Request<'a>>
-    ensures { IfSome result (λ r. command_line text.now ≡ Ok r) }
-{
-    let start = b"{\"cmd\":\"lower_rank\",";
-    let KeyMembers { table, index, key } = keyed(arena, text, start)?;
-    Some(Request::LowerRank { table, index, key })
-}
-
-#[inline(never)]
-fn upper_rank<'a>(arena: &'a Bump, text: &'a str) -> Option<Request<'a>>
-    ensures { IfSome result (λ r. command_line text.now ≡ Ok r) }
-{
-    let start = b"{\"cmd\":\"upper_rank\",";
-    let KeyMembers { table, index, key } = keyed(arena, text, start)?;
-    Some(Request::UpperRank { table, index, key })
-}
-
-#[inline(never)]
-fn erase_key<'a>(arena: &'a Bump, text: &'a str) -> Option<Request<'a>>
-    ensures { IfSome result (λ r. command_line text.now ≡ Ok r) }
-{
-    let start = b"{\"cmd\":\"erase_key\",";
-    let KeyMembers { table, index, key } = keyed(arena, text, start)?;
-    Some(Request::EraseKey { table, index, key })
-}
-
-#[inline(never)]
-fn insert<'a>(arena: &'a Bump, text: &'a str) -> Option<Request<'a>>
+#[inline(always)]
+pub(crate) fn insert<'a>(arena: &'a Bump, text: &'a str) -> Option<Request<'a>>
     ensures { IfSome result (λ r. command_line text.now ≡ Ok r) }
 {
     let mut tokens = Tokens::behind(text, b"{\"cmd\":\"insert\",")?;
     let table = table(&mut tokens)?;
-    let row = object_of(&needed(arena, &mut tokens, b"\"row\":")?)?;
+    let row = object_in(arena, &mut tokens, b"\"row\":")?;
     if !tokens.take_end() {
         return None;
     }
@@ -201,34 +181,22 @@ fn insert<'a>(arena: &'a Bump, text: &'a str) -> Option<Request<'a>>
     })
 }
 
-#[inline(never)]
-fn replace<'a>(arena: &'a Bump, text: &'a str) -> Option<Request<'a>>
+#[inline(always)]
+pub(crate) fn replace<'a>(arena: &'a Bump, text: &'a str) -> Option<Request<'a>>
     ensures { IfSome result (λ r. command_line text.now ≡ Ok r) }
 {
     let mut tokens = Tokens::behind(text, b"{\"cmd\":\"replace\",")?;
     let table = table(&mut tokens)?;
     let id = whole(&mut tokens, b"\"id\":")?;
-    let row = object_of(&needed(arena, &mut tokens, b"\"row\":")?)?;
+    let row = object_in(arena, &mut tokens, b"\"row\":")?;
     if !tokens.take_end() {
         return None;
     }
     Some(Request::Replace { table, id, row })
 }
 
-/// The object of a member that may come next; absent it has no members.
 #[inline(always)]
-fn edits<'a>(arena: &'a Bump, tokens: &mut Tokens<'a>, name: &[u8]) -> Option<Object<'a>>
-    ensures { (s : List ℕ) → name.now ≡ name_text s → escape s ≡ s
-        → IfSome result (λ ms. (o : Option Data) × IsMaybe tokens.old s o tokens.new × (default_if no_members as_object o ≡ Some ms)) }
-{
-    match maybe(arena, tokens, name)? {
-        Some(value) => object_of(&value),
-        None => Some(Object::new(&[])),
-    }
-}
-
-#[inline(never)]
-fn modify<'a>(arena: &'a Bump, text: &'a str) -> Option<Request<'a>>
+pub(crate) fn modify<'a>(arena: &'a Bump, text: &'a str) -> Option<Request<'a>>
     ensures { IfSome result (λ r. command_line text.now ≡ Ok r) }
 {
     let mut tokens = Tokens::behind(text, b"{\"cmd\":\"modify\",")?;
@@ -249,8 +217,8 @@ fn modify<'a>(arena: &'a Bump, text: &'a str) -> Option<Request<'a>>
 }
 
 /// A page of a range from a key on.
-#[inline(never)]
-fn range<'a>(arena: &'a Bump, text: &'a str) -> Option<Request<'a>>
+#[inline(always)]
+pub(crate) fn range<'a>(arena: &'a Bump, text: &'a str) -> Option<Request<'a>>
     ensures { IfSome result (λ r. command_line text.now ≡ Ok r) }
 {
     let mut tokens = Tokens::behind(text, b"{\"cmd\":\"range\",")?;
@@ -271,43 +239,44 @@ fn range<'a>(arena: &'a Bump, text: &'a str) -> Option<Request<'a>>
     })
 }
 
-/// Whether a command whose name has this first letter and this third one can be read so.
-#[inline(always)]
-fn is_flat(first: u8, third: u8) -> bool {
-    matches!(
-        (first, third),
-        (b'f', b'n')
-            | (b'c', b'u')
-            | (b'l', b'w')
-            | (b'u', b'p')
-            | (b'e', b'a')
-            | (b'i', b's')
-            | (b'm', b'd')
-            | (b'r', b'n')
-            | (b'r', b'p')
-    )
+/// A command that can be read so.
+#[derive(Clone, Copy)]
+pub(crate) enum Flat {
+    Insert,
+    Replace,
+    Modify,
+    Range,
+    Keyed(KeyCommand),
 }
 
-/// The request of such a line. Two letters of the command's name tell which it can be.
+/// The command whose name has this first letter and this third one, if it can be read so.
 #[inline(always)]
-pub(crate) fn flat_line<'a>(arena: &'a Bump, line: &'a [u8]) -> Option<Request<'a>>
-    ensures { IfSome result (λ r. command_line line.now ≡ Ok r) }
+fn command_of(first: u8, third: u8) -> Option<Flat> {
+    match (first, third) {
+        (b'i', b's') => Some(Flat::Insert),
+        (b'r', b'p') => Some(Flat::Replace),
+        (b'm', b'd') => Some(Flat::Modify),
+        (b'r', b'n') => Some(Flat::Range),
+        (b'e', b'a') => Some(Flat::Keyed(KeyCommand::EraseKey)),
+        (b'f', b'n') => Some(Flat::Keyed(KeyCommand::Find)),
+        (b'c', b'u') => Some(Flat::Keyed(KeyCommand::Count)),
+        (b'l', b'w') => Some(Flat::Keyed(KeyCommand::LowerRank)),
+        (b'u', b'p') => Some(Flat::Keyed(KeyCommand::UpperRank)),
+        _ => None,
+    }
+}
+
+/// The command that a line may be, by two letters of its name, and the line's text.
+#[inline(always)]
+pub(crate) fn flat_of(line: &[u8]) -> Option<(Flat, &str)>
+    ensures { IfSome result (λ p. p.1.now ≡ line.now) }
 {
-    if line.len() <= THIRD_AT || !is_flat(line[FIRST_AT], line[THIRD_AT]) {
+    if line.len() <= THIRD_AT {
         return None;
     }
-    let Ok(text) = text_of(line) else {
-        return None;
-    };
-    match line[THIRD_AT] {
-        b's' => insert(arena, text),
-        b'd' => modify(arena, text),
-        b'u' => count(arena, text),
-        b'w' => lower_rank(arena, text),
-        b'a' => erase_key(arena, text),
-        b'n' if line[FIRST_AT] == b'f' => find(arena, text),
-        b'n' => range(arena, text),
-        b'p' if line[FIRST_AT] == b'r' => replace(arena, text),
-        _ => upper_rank(arena, text),
+    let command = command_of(line[FIRST_AT], line[THIRD_AT])?;
+    match text_of(line) {
+        Ok(text) => Some((command, text)),
+        Err(_) => None,
     }
 }

@@ -1,74 +1,19 @@
 //! The request that each command's members are. It knows the table of commands and no catalog. Each form is a call of its own, so that
 //! no other form's fields are moved with its request.
-ghost use Rattle.std.specs.Prelude.{◌≡◌, ℕ, Bool, false, List, Option, option_map, codes};
-ghost use Rattle.serde_json.specs.Data.{Items};
-ghost use Rattle.serde_json.specs.Find.{as_bool};
-ghost use Rattle.mi_request.specs.Commands.{form_of, table_in, index_in, key_in, limit_in, lower_end, upper_end};
-ghost use Rattle.mi_request.specs.Json.{default, option_map₃, option_map₄};
+ghost use Rattle.std.specs.Prelude.{◌≡◌};
+ghost use Rattle.mi_request.specs.Commands.{form_of};
 ghost use Rattle.mi_request.specs.Lines as lines;
-ghost use Rattle.mi_request.specs.declared.request.End.{End as EndSpec};
-ghost use Rattle.mi_request.specs.declared.request.End.TheVariants.{Open};
-ghost use Rattle.mi_request.specs.declared.request.Request.{Request as Asked};
 ghost use Rattle.mi_request.specs.declared.command.CommandName.TheVariants as name;
 
-use crate::array::Array;
 use crate::command::CommandName;
-use crate::name::Name;
+use crate::keyed::KeyCommand;
 use crate::object::Object;
 use crate::reading::{
-    array, flag, lower, natural, natural_if_there, natural_or_absent, object, object_or_empty,
-    page, place, text, text_if_there, up_to, upper,
+    array, end, flag, natural, natural_if_there, natural_or_absent, object, object_or_empty, page,
+    place, text, text_if_there, up_to,
 };
-use crate::request::{End, Request};
+use crate::request::Request;
 use mi_value::limits::{MAX_RESERVED_CHANGES, MAX_RESERVED_SESSIONS};
-
-/// The members of a command over a key of an index.
-#[derive(Drop)]
-pub(crate) struct KeyMembers<'a> {
-    pub(crate) table: Option<Name<'a>>,
-    pub(crate) index: Name<'a>,
-    pub(crate) key: Array<'a>,
-}
-
-/// Its members of the names `table`, `index` and `key`.
-#[inline(always)]
-fn key_members<'a>(object: &Object<'a>) -> Option<KeyMembers<'a>>
-    ensures { (make : Option (List ℕ) → List ℕ → Items → Asked) → option_map (λ m. make m.table m.index m.key) result
-        ≡ option_map₃ make (table_in object.now) (index_in object.now) (key_in object.now) }
-{
-    let table = text_if_there(object, "table")?;
-    let index = text(object, "index")?;
-    let key = array(object, "key")?;
-    Some(KeyMembers { table, index, key })
-}
-
-/// The members that a range alone has.
-#[derive(Drop)]
-struct RangeMembers<'a> {
-    lower: End<'a>,
-    upper: End<'a>,
-    reverse: bool,
-    limit: usize,
-}
-
-/// Its members of the names `lower`, `upper`, `reverse` and `limit`.
-#[inline(always)]
-fn range_members<'a>(object: &Object<'a>) -> Option<RangeMembers<'a>>
-    ensures { (make : EndSpec → EndSpec → Bool → ℕ → Asked) → option_map (λ m. make m.lower m.upper m.reverse m.limit) result
-        ≡ option_map₄ make (default Open lower_end (codes "lower") object.now) (default Open upper_end (codes "upper") object.now)
-        (default false as_bool (codes "reverse") object.now) (limit_in object.now) }
-{
-    let lower = lower(object, "lower")?;
-    let upper = upper(object, "upper")?;
-    let reverse = flag(object, "reverse")?;
-    let limit = page(object, "limit")?;
-    Some(RangeMembers {
-        lower,
-        upper,
-        reverse,
-        limit,
-    })
-}
 
 #[inline(never)]
 fn insert_request<'a>(members: &Object<'a>) -> Option<Request<'a>>
@@ -118,11 +63,13 @@ fn erase_request<'a>(object: &Object<'a>) -> Option<Request<'a>>
 }
 
 #[inline(never)]
-fn erase_key_request<'a>(object: &Object<'a>) -> Option<Request<'a>>
-    ensures { result ≡ (form_of name.EraseKey).request object.now }
+fn keyed_request<'a>(object: &Object<'a>, command: KeyCommand) -> Option<Request<'a>>
+    ensures { result ≡ (form_of (name.Keyed command)).request object.now }
 {
-    let KeyMembers { table, index, key } = key_members(object)?;
-    Some(Request::EraseKey { table, index, key })
+    let table = text_if_there(object, "table")?;
+    let index = text(object, "index")?;
+    let key = array(object, "key")?;
+    Some(command.request(table, index, key))
 }
 
 #[inline(never)]
@@ -168,14 +115,6 @@ fn get_request<'a>(object: &Object<'a>) -> Option<Request<'a>>
 }
 
 #[inline(never)]
-fn find_request<'a>(object: &Object<'a>) -> Option<Request<'a>>
-    ensures { result ≡ (form_of name.Find).request object.now }
-{
-    let KeyMembers { table, index, key } = key_members(object)?;
-    Some(Request::Find { table, index, key })
-}
-
-#[inline(never)]
 fn nth_request<'a>(object: &Object<'a>) -> Option<Request<'a>>
     ensures { result ≡ (form_of name.Nth).request object.now }
 {
@@ -186,25 +125,15 @@ fn nth_request<'a>(object: &Object<'a>) -> Option<Request<'a>>
 }
 
 #[inline(never)]
-fn count_request<'a>(object: &Object<'a>) -> Option<Request<'a>>
-    ensures { result ≡ (form_of name.Count).request object.now }
-{
-    let KeyMembers { table, index, key } = key_members(object)?;
-    Some(Request::Count { table, index, key })
-}
-
-#[inline(never)]
 fn range_request<'a>(object: &Object<'a>) -> Option<Request<'a>>
     ensures { result ≡ (form_of name.Range).request object.now }
 {
     let table = text_if_there(object, "table")?;
     let index = text(object, "index")?;
-    let RangeMembers {
-        lower,
-        upper,
-        reverse,
-        limit,
-    } = range_members(object)?;
+    let lower = end(object, "lower", "ge", "gt")?;
+    let upper = end(object, "upper", "le", "lt")?;
+    let reverse = flag(object, "reverse")?;
+    let limit = page(object, "limit")?;
     Some(Request::Range {
         table,
         index,
@@ -242,22 +171,6 @@ fn rank_request<'a>(object: &Object<'a>) -> Option<Request<'a>>
 }
 
 #[inline(never)]
-fn lower_rank_request<'a>(object: &Object<'a>) -> Option<Request<'a>>
-    ensures { result ≡ (form_of name.LowerRank).request object.now }
-{
-    let KeyMembers { table, index, key } = key_members(object)?;
-    Some(Request::LowerRank { table, index, key })
-}
-
-#[inline(never)]
-fn upper_rank_request<'a>(object: &Object<'a>) -> Option<Request<'a>>
-    ensures { result ≡ (form_of name.UpperRank).request object.now }
-{
-    let KeyMembers { table, index, key } = key_members(object)?;
-    Some(Request::UpperRank { table, index, key })
-}
-
-#[inline(never)]
 fn size_request<'a>(object: &Object<'a>) -> Option<Request<'a>>
     ensures { result ≡ (form_of name.Size).request object.now }
 {
@@ -277,20 +190,16 @@ pub(crate) fn request_by<'a>(name: CommandName, object: &Object<'a>) -> Option<R
         CommandName::Replace => replace_request(object),
         CommandName::Modify => modify_request(object),
         CommandName::Erase => erase_request(object),
-        CommandName::EraseKey => erase_key_request(object),
+        CommandName::Keyed(command) => keyed_request(object, command),
         CommandName::Relocate => relocate_request(object),
         CommandName::Bare(bare) => Some(bare.request()),
         CommandName::Commit => commit_request(object),
         CommandName::Reserve => reserve_request(object),
         CommandName::Get => get_request(object),
-        CommandName::Find => find_request(object),
         CommandName::Nth => nth_request(object),
-        CommandName::Count => count_request(object),
         CommandName::Range => range_request(object),
         CommandName::List => list_request(object),
         CommandName::Rank => rank_request(object),
-        CommandName::LowerRank => lower_rank_request(object),
-        CommandName::UpperRank => upper_rank_request(object),
         CommandName::Size => size_request(object),
     }
 }

@@ -7,6 +7,7 @@ mod bare;
 mod command;
 mod flat;
 mod forms;
+mod keyed;
 mod lending;
 mod line_reader;
 mod name;

@@ -8,7 +8,7 @@ ghost use Rattle.mi_request.specs.declared.request.Request.{Request as Asked};
 ghost use Rattle.mi_request.specs.declared.request.Request.TheVariants as request;
 
 use crate::bare::Bare;
-use crate::flat::flat_line;
+use crate::flat::{Flat, flat_of, insert, keyed, modify, range, replace};
 use crate::request::{Request, request_of};
 use crate::short::short_of;
 use crate::value::read_value;
@@ -56,13 +56,16 @@ impl LineReader {
 
     /// Gives up the value that is kept, and makes the arena empty. An arena that has grown past what is kept is given up.
     fn empty(&mut self) {
-        self.value = Value::Null;
+        if !self.value.is_null() {
+            self.value = Value::Null;
+        }
         if self.arena.reset().is_err() || self.arena.allocated_bytes() > KEPT_ARENA {
             self.arena = Bump::new(self.alloc);
         }
     }
 
     /// The request that a line is, whatever its length.
+    #[inline(never)]
     fn read<'a>(&'a mut self, line: &'a [u8]) -> Result<Request<'a>, Refusal>
         ensures answer { IsAnswer result (command_line line.now) }
         ensures refusal { IfErr result NamesNoIndex }
@@ -70,8 +73,25 @@ impl LineReader {
         self.empty();
         let alloc = self.alloc;
         let arena = &self.arena;
-        if let Some(request) = flat_line(arena, line) {
-            return Ok(request);
+        match flat_of(line) {
+            Some((Flat::Insert, text)) => if let Some(asked) = insert(arena, text) {
+                return Ok(asked);
+            },
+            Some((Flat::Replace, text)) => if let Some(asked) = replace(arena, text) {
+                return Ok(asked);
+            },
+            Some((Flat::Modify, text)) => if let Some(asked) = modify(arena, text) {
+                return Ok(asked);
+            },
+            Some((Flat::Range, text)) => if let Some(asked) = range(arena, text) {
+                return Ok(asked);
+            },
+            Some((Flat::Keyed(command), text)) => {
+                if let Some(asked) = keyed(arena, text, command) {
+                    return Ok(asked);
+                }
+            }
+            None => {}
         }
         read_any(alloc, arena, &mut self.value, line)
     }

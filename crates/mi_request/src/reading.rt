@@ -1,5 +1,5 @@
 //! What each kind of member is. It knows no command.
-ghost use Rattle.std.specs.Prelude.{◌≡◌, option_map, None, false};
+ghost use Rattle.std.specs.Prelude.{◌≡◌, option_map, option_and_then, None, false};
 ghost use Rattle.serde_json.specs.Data.{no_members};
 ghost use Rattle.serde_json.specs.Find.{as_str, as_array, as_bool, as_object};
 ghost use Rattle.mi_tokens.specs.Meaning.{meaning};
@@ -214,42 +214,23 @@ fn one_end<'a>(with: Option<&Json<'a>>, without: Option<&Json<'a>>) -> Option<En
     }
 }
 
-fn lower_end<'a>(value: &Json<'a>) -> Option<End<'a>>
-    ensures { result ≡ commands.lower_end (meaning value.now) }
+#[inline(always)]
+fn end_of<'a>(object: &Object<'a>, with: &str, without: &str) -> Option<End<'a>>
+    ensures { result ≡ commands.end_of with.now without.now object.now }
 {
-    let object = object_of(value)?;
-    if !object.has_only(&["ge", "gt"]) {
+    if !object.has_only(&[with, without]) {
         return None;
     }
-    one_end(object.get("ge"), object.get("gt"))
+    one_end(object.get(with), object.get(without))
 }
 
-fn upper_end<'a>(value: &Json<'a>) -> Option<End<'a>>
-    ensures { result ≡ commands.upper_end (meaning value.now) }
-{
-    let object = object_of(value)?;
-    if !object.has_only(&["le", "lt"]) {
-        return None;
-    }
-    one_end(object.get("le"), object.get("lt"))
-}
-
-/// The lower end of a range: an object with exactly `ge` or `gt`, an array. Absent it is open.
-pub(crate) fn lower<'a>(object: &Object<'a>, name: &str) -> Option<End<'a>>
-    ensures { result ≡ default Open commands.lower_end name.now object.now }
+/// An end of a range: an object with exactly one of two members, an array. Absent it is open.
+#[inline(always)]
+pub(crate) fn end<'a>(object: &Object<'a>, name: &str, with: &str, without: &str) -> Option<End<'a>>
+    ensures { result ≡ default Open (λ d. option_and_then (commands.end_of with.now without.now) (as_object d)) name.now object.now }
 {
     match object.get(name) {
-        Some(value) => lower_end(value),
-        None => Some(End::Open),
-    }
-}
-
-/// The upper end of a range: an object with exactly `le` or `lt`, an array. Absent it is open.
-pub(crate) fn upper<'a>(object: &Object<'a>, name: &str) -> Option<End<'a>>
-    ensures { result ≡ default Open commands.upper_end name.now object.now }
-{
-    match object.get(name) {
-        Some(value) => upper_end(value),
+        Some(value) => end_of(&object_of(value)?, with, without),
         None => Some(End::Open),
     }
 }

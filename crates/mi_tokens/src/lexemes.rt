@@ -215,20 +215,23 @@ impl<'a> Lexemes<'a> {
 
     /// Passes these bytes, if they come first.
     #[inline(always)]
-    pub(crate) fn pass_bytes(&mut self, front: &[u8]) -> bool
+    pub(crate) fn pass_bytes<const N: usize>(&mut self, front: &[u8; N]) -> bool
         ensures { MatchBool result (self.old ≡ front.now ++ self.new) (self.new ≡ self.old) }
     {
         let rest = &self.text.as_bytes()[self.at..];
-        if rest.len() < front.len() || &rest[..front.len()] != front {
+        let Some((first, _)) = rest.split_first_chunk::<N>() else {
+            return false;
+        };
+        if first != front {
             return false;
         }
-        self.at += front.len();
+        self.at += N;
         true
     }
 
     /// Passes a word in front of the end of a value.
     #[inline(always)]
-    pub(crate) fn pass_word(&mut self, word: &[u8]) -> bool
+    pub(crate) fn pass_word<const N: usize>(&mut self, word: &[u8; N]) -> bool
         ensures { IsTrue result → (self.old ≡ word.now ++ self.new) × (ends_word self.new ≡ true) }
     {
         self.pass_bytes(word) && is_end(self.peek())
@@ -236,7 +239,7 @@ impl<'a> Lexemes<'a> {
 
     /// Passes the name of a member with its colon, and a space behind it, if this is next.
     #[inline(always)]
-    pub(crate) fn pass_name(&mut self, front: &[u8]) -> bool
+    pub(crate) fn pass_name<const N: usize>(&mut self, front: &[u8; N]) -> bool
         ensures { (s : List ℕ) → front.now ≡ name_text s → escape s ≡ s
             → MatchBool result (lex between self.old ≡ token (spec.string s) ∷ colon ∷ lex between self.new) (self.new ≡ self.old) }
     {

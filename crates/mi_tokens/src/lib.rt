@@ -8,6 +8,6 @@ mod plain;
 mod tokens;
 mod value;
 
-pub use pass::{pass_member, pass_one, pass_text};
+pub use pass::{pass_object, pass_one, pass_text};
 pub use tokens::Tokens;
 pub use value::Json;

@@ -3,7 +3,7 @@
 ghost use Rattle.std.specs.Prelude.{◌≡◌, ◌∷◌, ◌++◌, IfSome, IsTrue, Some, [], ◌<◌, ℕ, List, length};
 ghost use Rattle.json.specs.Json.{value, items, members};
 ghost use Rattle.json.specs.Token.{Token};
-ghost use Rattle.serde_json.specs.Data.{array, no_members};
+ghost use Rattle.serde_json.specs.Data.{array, object, no_members};
 ghost use Rattle.serde_json.specs.Read.{of_json, of_items, of_members, converted, read};
 ghost use Rattle.mi_tokens.specs.Meaning.{meaning, items_meaning, members_meaning};
 ghost use Rattle.mi_tokens.specs.Tokens.{token_of};
@@ -113,13 +113,19 @@ pub fn pass_text<'a>(arena: &'a Bump, text: &'a str) -> Option<Json<'a>>
     if tokens.is_done() { Some(value) } else { None }
 }
 
-/// The value of a member, where it is written as a writer gives it, with numbers alone that are whole and have at most 18 digits. Want of
-/// memory counts as another way of writing.
+/// The members of an object that is a member's value, if it comes first and is written as a writer gives it, with numbers alone that are
+/// whole and have at most 18 digits. Want of memory counts as another way of writing.
 #[inline(always)]
-pub fn pass_member<'a>(arena: &'a Bump, tokens: &mut Tokens<'a>) -> Option<Json<'a>>
-    ensures { IfSome result (λ v. converted of_json (value 126 tokens.old) ≡ Some (meaning v, tokens.new)) }
+pub fn pass_object<'a>(
+    arena: &'a Bump,
+    tokens: &mut Tokens<'a>,
+) -> Option<&'a [(&'a str, Json<'a>)]>
+    ensures { IfSome result (λ ms. converted of_json (value 126 tokens.old) ≡ Some (object (members_meaning ms.now no_members), tokens.new)) }
 {
-    pass_value(arena, tokens, MAX_DEPTH - 1)
+    if !tokens.take_object() {
+        return None;
+    }
+    pass_members(arena, tokens, MAX_DEPTH - 2)
 }
 
 /// The items of an array of one item that is no array and no object, if it comes first.
@@ -127,9 +133,9 @@ pub fn pass_member<'a>(arena: &'a Bump, tokens: &mut Tokens<'a>) -> Option<Json<
 pub fn pass_one<'a>(arena: &'a Bump, tokens: &mut Tokens<'a>) -> Option<&'a [Json<'a>]>
     ensures { (depth : ℕ) → 0 < depth → IfSome result (λ xs. converted of_json (value depth tokens.old) ≡ Some (array (items_meaning xs.now), tokens.new)) }
 {
-    let Start::Array = tokens.next()? else {
+    if !tokens.take_array() {
         return None;
-    };
+    }
     let item = plain(tokens.next()?)?;
     if !tokens.take_end_array() {
         return None;

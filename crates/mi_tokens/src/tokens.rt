@@ -112,9 +112,9 @@ fn number<'a>(lexemes: &mut Lexemes<'a>) -> Option<(Start<'a>, Context)>
 
 /// True, false or null, by its word.
 #[inline(always)]
-fn word<'a>(
+fn word<'a, const N: usize>(
     lexemes: &mut Lexemes<'a>,
-    text: &[u8],
+    text: &[u8; N],
     token: Start<'a>,
 ) -> Option<(Start<'a>, Context)>
     requires { IsWordOf (token_of token) text.now }
@@ -186,7 +186,7 @@ impl<'a> Tokens<'a> {
 
     /// The tokens behind a front that ends in a comma, if the text begins with it.
     #[inline(always)]
-    pub fn behind(text: &'a str, front: &[u8]) -> Option<Tokens<'a>>
+    pub fn behind<const N: usize>(text: &'a str, front: &[u8; N]) -> Option<Tokens<'a>>
         ensures { IfSome result (λ ts. (rest : List ℕ) × (text.now ≡ front.now ++ rest) × (ts ≡ tokens_at AfterComma rest)) }
     {
         let mut lexemes = Lexemes::new(text);
@@ -201,7 +201,7 @@ impl<'a> Tokens<'a> {
 
     /// Takes the name of a member with its colon, if it is written so and comes next.
     #[inline(always)]
-    pub fn take_key(&mut self, front: &[u8]) -> bool
+    pub fn take_key<const N: usize>(&mut self, front: &[u8; N]) -> bool
         ensures { (s : List ℕ) → front.now ≡ name_text s → escape s ≡ s → MatchBool result (read_key self.old ≡ Some (Some s, self.new)) (self.new ≡ self.old) }
     {
         if !self.context.may_begin() || !self.lexemes.pass_name(front) {
@@ -238,6 +238,17 @@ impl<'a> Tokens<'a> {
         let n = self.lexemes.number()?;
         self.context = after_value(&mut self.lexemes);
         Some(n)
+    }
+
+    /// Takes the bracket with which an array begins, if it is next.
+    #[inline(always)]
+    pub(crate) fn take_array(&mut self) -> bool
+        ensures { IsTrue result → self.old ≡ spec.begin_array ∷ self.new }
+    {
+        if self.lexemes.peek() != b'[' || !self.context.may_begin() {
+            return false;
+        }
+        matches!(self.next(), Some(Start::Array))
     }
 
     /// Takes the brace with which an object begins, if it is next.

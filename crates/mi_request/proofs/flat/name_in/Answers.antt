@@ -7,7 +7,7 @@ use Rattle.serde_json.specs.Read.{of_json, converted}
 use Rattle.mi_request.proofs.flat.name_in.Goals as goal
 
 pub returns : goal.returns
-returns c s is plain = (
+returns g c s is plain = (
   c.take_key.new.self,
   c.if-not-take_key.ensures s is plain,
   ap (converted of_json) (ap (value 126) c.in_ok-take_text.ensures ∙ value_is 126 _) ∙ ap (λ n. Some (string n, c.take_text.new.self)) (sym c.new.ensures),

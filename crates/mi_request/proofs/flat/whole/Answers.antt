@@ -15,7 +15,7 @@ use Rattle.mi_request.proofs.FlatLemmas.{natural_found}
 use Rattle.mi_request.proofs.flat.whole.Goals as goal
 
 pub returns : goal.returns
-returns c s is plain =
+returns g c s is plain =
     let n = c.in_ok-take_whole.field-0 in
     let ts = c.take_whole.new.self in
     let fits : FitsSigned w64 n = search rules in

@@ -1,20 +1,14 @@
 -- A value, its items and its members are those of the grammar, a turn at a time.
-use Rattle.std.proofs.Common.{◌≡◌, ◌-◌, [], ◌∷◌, ◌++◌, length, Some, option_map, FitsSigned, w64, IfSome, subst, sym, ap, ◌∙◌, arith, rules}
-use Rattle.std.proofs.lemmas.Int.{to_z-of_z}
-use Rattle.std.specs.Fmt.{signed_decimal}
-use Rattle.json.specs.Token.{Token}
+use Rattle.std.proofs.Common.{◌≡◌, ◌-◌, [], ◌∷◌, ◌++◌, length, Some, IfSome, subst, sym, ap, ◌∙◌, arith, rules}
 use Rattle.json.specs.Json.{parse_map, read_key, items, members, value}
-use Rattle.json.proofs.Grammar.{left, value_is, value-begin_array, value-begin_object, read_key-shorter, skip_value-shorter}
-use Rattle.serde_json.specs.Data.{null, boolean, number, string, array, object, no_members}
-use Rattle.serde_json.specs.Find.{of_integer}
+use Rattle.json.proofs.Grammar.{left, value-begin_array, value-begin_object, read_key-shorter, skip_value-shorter}
+use Rattle.serde_json.specs.Data.{array, object, no_members}
 use Rattle.serde_json.specs.Read.{of_json, of_items, of_members, converted}
 use Rattle.mi_tokens.proofs.ReadingLemmas.{converted_some, converted-array, converted-object, item_read, items_over, member_read, members_over, none_before}
 use Rattle.mi_tokens.specs.Meaning.{meaning, members_meaning}
 use Rattle.mi_tokens.specs.Tokens.{token_of}
-use Rattle.mi_tokens.specs.declared.value.Json.{Text, Whole, Bool, Null, the_lemmas}
 use Rattle.mi_tokens.proofs.MeaningLemmas.{meaning-Array, meaning-Object, items_before, items_before-no_items, one_more_item, members_push}
 use Rattle.mi_tokens.proofs.TokenLemmas.{value_no_end}
-use Rattle.mi_tokens.proofs.WholeLemmas.{number_read}
 use Rattle.mi_tokens.proofs.pass.+pass.Goals as goal
 
 pub pass_value-returns-in_default : goal.pass_value-returns-in_default

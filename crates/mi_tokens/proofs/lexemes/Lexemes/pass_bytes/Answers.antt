@@ -6,13 +6,14 @@ use Rattle.std.proofs.lemmas.Slice.Eq.{bytes_eq-Decides}
 use Rattle.mi_tokens.proofs.lexemes.Lexemes.pass_bytes.Goals as goal
 
 pub returns : goal.returns
-returns c =
+returns g c =
     let a = c.self.inside in
     let d = a.text.now in
     let w = c.args.front.now in
+    let n = g.row.N in
     let bytes = c.as_bytes.result.now in
     let rest = take (length bytes - a.at) (drop a.at bytes) in
     let whole : rest ≡ drop a.at bytes = take_all _ (drop a.at bytes) (omega (arith, length-drop a.at bytes)) in
-    let found : take (length w) rest ≡ w = (bytes_eq-Decides (take (length w) rest) w).0 (not-false _ (sym c.ne.ensures ∙ c.if-ne.false)) in
-    let first : take (length w) (drop a.at d) ≡ w = rw (← c.as_bytes.ensures.value) (ap (take (length w)) (sym whole) ∙ found) in
-    sym c.self.view_is ∙ sym (take-append-drop (length w) (drop a.at d)) ∙ ap₂ (λ s t. s ++ t) first (drop-drop (length w) a.at d)
+    let same : c.in-Some.first.now ≡ w = (bytes_eq-Decides c.in-Some.first.now w).0 (not-false _ (sym c.ne.ensures ∙ c.if-ne.false)) in
+    let first : take n (drop a.at d) ≡ w = rw (← c.as_bytes.ensures.value) (ap (take n) (sym whole) ∙ sym c.in-Some.ensures.cases.0 ∙ same) in
+    sym c.self.view_is ∙ sym (take-append-drop n (drop a.at d)) ∙ ap₂ (λ s t. s ++ t) first (drop-drop n a.at d)

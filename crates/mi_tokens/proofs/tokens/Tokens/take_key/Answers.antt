@@ -7,7 +7,7 @@ use Rattle.mi_tokens.proofs.TokenLemmas.{begins_key}
 use Rattle.mi_tokens.proofs.tokens.Tokens.take_key.Goals as goal
 
 pub returns : goal.returns
-returns c s is plain =
+returns g c s is plain =
     let a = c.self.inside in
     let may : may_begin (place_of a.context) ≡ true = grind arith in
     ap read_key (sym c.self.view_is ∙ ap (punctuate (place_of a.context)) (c.if-not-pass_name.ensures s is plain)

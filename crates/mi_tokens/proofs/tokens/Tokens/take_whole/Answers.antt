@@ -1,5 +1,5 @@
 -- A whole number is a value.
-use Rattle.std.proofs.Common.{◌≡◌, true, sym, ap, ◌∙◌, arith}
+use Rattle.std.proofs.Common.{◌≡◌, true, sym, ◌∙◌, arith}
 use Rattle.std.proofs.lemmas.Int.{ints, to_z-of_z}
 use Rattle.std.specs.Fmt.{signed_decimal}
 use Rattle.json.specs.Lex.{may_begin}
