@@ -2,7 +2,6 @@
 //! value, the row's bracket or the comma among them, and which cell has the value. They are made without memory, and kept with a copy of
 //! the columns that they were made of.
 ghost use Rattle.std.specs.Prelude.{◌≡◌, ◌≤◌, length, false, IfOk, IfSome};
-ghost use Rattle.std.specs.Bool.{OnTrue};
 ghost use Rattle.std.specs.List.{All};
 ghost use Rattle.arrayvec.specs.ArrayVec.{array_vec_len};
 ghost use Rattle.mi_value.specs.declared.limits.TheConstants.{MAX_COLUMNS};
@@ -148,32 +147,8 @@ fn copy_columns(alloc: Global, columns: &[Column]) -> Result<Vec<Column>, AllocE
     Ok(copied)
 }
 
-/// Whether two columns have the same name and type.
-#[inline(always)]
-fn is_same(column: &Column, other: &Column) -> bool
-    ensures { OnTrue result (column.now ≡ other.now) }
-{
-    column.kind == other.kind && column.name.as_str() == other.name.as_str()
-}
-
-/// Whether columns are the same in number, names and types.
-fn are_same(columns: &[Column], others: &[Column]) -> bool
-    ensures { OnTrue result (columns.now ≡ others.now) }
-{
-    if columns.len() != others.len() {
-        return false;
-    }
-    'columns: for (i, column) in columns.iter().enumerate() {
-        if !is_same(column, &others[i]) {
-            return false;
-        }
-    }
-    true
-}
-
 impl RowLabels {
     ghost use Rattle.std.specs.Prelude.{◌≡◌, ◌≤◌, length, IfOk};
-    ghost use Rattle.std.specs.Bool.{OnTrue};
     ghost use Rattle.mi_value.specs.declared.limits.TheConstants.{MAX_COLUMNS};
     ghost use Rattle.mi_rows.specs.Labels.{AreLabels};
 
@@ -187,13 +162,6 @@ impl RowLabels {
             columns: copy_columns(alloc, columns)?,
             members,
         })
-    }
-
-    /// Whether they are the labels of rows with these columns.
-    pub fn are_of(&self, columns: &[Column]) -> bool
-        ensures { OnTrue result (self.now ≡ columns.now) }
-    {
-        are_same(self.columns.as_slice(), columns)
     }
 
     /// The labels themselves.
