@@ -143,8 +143,8 @@ impl<D: Sessions + Drop> Executor<D> {
         out.put(self.alloc, &reply, self.database.catalog(), &self.labels);
     }
 
-    /// Does any other command, and says whether anything may have changed.
-    #[inline(never)]
+    /// Does any other command, and says whether anything may have changed. In line it has the command where it was bound.
+    #[inline(always)]
     fn answer_change(&mut self, conn: u64, command: Command, out: &mut Output) -> bool
         requires fits { FitsCatalog self.old.database.catalog command }
         requires changes { spec.looks_up command ≡ false }
