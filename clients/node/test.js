@@ -103,7 +103,8 @@ test("a refusal's message says why", () =>
     await db.insert(account("bob"));
     const said = async (call, want) => assert.equal((await call.then(assert.fail, (it) => it)).message, want);
     await said(db.insert(account("ann")), "unique: record 0 has this key in by_owner");
-    await said(db.modify(1, { set: { owner: "ann" }, rollback: false }), "unique: record 0 has this key in by_owner; the record that was to be modified is erased");
+    const lost = db.modify(1, { set: { owner: "ann" }, rollback: false });
+    await said(lost, "unique: record 0 has this key in by_owner; the record that was to be modified is erased");
     await said(db.atomically([calls.insert(account("cid")), calls.erase(9)]), "change 1: id: there is no record 9");
     await said(db.find("by_class", [true, 2n ** 62n]), "id: no record has the key [true, 4611686018427387904] in by_class");
     await said(db.undo(), "session: no session is open");

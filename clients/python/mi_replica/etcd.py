@@ -56,8 +56,9 @@ def no_answer(error: BaseException, host: str, port: int) -> str:
         return f"etcd: {where} gave no answer in time"
     if isinstance(error, (EOFError, StopAsyncIteration)):
         return f"etcd: {where} ended the connection"
-    number = error.errno if isinstance(error, OSError) else None
-    return f"etcd: {where}: {os.strerror(number) if number and number > 0 else error}"
+    if isinstance(error, OSError) and error.errno is not None:
+        return f"etcd: {where}: {os.strerror(error.errno) if error.errno > 0 else error.strerror}"
+    return f"etcd: {where}: {error}"
 
 
 def behind(prefix: bytes) -> bytes:

@@ -86,7 +86,7 @@ class WhoLeads(unittest.TestCase):
             (ConnectionRefusedError(111, "Connect call failed ('127.0.0.1', 1)"), "a:1 refused the connection: nothing listens there"),
             (OSError("Multiple exceptions: [Errno 111] Connect call failed, [Errno 113] Connect call failed"), "a:1: Multiple exceptions: .*"),
             (OSError(113, "Connect call failed ('10.0.0.1', 1)"), "a:1: No route to host"),
-            (socket.gaierror(-2, "Name or service not known"), "a:1: .*not known"),
+            (socket.gaierror(-2, "Name or service not known"), "a:1: Name or service not known"),
             (asyncio.TimeoutError(), "a:1 gave no answer in time"), (asyncio.IncompleteReadError(b"", 5), "a:1 ended the connection"),
             (ValueError("no JSON"), "a:1: no JSON"),
         ]:
