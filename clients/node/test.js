@@ -97,6 +97,23 @@ test("refusals have their word, and what stands in the way", () =>
     await assert.rejects(db.askLine(""), TypeError);
   }));
 
+test("a refusal's message says why", () =>
+  withDatabase(async (db) => {
+    await db.insert(account("ann"));
+    await db.insert(account("bob"));
+    const said = async (call, want) => assert.equal((await call.then(assert.fail, (it) => it)).message, want);
+    await said(db.insert(account("ann")), "unique: record 0 has this key in by_owner");
+    const lost = db.modify(1, { set: { owner: "ann" }, rollback: false });
+    await said(lost, "unique: record 0 has this key in by_owner; the record that was to be modified is erased");
+    await said(db.atomically([calls.insert(account("cid")), calls.erase(9)]), "change 1: id: there is no record 9");
+    await said(db.find("by_class", [true, 2n ** 62n]), "id: no record has the key [true, 4611686018427387904] in by_class");
+    await said(db.undo(), "session: no session is open");
+    await said(db.size({ table: "none" }), "table: no table has this name");
+    assert.equal(new Refused({ error: "later", ok: false }).message, "later");
+    const follows = new Refused({ error: "leader", leader: "127.0.0.1:8002", ok: false });
+    assert.deepEqual([follows.leader, follows.message], ["127.0.0.1:8002", "leader: this member follows 127.0.0.1:8002, which takes changes"]);
+  }));
+
 test("a session is squashed at its end, and undone where its block throws", () =>
   withDatabase(async (db) => {
     await db.session(async (number) => {

@@ -30,18 +30,61 @@ const PIECE = 4000;
 const CHANGES = new Set(["insert", "replace", "modify", "erase", "erase_key", "relocate"]);
 const SESSION_STEPS = new Set(["start", "undo", "squash", "commit", "undo_all", "push"]);
 
+/** What each word of a refusal says, where the reply and the command say no more. (The Python client has the same in `commands.py`.) */
+const MEANINGS = {
+  line: "the line is longer than 65,536 bytes",
+  json: "it is no JSON, or not UTF-8",
+  form: "it is no command, a member is missing, unknown or of another kind, or a number is out of its limits",
+  busy: "another connection holds sessions",
+  table: "no table has this name",
+  index: "the table has no index of this name",
+  kind: "the command isn't for this kind of index",
+  row: "the row, `set` or `add` doesn't fit the columns",
+  key: "the key doesn't fit the index: it is empty, too long, too short where it must be whole, or a value is of another type",
+  id: "the named record isn't there, or a look-up has no record",
+  range: "an addition leaves 64 bits",
+  full: "the table has its most rows",
+  spent: "the next id, the counter of changes or the revision is at its end",
+  depth: "1,024 sessions are open",
+  session: "no session is open",
+  memory: "memory was refused, and nothing has changed",
+  leader: "this member of a ledger follows another one, and takes no changes; the reply names the leader, where it is known",
+};
+
 /** The server refused a command: `word` is the reason; where it is `unique`, `id` and `index` say which record stands in the way, and of
- * a modify `lost` says whether the modified record was erased. Of `atomically`, `change` is the place of the refused change, from 0. */
+ * a modify `lost` says whether the modified record was erased; where it is `leader`, `leader` is the address of the member that leads, if that
+ * is known. `why` is what is known beyond the word, and the message has both. Of `atomically`, `change` is the place of the refused change,
+ * from 0. */
 class Refused extends Error {
-  constructor(reply, change) {
-    super(reply.error);
+  /** `asked` is the command with its members. */
+  constructor(reply, change, asked = {}) {
+    const why = whyRefused(reply, asked);
+    super(`${change === undefined ? "" : `change ${change}: `}${reply.error}${why ? `: ${why}` : ""}`);
     this.name = "Refused";
     this.word = reply.error;
+    this.why = why;
     this.id = reply.id;
     this.index = reply.index;
     this.lost = reply.lost;
+    this.leader = reply.leader || undefined;
     this.change = change;
   }
+}
+
+/** What can be said beyond the word of a refusal. */
+function whyRefused({ error, id, index, lost, leader }, asked) {
+  if (leader) return `this member follows ${leader}, which takes changes`;
+  if (index !== undefined) return `record ${id} has this key in ${index}${lost ? "; the record that was to be modified is erased" : ""}`;
+  return (error === "id" && missingRecord(asked)) || MEANINGS[error] || "";
+}
+
+/** Which record isn't there. */
+function missingRecord({ cmd, index, key, n, id, before, after }) {
+  if (cmd === "find") return `no record has the key [${[key].flat().map(encode).join(", ")}] in ${index}`;
+  if (cmd === "nth") return `no record stands at place ${n} of ${index}`;
+  if (cmd === "insert") return before ? `there is no record ${before.id}` : "";
+  if (cmd === "list") return `there is no record ${after}`;
+  return id === undefined ? "" : `there is no record ${id}${before === undefined || before === null ? "" : `, or none ${before}`}`;
 }
 
 /** The connection is at its end. What it held was undone, and commands that weren't answered may have been done or not. */
@@ -169,10 +212,10 @@ const calls = {
 
 function nothing() {}
 
-/** The reply of this text. Throws `Refused`. */
-function accepted(text) {
+/** The reply of this text to a command with its members. Throws `Refused`. */
+function accepted(text, cmd, members) {
   const reply = decode(text);
-  if (!reply.ok) throw new Refused(reply);
+  if (!reply.ok) throw new Refused(reply, undefined, { ...members, cmd });
   return reply;
 }
 
@@ -411,7 +454,7 @@ class Database {
 
   /** What a call answers. */
   async _send({ cmd, members, read }) {
-    return read(accepted(await this._exchange(lineOf(cmd, members), SESSION_STEPS.has(cmd))));
+    return read(accepted(await this._exchange(lineOf(cmd, members), SESSION_STEPS.has(cmd)), cmd, members));
   }
 
   /** The reply to one line, both without their newlines. The line has a command: an empty one would have no reply. */
@@ -576,8 +619,9 @@ class Database {
     }
     const refused = replies.findIndex((it) => !it.ok);
     if (refused < 0) return asked.map((it, n) => it.read(replies[n]));
-    const { lost, ...reply } = replies[refused];
-    throw new Refused(lost === undefined ? reply : { ...reply, lost: false }, refused); // (what a modify has lost is back)
+    const { lost, ...reply } = replies[refused], { cmd, members } = asked[refused];
+    // (what a modify has lost is back)
+    throw new Refused(lost === undefined ? reply : { ...reply, lost: false }, refused, { ...members, cmd });
   }
 
   /** The replies to changes that were done in one session, which has ended. Where they are more than a piece or a window, or other lines are on their
@@ -591,7 +635,7 @@ class Database {
     if (!started.ok) {
       if (replies.some((it, n) => CHANGES.has(asked[n].cmd) && (it.ok || it.lost)))
         throw this._brokenOff(`the session was refused as ${started.error}, and a change behind it was done outside of one`);
-      throw new Refused(started);
+      throw new Refused(started, undefined, { cmd: "start" });
     }
     if (first < lines.length && replies.every((it) => it.ok)) replies.push(...(await ask(lines.slice(first))));
     await this._askAtOnce(replies.every((it) => it.ok) ? "squash" : "undo");
@@ -607,7 +651,7 @@ class Database {
 
   /** The accepted reply to a command of a block that begins or ends: nothing else is asked meanwhile. */
   async _askAtOnce(cmd) {
-    return accepted(await this._channel.ask(lineOf(cmd)));
+    return accepted(await this._channel.ask(lineOf(cmd)), cmd);
   }
 
   // Look-ups

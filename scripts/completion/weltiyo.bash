@@ -14,11 +14,11 @@ _weltiyo_options() {
         export) echo "$all --journal --table --order --hold --force --format" ;;
         load) echo "$all --table --keep-going --resume --renumber --references --dump --force" ;;
         import) echo "$all --table --keep-going --resume --renumber --references --dump --force --format" ;;
-        top) echo "$all --journal --pid --every --count" ;;
-        metrics) echo "$all --journal --pid --every --count --file" ;;
+        top) echo "$all --journal --force --pid --every --count" ;;
+        metrics) echo "$all --journal --force --pid --every --count --file" ;;
         status) echo "$all --json" ;;
-        plot) echo "$all --journal --table --column --points --bins --svg --load" ;;
-        web) echo "$all --journal --port --write" ;;
+        plot) echo "$all --journal --force --table --column --points --bins --svg --load" ;;
+        web) echo "$all --journal --force --port --write" ;;
         '') echo "$all --run --tables --times --version prompt dump load export import top metrics status plot web" ;;
         *) echo "$all --run --tables --times" ;;
     esac

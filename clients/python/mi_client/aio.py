@@ -17,7 +17,7 @@ from mi_client.aio_walks import AwaitedWalks
 from mi_client.atomic import Together
 from mi_client.calls import Request
 from mi_client.database import AnySchema, schema_of
-from mi_client.dialect import Dialect, sent_by
+from mi_client.dialect import ASKS_SCHEMA, Dialect, sent_by
 from mi_client.errors import Ended
 from mi_client.old_forms import Openness
 from mi_client.pipeline import WINDOW
@@ -98,6 +98,10 @@ class AsyncDatabase(AwaitedWalks):
     def schema(self) -> Optional[Schema]:
         """The tables, where they are known."""
         return self._dialect.schema
+
+    async def learn_schema(self) -> Optional[Schema]:
+        """Asks the server for its schema, as `Database.learn_schema` does, and goes by it from here on. Raises Ended."""
+        return self._dialect.learn(await self._exchange(ASKS_SCHEMA))
 
     @property
     def process(self) -> Optional[int]:
@@ -214,8 +218,7 @@ class AsyncDatabase(AwaitedWalks):
     def _waits(self, block: Optional[object] = None) -> bool:
         if not self._blocks or self._closed_for:
             return False
-        innermost = self._blocks[-1]
-        return innermost is not block and innermost not in _within.get()
+        return self._blocks[-1] is not block and self._blocks[-1] not in _within.get()
 
     def _wake(self) -> None:
         """Lets those who wait for a block look again."""

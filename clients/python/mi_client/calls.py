@@ -50,8 +50,22 @@ class Request(Generic[T]):
         self.read = read
 
     def line(self) -> bytes:
-        """The line with its newline. A text with half of a surrogate pair is sent as it is; the server refuses it."""
-        return _encode(self.members).encode("utf-8", "surrogatepass") + b"\n"
+        """The line with its newline. A text with half of a surrogate pair is sent as it is; the server refuses it. Raises TypeError where
+        a value is nothing that JSON has, and names it."""
+        try:
+            text = _encode(self.members)
+        except TypeError as error:
+            raise TypeError(_unfit(self.members) or str(error)) from None
+        return text.encode("utf-8", "surrogatepass") + b"\n"
+
+
+def _unfit(value: Any, name: str = "") -> str:
+    """Which value in this one is nothing that JSON has, by the nearest name, as that of its column; empty where each is."""
+    if isinstance(value, dict):
+        return next(filter(None, (_unfit(it, str(key)) for key, it in value.items())), "")
+    if isinstance(value, (list, tuple)):
+        return next(filter(None, (_unfit(it, name) for it in value)), "")
+    return "" if value is None or isinstance(value, (str, int, float)) else f"{name} is of the type {type(value).__name__}, which can't be sent"
 
 
 def nothing(_: Dict[str, Any]) -> None:

@@ -14,7 +14,7 @@ from typing import Any, Iterable, Iterator, List, Optional, Sequence, Type, Type
 
 from mi_client.calls import Request
 from mi_client.channel import Channel
-from mi_client.dialect import Dialect
+from mi_client.dialect import ASKS_SCHEMA, Dialect
 from mi_client.errors import Ended, nobody_listens
 from mi_client.old_forms import Openness
 from mi_client.pipeline import WINDOW, LinesAhead, Pipeline
@@ -53,7 +53,7 @@ class Database(Walks):
         """A connection to a server that listens on this port of 127.0.0.1, or does so within `wait` seconds; else OSError is
         raised. The server answers once all its clients have come. A reply that takes longer than `timeout` seconds ends the
         connection. With the `schema` that the server was started with, refusals say which column is at fault, and keys can be
-        given by columns. Another `host` has members of a ledger alone: servers listen on 127.0.0.1."""
+        given by columns; `learn_schema` asks a service for it. Another `host` has members of a ledger alone: servers listen on 127.0.0.1."""
         read = Schema.of(schema)
         end = time.monotonic() + wait
         while True:
@@ -96,6 +96,11 @@ class Database(Walks):
     def process(self) -> Optional[int]:
         """The number of the server's process, where it is this connection's own."""
         return self._program.pid if self._program else None
+
+    def learn_schema(self) -> Optional[Schema]:
+        """Asks the server for its schema, which a service tells, and goes by it from here on. Answers the schema that is known then; None
+        where the server tells none that can be read, and none was known before. Raises Ended."""
+        return self._dialect.learn(self._exchange(ASKS_SCHEMA))
 
     def __enter__(self) -> Database:
         return self

@@ -11,7 +11,7 @@ from mi_client import explain
 from mi_client.calls import Alone, Request, Values
 from mi_client.commands import SESSION_STEPS
 from mi_client.errors import NeedsSchema, Refused
-from mi_client.schema import Schema
+from mi_client.schema import SCHEMA_LINE, Schema
 
 if TYPE_CHECKING:
     from typing_extensions import Concatenate, ParamSpec
@@ -27,11 +27,19 @@ REFUSAL = b'{"error"'
 """How a refusal begins, and no other reply."""
 
 
+ASKS_SCHEMA = f"{SCHEMA_LINE}\n".encode()
+
+
 class Dialect:
     def __init__(self, schema: Optional[Schema]) -> None:
         self.schema = schema
         self.session_steps = 0
         """How many of the lines may have begun or ended a session. (Those by which a block does so are made without this.)"""
+
+    def learn(self, reply: bytes) -> Optional[Schema]:
+        """The schema that is known from here on: that of this reply to ASKS_SCHEMA, or where it tells none the one that was known before."""
+        self.schema = Schema.told(reply) or self.schema
+        return self.schema
 
     def line(self, request: Request[Any]) -> bytes:
         """The line of a request. Keys that are given by columns become lists in its members. Raises NeedsSchema, ValueError

@@ -1,4 +1,4 @@
-"""Whether a schema is the server's, as far as look-ups tell: the server itself says nothing of its schema."""
+"""Whether a schema is the server's, as far as look-ups tell: `mi_server` says nothing of its schema."""
 from __future__ import annotations
 
 import json

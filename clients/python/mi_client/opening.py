@@ -47,16 +47,16 @@ def port(text: str) -> int:
 def add_server(parser: argparse.ArgumentParser) -> None:
     parser.add_argument("--connect", type=port, metavar="PORT", help="asks the server that listens on this port of 127.0.0.1")
     parser.add_argument("--program", metavar="FILE", help="the server to start, where --connect isn't given: else MI_SERVER's, else mi_server")
-    parser.add_argument("--schema", metavar="FILE", help="the schema that this server is started with, or was, with --connect")
+    parser.add_argument("--schema", metavar="FILE", help="the schema that this server is started with, or was, with --connect; a service tells its own")
     parser.add_argument("--timeout", type=seconds, default=5.0, metavar="SECONDS", help="how long a reply is waited for; 0 is without an end (%(default)g)")
 
 
 def add_source(parser: argparse.ArgumentParser, forced: str = "") -> None:
-    """The same for a tool that reads. Its words are parsed by `source_words`. `forced` is what --force does besides taking a program without rows;
-    it is listed for tools where it does more."""
+    """The same for a tool that reads. Its words are parsed by `source_words`. `forced` is what --force does besides taking a program without
+    rows."""
     add_server(parser)
     parser.add_argument("--journal", metavar="FILE", help="reads a service's journal: the server to start is asked its lines")
-    parser.add_argument("--force", action="store_true", help=f"takes a --program without rows, {forced}" if forced else argparse.SUPPRESS)
+    parser.add_argument("--force", action="store_true", help=f"takes a --program without rows{forced}")
 
 
 def source_words(
@@ -115,6 +115,16 @@ def fitting_one(db: Database) -> Database:
     return db
 
 
+def learnt(db: Database) -> Database:
+    """A connection that knows the schema of its server, where that tells it. Raises Ended."""
+    try:
+        db.learn_schema()
+    except BaseException:
+        db.close()
+        raise
+    return db
+
+
 def started(program: str, schema: Optional[str]) -> Database:
     """A server of its own. Raises OSError, and Ended, which says where a schema's file is at fault."""
     try:
@@ -146,11 +156,12 @@ def check_rows(db: Database, program: str) -> None:
                      "--journal FILE, or a program that brings rows of its own; --force takes none")
 
 
-def opened(options: argparse.Namespace) -> Database:
-    """The connection. Raises OSError and Ended; ValueError where the schema is none or not the server's, or the journal isn't one of this
-    schema."""
+def opened(options: argparse.Namespace, learns: bool = True) -> Database:
+    """The connection. Where no schema is named, a server that is connected to is asked for its own, if the tool `learns` it. Raises OSError and
+    Ended; ValueError where the schema is none or not the server's, or the journal isn't one of this schema."""
     if options.connect is not None:
-        return fitting_one(connected(options, options.schema))
+        db = connected(options, options.schema)
+        return learnt(db) if learns and options.schema is None else fitting_one(db)
     db, journal = started(program_of(options), options.schema), getattr(options, "journal", None)
     try:
         if journal is not None:

@@ -21,6 +21,7 @@ from mi_client.shorthand import FORMS, line_of
 HISTORY = os.path.expanduser("~/.mi_client_history")
 
 NEXT = " (Enter shows them)"
+NO_SCHEMA = "the schema isn't known: start the prompt with --schema FILE, or connect to a service, which tells it"
 WELCOME = "help lists the commands, help COMMAND shows one, Tab completes, Ctrl-D ends"
 
 KEYS = """    \\c         connects again
@@ -84,11 +85,15 @@ class Prompt:
 
     def __init__(
         self, db: Database, typed: bool, tables: bool, times: bool,
-        again: Optional[Callable[[], Database]] = None, why: Callable[[BaseException], str] = str,
+        again: Optional[Callable[[], Database]] = None, why: Callable[[BaseException], str] = str, learns: bool = False,
     ) -> None:
-        """`again` gives another connection; `why` says what of an error is shown."""
+        """`again` gives another connection; `why` says what of an error is shown; `learns` is whether a server is asked for its schema, where
+        that isn't known."""
         self.db, self.typed, self.tables, self.times = db, typed, tables, times
         self._again, self._why = again, why
+        self._learns = learns
+        self._asked: Optional[Database] = None
+        """Which connection was asked for the schema."""
         self._behind: Optional[Behind] = None
 
     def answer(self, text: str) -> Optional[str]:
@@ -100,6 +105,7 @@ class Prompt:
             return None
         if words[0] == "help":
             return help_of(words[1] if len(words) > 1 else "")
+        self.learn()
         if words[0].startswith("\\"):
             return self.setting(words)
         try:
@@ -111,6 +117,12 @@ class Prompt:
         reply = self.db.ask_line(line)
         took = time.perf_counter() - began
         return self.shown(line, reply) + self.page_note(line, reply) + (f"\n({took * 1000:.1f} ms)" if self.times else "")
+
+    def learn(self) -> None:
+        """Asks the server of each connection once for its schema. (At a terminal the prompt goes on where no reply comes.) Raises Ended."""
+        if self._learns and self.db.is_open and self._asked is not self.db:
+            self._asked = self.db
+            self.db.learn_schema()
 
     def line(self, text: str) -> str:
         """The line to send; keys by columns are put in the order of their index where the schema is known."""
@@ -182,7 +194,7 @@ class Prompt:
         if words[0] == "\\c":
             return self.connect_again()
         if words[0] == "\\d":
-            return show.tables(self.db.schema) if self.db.schema else "the schema isn't known: start the prompt with --schema FILE"
+            return show.tables(self.db.schema) if self.db.schema else NO_SCHEMA
         if words[0] == "\\i" and len(words) == 2:
             return self.run_file(words[1])
         return f"not sent: there is no {words[0]}; help lists what is there"
@@ -230,6 +242,7 @@ class Prompt:
         """What stands before the line that is typed: how many sessions are open."""
         if not self.db.is_open:
             return "weltiyo (not connected)> "
+        self.learn()
         depth = self.db.revision().depth
         return f"weltiyo [{depth}]> " if depth else "weltiyo> "
 
@@ -283,8 +296,9 @@ def main(words: Optional[List[str]] = None) -> int:
     typed = sys.stdin.isatty() and not options.run
     try:
         with contextlib.ExitStack() as ends:
-            again: Callable[[], Database] = lambda: opened(options)
-            prompt = Prompt(again(), typed, typed or options.tables, typed or options.times, again, lambda it: why(it, options))
+            again: Callable[[], Database] = lambda: opened(options, learns=False)
+            learns = options.connect is not None and options.schema is None
+            prompt = Prompt(again(), typed, typed or options.tables, typed or options.times, again, lambda it: why(it, options), learns)
             ends.callback(lambda: prompt.db.close())
             if typed:
                 with_readline(prompt)

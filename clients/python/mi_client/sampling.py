@@ -5,7 +5,7 @@ from __future__ import annotations
 from typing import Any, List, NamedTuple, Optional, Sequence, Tuple
 
 from mi_client.database import Database
-from mi_client.errors import NeedsSchema
+from mi_client.errors import NO_COLUMNS, NeedsSchema
 from mi_client.schema import Index, Table
 
 MOST_VALUES = 40
@@ -38,7 +38,7 @@ class Line(NamedTuple):
 def index_of(db: Database, table: Optional[str], name: str) -> Tuple[Table, Index]:
     """The table and its index. Raises NeedsSchema, and ValueError where there is none that can be drawn."""
     if db.schema is None:
-        raise NeedsSchema("the columns come from the schema: name it by --schema")
+        raise NeedsSchema(NO_COLUMNS)
     home = db.schema.table(table)
     found = home.index(name) if home else None
     if home is None or found is None:

@@ -2,12 +2,16 @@
 files that the server accepts; what is wrong with one the server says, and `weltiyo-lint` where."""
 from __future__ import annotations
 
+import json
 import os
 from dataclasses import dataclass
 from typing import Any, Dict, List, Mapping, Optional, Sequence, Tuple, Union
 
 from mi_client import toml_places
 from mi_client.calls import Alone, Values
+
+SCHEMA_LINE = '{"service":"schema"}'
+"""The line that a service answers with the text of its schema."""
 
 BUILT_IN = """
 table = "accounts"
@@ -108,6 +112,17 @@ class Schema:
     def of_text(cls, text: str) -> Schema:
         """The schema of a TOML text. Raises ValueError where it is none."""
         return cls._of_bytes(text.encode())
+
+    @classmethod
+    def told(cls, reply: bytes) -> Optional[Schema]:
+        """The schema that a reply to SCHEMA_LINE tells. None where it tells none, as where the server refuses the line, or none that can be
+        read."""
+        try:
+            found = json.loads(reply)
+            text = found.get("schema") if isinstance(found, dict) and found.get("ok") is True else None
+            return cls.of_text(text) if isinstance(text, str) else None
+        except (ValueError, RecursionError):
+            return None
 
     @classmethod
     def of(cls, given: Union[None, str, os.PathLike[str], Schema]) -> Optional[Schema]:

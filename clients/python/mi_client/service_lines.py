@@ -5,9 +5,10 @@ import json
 from typing import Any, Dict, Optional
 
 from mi_client.database import Database
+from mi_client.schema import SCHEMA_LINE
 
+__all__ = ["SCHEMA_LINE", "STATUS_LINE", "schema_text", "status"]
 STATUS_LINE = '{"service":"status"}'
-SCHEMA_LINE = '{"service":"schema"}'
 
 
 def status(db: Database) -> Optional[Dict[str, Any]]:

@@ -249,7 +249,7 @@ def main_status(words: Optional[List[str]] = None) -> int:
     if options.connect is None:
         parser.error("--connect is needed: the port of a service that runs")
     try:
-        with opened(options) as db:
+        with opened(options, learns=False) as db:
             told = status_told(db)
     except (Ended, OSError, Refused, ValueError) as error:
         print(f"weltiyo: {why(error, options)}", file=sys.stderr)

@@ -10,7 +10,7 @@ from typing import IO, Callable, Iterator, List, Optional, TypeVar
 
 from mi_client.calls import Bound, Row
 from mi_client.database import Database
-from mi_client.errors import Ended, NeedsSchema, Refused, TooManyEqual
+from mi_client.errors import NO_COLUMNS, Ended, NeedsSchema, Refused, TooManyEqual
 from mi_client.loading import Loaded, Reference, References, Stopped, behind_loaded, check_ids, load_rows
 from mi_client.opening import add_server, add_source, opened, source_words, status_of, why
 from mi_client.progress import Progress
@@ -103,7 +103,7 @@ def export(db: Database, options: argparse.Namespace) -> int:
 
 def home_of(db: Database, table: Optional[str]) -> Table:
     if db.schema is None:
-        raise NeedsSchema("the columns come from the schema: name it by --schema")
+        raise NeedsSchema(NO_COLUMNS)
     home = db.schema.table(table)
     if home is None:
         raise ValueError(f"there is no table {table}; tables are {', '.join(it.name for it in db.schema.tables)}")
@@ -135,7 +135,7 @@ def items_of(db: Database, file: IO[bytes], options: argparse.Namespace) -> Iter
 
 def writer_options(name: str, about: str) -> argparse.ArgumentParser:
     parser = argparse.ArgumentParser(prog=f"weltiyo {name}", description=about, epilog=KEEPS)
-    add_source(parser, "and empties a file that has rows")
+    add_source(parser, ", and empties a file that has rows")
     parser.add_argument("--table", help="this table alone")
     parser.add_argument("--order", metavar="INDEX", default="id", help="the rows in the order of this index (id)")
     parser.add_argument("--hold", action="store_true", help="holds a session meanwhile, so that no other connection changes anything")

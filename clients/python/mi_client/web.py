@@ -18,10 +18,10 @@ LONG_SECONDS = 2.0
 
 def source_of(options: argparse.Namespace) -> Tuple[Source, str]:
     """Where the page's lines go, and how it is called. Raises OSError and ValueError."""
-    schema = Schema.read(options.schema) if options.schema else Schema.built_in()
+    schema = Schema.read(options.schema) if options.schema else None
     if options.connect is None:
         # (a server of its own has its tables with its connection, so there is none to come back to)
-        return Source(lambda: opened(options), schema, None, False), options.journal or program_of(options)
+        return Source(lambda: opened(options), schema or Schema.built_in(), None, False), options.journal or program_of(options)
     connect: Callable[[], Database] = lambda: connected(options, schema)
     return Source(connect, schema, options.connect, True), f"port {options.connect}"
 

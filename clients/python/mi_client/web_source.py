@@ -46,9 +46,11 @@ class Told(NamedTuple):
 
 
 class Source:
-    def __init__(self, connect: Callable[[], Database], schema: Schema, port: Optional[int], returns: bool) -> None:
-        """`connect` gives a connection; it is asked again where one has ended, if the server `returns`."""
-        self.schema, self.port, self.returns = schema, port, returns
+    def __init__(self, connect: Callable[[], Database], schema: Optional[Schema], port: Optional[int], returns: bool) -> None:
+        """`connect` gives a connection; it is asked again where one has ended, if the server `returns`. Where no schema is given the server is
+        asked for it once; one that tells none has the built-in one."""
+        self.schema, self.port, self.returns = schema or Schema.built_in(), port, returns
+        self._learns = schema is None
         self._connect = connect
         self._lock = threading.Lock()
         self._db: Optional[Database] = None
@@ -113,6 +115,8 @@ class Source:
     def _come(self) -> None:
         db = self._connect()
         try:
+            if self._learns:
+                self.schema, self._learns = db.learn_schema() or self.schema, False
             fault = fitting.misfit(db, self.schema)
             if fault:
                 raise ValueError(fault)

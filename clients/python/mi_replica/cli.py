@@ -144,11 +144,13 @@ async def role_of(address: str, term: int) -> str:
 
 
 async def asked(log: Log, tries: int) -> Tuple[Snapshot, Dict[str, Dict[str, Any]]]:
-    """What etcd says, by one of its members."""
+    """What etcd says, by one of its members. Raises Unreachable, which says of each that was asked why it gave no answer."""
+    said: List[str] = []
     while True:
         try:
             return await log.read(0, 1), await log.members()
-        except Unreachable:
+        except Unreachable as error:
+            said += [str(error)] if str(error) not in said else []
             tries -= 1
             if not tries:
-                raise
+                raise Unreachable("; ".join(said)) from None

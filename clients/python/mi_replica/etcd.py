@@ -4,7 +4,9 @@ from __future__ import annotations
 
 import asyncio
 import base64
+import errno
 import json
+import os
 import re
 from typing import Any, AsyncIterator, Dict, List, Optional, Sequence, Tuple
 
@@ -15,6 +17,7 @@ LARGEST_HEAD = 1 << 16
 CONNECT_SECONDS = 1.0
 EXHAUSTED = 8
 """The code of an answer for want of room, which may be there later."""
+ERRNO = re.compile(r"\[Errno (\d+)\]")
 URL = re.compile(r"http://([A-Za-z0-9._-]+|\[[0-9A-Fa-f:.]+\]):([0-9]{1,5})")
 
 
@@ -44,6 +47,20 @@ def place(url: str) -> Tuple[str, int]:
     return found[1].strip("[]"), int(found[2])
 
 
+def no_answer(error: BaseException, host: str, port: int) -> str:
+    """What is said of a member of etcd that gave no answer, by what was raised."""
+    where = f"[{host}]:{port}" if ":" in host else f"{host}:{port}"
+    if {int(it) for it in ERRNO.findall(str(error))} == {errno.ECONNREFUSED}:  # (of each address that a host's name has)
+        return f"etcd: {where} refused the connection: nothing listens there"
+    if isinstance(error, asyncio.TimeoutError):
+        return f"etcd: {where} gave no answer in time"
+    if isinstance(error, (EOFError, StopAsyncIteration)):
+        return f"etcd: {where} ended the connection"
+    if isinstance(error, OSError) and error.errno is not None:
+        return f"etcd: {where}: {os.strerror(error.errno) if error.errno > 0 else error.strerror}"
+    return f"etcd: {where}: {error}"
+
+
 def behind(prefix: bytes) -> bytes:
     """The end of the range of all keys with this prefix."""
     return prefix[:-1] + bytes([prefix[-1] + 1])
@@ -61,11 +78,12 @@ class Etcd:
     async def post(self, path: str, body: Message) -> Message:
         """The answer. Raises Unreachable and Rejected."""
         async with self._lock:
+            member = self._places[self._at]
             try:
                 found = await asyncio.wait_for(self._exchange(path, body), self.timeout)
             except (OSError, EOFError, ValueError, asyncio.TimeoutError, asyncio.LimitOverrunError) as error:
                 self.turn()
-                raise Unreachable(f"etcd: {error or 'no answer in time'}") from error
+                raise Unreachable(no_answer(error, *member)) from error
             except BaseException:
                 self.close()
                 raise
@@ -109,11 +127,12 @@ class Etcd:
         """The results of a watch, as they come, until none has come for so many seconds. It has a connection of its own. Raises
         Unreachable."""
         streams: Optional[Streams] = None
+        member = self._places[self._at]
         try:
             streams = await self._opened()
             status, _ = await asyncio.wait_for(asked(streams, "/v3/watch", body), self.timeout)
             if status != 200:
-                raise Unreachable(f"etcd: a watch was answered {status}")
+                raise ValueError(f"a watch was answered {status}")
             rest, pieces = b"", chunks(streams[0])
             while True:
                 try:
@@ -125,7 +144,7 @@ class Etcd:
                     yield json.loads(line)["result"]
         except (OSError, EOFError, ValueError, KeyError, StopAsyncIteration, asyncio.TimeoutError, asyncio.LimitOverrunError) as error:
             self.turn()
-            raise Unreachable(f"etcd: {error or 'no answer in time'}") from error
+            raise Unreachable(no_answer(error, *member)) from error
         finally:
             if streams:
                 streams[1].transport.abort()

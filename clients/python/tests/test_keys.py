@@ -2,6 +2,7 @@
 import asyncio
 import inspect
 import unittest
+from decimal import Decimal
 from typing import Any, Callable, List, Tuple
 from unittest import mock
 
@@ -53,6 +54,7 @@ WALKS: List[Tuple[Call, Any]] = [
 
 PARTS = "the key of {} has the parts a, b, so a value alone is none: give a list of values"
 NO_KEY = 'a key is a value or a list of values, as "ann" or \\["ann", 5\\]; {} is neither'
+NO_VALUE = "{} is of the type {}, which can't be sent"
 NO_BOUND = 'a bound is a mapping, as {{"ge": \\[10\\]}} or {{"le": \\[10\\]}}; {} is none'
 
 WRONG_COMMANDS: List[Tuple[Call, str]] = [
@@ -72,6 +74,12 @@ WRONG_COMMANDS: List[Tuple[Call, str]] = [
     (lambda db: db.range("by_n", lower=[5]), NO_BOUND.format("list")),
     (lambda db: db.range("by_n", upper=5), NO_BOUND.format("int")),
     (lambda db: db.range("by_n", upper={"le": b"5"}), NO_KEY.format("bytes")),
+    (lambda db: db.find("by_ab", ["xy", b"z"]), NO_VALUE.format("key", "bytes")),
+    (lambda db: db.insert({**ROWS[0], "b": b"y"}), NO_VALUE.format("b", "bytes")),
+    (lambda db: db.replace(0, {**ROWS[0], "a": bytearray(b"x")}), NO_VALUE.format("a", "bytearray")),
+    (lambda db: db.modify(0, set={"a": "x", "b": object()}), NO_VALUE.format("b", "object")),
+    (lambda db: db.modify(0, add={"n": Decimal(5)}), NO_VALUE.format("n", "Decimal")),
+    (lambda db: db.insert(b"x"), NO_VALUE.format("row", "bytes")),
 ]
 WRONG_WALKS: List[Tuple[Call, str]] = [
     (lambda db: db.equal("rank_ab", "xy"), PARTS.format("rank_ab")),

@@ -4,6 +4,7 @@ import contextlib
 import io
 import json
 import re
+import socket
 import unittest
 from typing import List, Tuple
 from unittest import mock
@@ -11,6 +12,7 @@ from unittest import mock
 import kit  # noqa: F401 (which finds the members)
 from fake_etcd import FakeEtcd, etcds
 from mi_replica import cli
+from mi_replica.etcd import no_answer
 from mi_replica.log import Log
 
 NOWHERE = "http://127.0.0.1:1"
@@ -70,6 +72,26 @@ class WhoLeads(unittest.TestCase):
             await asyncio.sleep(0.02)
 
         asyncio.run(played())
+
+    def test_an_etcd_that_is_dead(self) -> None:
+        """Each address that was asked is told, in words."""
+        said = io.StringIO()
+        with contextlib.redirect_stderr(said):
+            self.assertEqual(cli.main(["--etcd", f"{NOWHERE},http://localhost:1,{NOWHERE}", "--name", "led", "--status"]), 4)
+        refused = [f"etcd: {it}:1 refused the connection: nothing listens there" for it in ("127.0.0.1", "localhost")]
+        self.assertEqual(said.getvalue(), f"mi_replica: {'; '.join(refused)}\n")
+
+    def test_why_etcd_gives_no_answer(self) -> None:
+        for error, said in [
+            (ConnectionRefusedError(111, "Connect call failed ('127.0.0.1', 1)"), "a:1 refused the connection: nothing listens there"),
+            (OSError("Multiple exceptions: [Errno 111] Connect call failed, [Errno 113] Connect call failed"), "a:1: Multiple exceptions: .*"),
+            (OSError(113, "Connect call failed ('10.0.0.1', 1)"), "a:1: No route to host"),
+            (socket.gaierror(-2, "Name or service not known"), "a:1: Name or service not known"),
+            (asyncio.TimeoutError(), "a:1 gave no answer in time"), (asyncio.IncompleteReadError(b"", 5), "a:1 ended the connection"),
+            (ValueError("no JSON"), "a:1: no JSON"),
+        ]:
+            self.assertRegex(no_answer(error, "a", 1), f"^etcd: {said}$")
+        self.assertEqual(no_answer(asyncio.TimeoutError(), "::1", 5), "etcd: [::1]:5 gave no answer in time")
 
     def test_nobody_reads_on(self) -> None:
         said = io.StringIO()

@@ -64,6 +64,11 @@ class Sources(unittest.TestCase):
         ran = kit.ran("dump", "--program", own)
         self.assertEqual((ran.returncode, ran.stderr), (0, "1 rows written\n"))
 
+    def test_what_force_does_stands_in_the_help(self) -> None:
+        for tool, more in [("top", ""), ("metrics", ""), ("plot", ""), ("web", ""), ("dump", ", and empties a file that has rows")]:
+            said = " ".join(kit.ran(tool, "--help").stdout.split())
+            self.assertIn(f"--force takes a --program without rows{more} --", said, tool)
+
     def test_no_rows_over_some(self) -> None:
         path = self.journal('{"cmd":"start"}')
         for words in (["dump", "--journal", path, self.backup], ["export", "--journal", path, self.backup],
