@@ -7,8 +7,6 @@ pub mod LoopLemmas
 pub mod OtherNodeLemmas
 pub mod InsertLemmas
 pub mod RoomLemmas
-pub mod KeptPlaceLemmas
-pub mod RekeyStepLemmas
 pub mod RekeyLemmas
 pub mod OpeningLemmas
 pub mod LookUpLemmas

@@ -1,6 +1,5 @@
 -- A pass in a loop: what those structures owe that are still to come, and what the whole pass is once they have paid.
 --     begun, stepped, finished      before the first step, after each, and after the last
---     slot_there      the slot of a structure that stands is one of the pool's
 --     left_alone      where the loop stops and those to come stay as they are
 use Rattle.std.proofs.Common.{◌≡◌, ℕ, ◌+◌, ◌<◌, ◌≤◌, List, [], ◌∷◌, ◌++◌, length, take, drop, set, get_or, refl, sym, ap, ◌∙◌, subst, arith}
 use Rattle.std.proofs.lemmas.List.{length-set, drop_more, append_assoc, append-nil, take_more_set, drop-set-lt, take_all, drop_all, take-append-drop}
@@ -31,7 +30,7 @@ first_ready P s x xs m q = of_first q.rss q.stand q.can
     of_first [] h c = absurd h
     of_first (rs ∷ rss) h c = record { rs = rs; stands = h.1; can = c.0 }
 
-pub slot_there : (x : Structure) (m : Pooled Stored) (rs : List Ref) → Stands x m rs → slot_in x < m.slots
+slot_there : (x : Structure) (m : Pooled Stored) (rs : List Ref) → Stands x m rs → slot_in x < m.slots
 slot_there (Sorted t) m rs h = h.has_slot
 slot_there (Hashed c) m rs h = let b = h.0.buckets in b.slot
 slot_there (Sequenced l) m rs h = h.slot_fits

@@ -5,7 +5,6 @@ pub mod Pass
 pub mod PassSteps
 pub mod Passes
 pub mod Rekeying
-pub mod Staying
 pub mod Inserting
 pub mod Looks
 pub mod Opened

@@ -37,24 +37,17 @@ mark_at marks s = slice_index_or marks s false
 abbrev pub given_at : List (Option OldPlace) → ℕ → Option OldPlace
 given_at places s = slice_index_or places s None
 
--- a mark, and a place, but for where the node stays
-abbrev pub unless : Bool → Bool → Bool
-unless stays marked = cond stays false marked
-
-abbrev pub but : Bool → Option OldPlace → Option OldPlace
-but stays place = cond stays None place
-
 -- whether a pass changes the index of a slot
 abbrev pub is_moved : Moves → ℕ → Bool
 is_moved All s = true
-is_moved (Marked marks stays) s = unless (mark_at stays.now s) (mark_at marks.now s)
-is_moved (Placed places stays) s = is_given (but (mark_at stays.now s) (given_at places.now s))
+is_moved (Marked marks) s = mark_at marks.now s
+is_moved (Placed places) s = is_given (given_at places.now s)
 
 -- where a node comes back to in the index of a slot: the place that is given, or else what its own link there remembers
 abbrev pub place_for : Moves → ℕ → Link → Option OldPlace
 place_for All s l = Some (own_place l)
-place_for (Marked marks stays) s l = cond (unless (mark_at stays.now s) (mark_at marks.now s)) (Some (own_place l)) None
-place_for (Placed places stays) s l = but (mark_at stays.now s) (given_at places.now s)
+place_for (Marked marks) s l = cond (mark_at marks.now s) (Some (own_place l)) None
+place_for (Placed places) s l = given_at places.now s
 
 -- the node that is given, if it is for this slot
 abbrev pub before_at : ℕ → Option (ℕ × Ref) → Option Ref

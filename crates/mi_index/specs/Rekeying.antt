@@ -4,11 +4,11 @@
 --     returning_to, returned_to      back to the places that it had
 use Rattle.std.specs.Prelude.{◌≡◌, ℕ, ◌<◌, ◌^◌, ◌==◌, Bool, true, false, cond, List, ◌∷◌, ◌++◌, length, Option, Some, None}
 use Rattle.std.specs.List.{filter}
+use Rattle.std.specs.declared.cmp.Ordering.{Ordering}
 use Rattle.std.specs.declared.cmp.Ordering.TheVariants.{Equal}
 use Rattle.mi_node.specs.Pool.{Pooled, ref_of, value_of, link_of}
 use Rattle.mi_node.specs.Refs.{Ref, first_of, last_of}
-use Rattle.mi_tree.specs.Sorted.{NoneAre}
-pub use Rattle.mi_tree.specs.Revalued.{side_of_value}
+use Rattle.mi_tree.specs.Sorted.{NoneAre, compared, by_stamp, item_of}
 use Rattle.mi_chain.specs.Keying.{same_values, stamp_at}
 use Rattle.mi_chain.specs.declared.chains.Chains.{Chains}
 use Rattle.mi_order.specs.Orders.{stored_order, has_one_key}
@@ -21,6 +21,10 @@ use Rattle.mi_order.specs.declared.orders.ByHash.{ByHash}
 use Rattle.mi_node.specs.declared.old_place.OldPlace.{OldPlace}
 use Rattle.mi_index.specs.declared.structure.Structure.{Structure}
 use Rattle.mi_index.specs.declared.structure.Structure.TheVariants.{Sorted, Hashed, Sequenced}
+
+-- on which side of a node one would stand that had this value and this stamp
+abbrev pub side_of_value : (Stored → Stored → Ordering) → Pooled Stored → ℕ → Stored → ℕ → Ref → Ordering
+side_of_value order m s v stamp q = compared (by_stamp order) (Some (v, stamp)) (item_of m s q.name)
 
 -- whether a node of the chains has the key of this value
 abbrev pub has_key_of : Chains ByHash → Pooled Stored → Stored → Ref → Bool

@@ -11,7 +11,7 @@ ghost use Rattle.mi_index.specs.Inserting as insert;
 ghost use Rattle.mi_index.specs.Opened as opened;
 ghost use Rattle.mi_index.specs.declared.structure.Structure.{Structure as One};
 
-use crate::moves::{Moves, before_in, place_but};
+use crate::moves::{Moves, before_in, place_at};
 use crate::structure::Structure;
 use mi_catalog::{Column, Index};
 use mi_node::{NodeRef, OldPlace, Pool};
@@ -64,7 +64,7 @@ fn place_of(p: &Pool<Stored>, slot: usize, node: NodeRef, moves: &Moves<'_>) -> 
     ensures { result ≡ place_for moves.now slot (link_of p.now node.name slot) }
 {
     match moves {
-        Moves::Placed(all, stays) => place_but(all, stays, slot),
+        Moves::Placed(all) => place_at(all, slot),
         _ => moves.place_in(slot, p.link(node, slot)),
     }
 }

@@ -8,7 +8,6 @@ pub mod laws;
 mod look;
 mod moves;
 mod nodes;
-mod stay;
 mod structure;
 mod structures;
 mod walk;

@@ -1,30 +1,21 @@
-//! Which indexes a change moves a node in, and the stamps and the places that it gets there. Plain data.
+//! Which indexes a change moves a node in, and the places that it comes back to. Plain data.
 ghost use Rattle.std.specs.Prelude.{◌≡◌};
 ghost use Rattle.mi_index.specs.Places as places;
-ghost use Rattle.mi_index.specs.Staying as stay;
 
 use mi_node::{Link, MaybePlace, NodeRef, OldPlace};
 
 /// The indexes in which a node moves, by their numbers: all of them; those that are marked; or those that have a place
-/// to which the node comes back. Second marks name those in which it stays for all that. The neighbours that a place names
-/// are in chains the nearest nodes of its key, in a list the nearest nodes; in a tree they say nothing.
+/// to which the node comes back. The neighbours that a place names are in chains the nearest nodes of its key, in a list
+/// the nearest nodes; in a tree they say nothing.
 #[derive(Clone, Copy)]
 pub enum Moves<'a> {
     All,
-    Marked(&'a [bool], &'a [bool]),
-    Placed(&'a [MaybePlace], &'a [bool]),
-}
-
-/// The stamp by which a node is to stand in each index in which its key changes: this one, where they are marked; or that
-/// of the place that the index has for it.
-#[derive(Clone, Copy)]
-pub(crate) enum Stamps<'a> {
-    Marked(&'a [bool], u64),
+    Marked(&'a [bool]),
     Placed(&'a [MaybePlace]),
 }
 
 /// Whether the mark of a number is set. One past the last is not.
-pub(crate) fn is_marked(marks: &[bool], slot: usize) -> bool
+fn is_marked(marks: &[bool], slot: usize) -> bool
     ensures { result ≡ places.mark_at marks.now slot }
 {
     match marks.get(slot) {
@@ -34,23 +25,12 @@ pub(crate) fn is_marked(marks: &[bool], slot: usize) -> bool
 }
 
 /// The place of a number, if there is one.
-fn place_at(all: &[MaybePlace], slot: usize) -> Option<OldPlace>
+pub(crate) fn place_at(all: &[MaybePlace], slot: usize) -> Option<OldPlace>
     ensures { result ≡ places.given_at all.now slot }
 {
     match all.get(slot) {
         Some(place) => place.place(),
         None => None,
-    }
-}
-
-/// The place of a number, if there is one and the number isn't marked.
-pub(crate) fn place_but(all: &[MaybePlace], stays: &[bool], slot: usize) -> Option<OldPlace>
-    ensures { result ≡ places.but (places.mark_at stays.now slot) (places.given_at all.now slot) }
-{
-    if is_marked(stays, slot) {
-        None
-    } else {
-        place_at(all, slot)
     }
 }
 
@@ -61,8 +41,8 @@ impl Moves<'_> {
     {
         match self {
             Moves::All => true,
-            Moves::Marked(marks, stays) => !is_marked(stays, slot) && is_marked(marks, slot),
-            Moves::Placed(all, stays) => place_but(all, stays, slot).is_some(),
+            Moves::Marked(marks) => is_marked(marks, slot),
+            Moves::Placed(all) => place_at(all, slot).is_some(),
         }
     }
 
@@ -73,35 +53,14 @@ impl Moves<'_> {
     {
         match self {
             Moves::All => Some(OldPlace::of(link)),
-            Moves::Marked(marks, stays) => {
-                if !is_marked(stays, slot) && is_marked(marks, slot) {
+            Moves::Marked(marks) => {
+                if is_marked(marks, slot) {
                     Some(OldPlace::of(link))
                 } else {
                     None
                 }
             }
-            Moves::Placed(all, stays) => place_but(all, stays, slot),
-        }
-    }
-}
-
-impl Stamps<'_> {
-    /// The stamp in the index of this number, if the node's key changes there.
-    pub(crate) fn stamp_in(self, slot: usize) -> Option<u64>
-        ensures { result ≡ stay.stamp_for self.entry slot }
-    {
-        match self {
-            Stamps::Marked(marks, stamp) => {
-                if is_marked(marks, slot) {
-                    Some(stamp)
-                } else {
-                    None
-                }
-            }
-            Stamps::Placed(all) => match place_at(all, slot) {
-                Some(place) => Some(place.stamp),
-                None => None,
-            },
+            Moves::Placed(all) => place_at(all, slot),
         }
     }
 }

@@ -12,7 +12,7 @@ ghost use Rattle.mi_index.specs.Opened as opened;
 ghost use Rattle.mi_index.specs.declared.moves.Moves.TheVariants.{All};
 
 use crate::all::Joining;
-use crate::moves::{Moves, Stamps};
+use crate::moves::Moves;
 use crate::structures::Structures;
 use mi_catalog::Schema;
 use mi_node::{MaybePlace, NodeRef, Pool};
@@ -102,8 +102,7 @@ impl Nodes {
     }
 
     /// Gives a node another value, and the old one back. In each index that is marked the node moves, by its new key and
-    /// this stamp, and last in a list; in the others the key is the same. In a tree in which it keeps its place, nothing but
-    /// its tag is set. Takes no memory.
+    /// this stamp, and last in a list; in the others the key is the same. Takes no memory.
     pub fn rekey(&mut self, node: NodeRef, stored: Stored, marks: &[bool], stamp: u64) -> Stored
         requires held { IsHeld self.old.pool node }
         requires places { AreReady (rekey.rekeying marks.now node stored stamp) 0 self.old.structures.items self.old.pool }
@@ -114,25 +113,20 @@ impl Nodes {
             self.old.structures.items self.new.structures.items self.old.pool self.new.pool rss }
         ensures like { AllLike self.old.structures.items self.new.structures.items }
     {
-        let to = Stamps::Marked(marks, stamp);
-        let kept = self.structures.staying(&self.pool, node, &stored, &to);
-        let stays = kept.as_slice();
         let joining = Joining {
             node,
-            moves: Moves::Marked(marks, stays),
+            moves: Moves::Marked(marks),
             stamp,
             before: None,
         };
         self.structures.unlink(&mut self.pool, node, &joining.moves);
         let old = self.pool.swap_value(node, stored);
-        self.structures.retag(&mut self.pool, node, &to, stays);
         self.structures.link(&mut self.pool, &joining);
         old
     }
 
     /// Gives a node an old value again, and the other one back. In each index that has a place for it the node moves
-    /// there, which is never a list; in the others the key is the same. In a tree in which it keeps its place, nothing but
-    /// its tag is set. Takes no memory.
+    /// there, which is never a list; in the others the key is the same. Takes no memory.
     pub fn rekey_back(&mut self, node: NodeRef, stored: Stored, places: &[MaybePlace]) -> Stored
         requires held { IsHeld self.old.pool node }
         requires places { AreReady (rekey.returning_to places.now node stored) 0 self.old.structures.items self.old.pool }
@@ -143,13 +137,9 @@ impl Nodes {
             self.old.structures.items self.new.structures.items self.old.pool self.new.pool rss }
         ensures like { AllLike self.old.structures.items self.new.structures.items }
     {
-        let to = Stamps::Placed(places);
-        let kept = self.structures.staying(&self.pool, node, &stored, &to);
-        let stays = kept.as_slice();
-        let moves = Moves::Placed(places, stays);
+        let moves = Moves::Placed(places);
         self.structures.unlink(&mut self.pool, node, &moves);
         let old = self.pool.swap_value(node, stored);
-        self.structures.retag(&mut self.pool, node, &to, stays);
         self.structures.relink(&mut self.pool, node, &moves);
         old
     }

@@ -1,20 +1,17 @@
 //! The structures of all indexes of one table, and for how many nodes each of them has room: so where a node comes in and
 //! nothing has to grow, one comparison says so. It knows no values of nodes.
 ghost use Rattle.std.specs.Prelude.{◌≡◌, ◌<◌, ◌≤◌, ◌^◌, Some, length, IfOk, slice_get};
-ghost use Rattle.mi_node.specs.Pool.{IsHeld, value_of};
+ghost use Rattle.mi_node.specs.Pool.{IsHeld};
 ghost use Rattle.mi_node.specs.Refs.{Ref};
 ghost use Rattle.mi_index.specs.Pass.{AreReady, IsPass, AllLike, AllRoomy};
 ghost use Rattle.mi_index.specs.Passes as pass;
-ghost use Rattle.mi_index.specs.Staying as stay;
 ghost use Rattle.mi_index.specs.Inserting as insert;
 ghost use Rattle.mi_index.specs.Opened as opened;
-ghost use Rattle.mi_order.specs.declared.stored.Stored.{Stored as Value};
 
 use crate::all::{
     Joining, add_structures, link_all, make_room_all, relink_all, relocate_all, unlink_all,
 };
-use crate::moves::{Moves, Stamps};
-use crate::stay::{Stays, retag_all, staying};
+use crate::moves::Moves;
 use crate::structure::Structure;
 use mi_catalog::{Column, Index};
 use mi_node::{NodeRef, Pool};
@@ -103,30 +100,6 @@ impl Structures {
         ensures like { AllLike self.old.items self.new.items }
     {
         relink_all(self.items.as_mut_slice(), p, node, moves);
-    }
-
-    /// Marks the structures in which a node stays though its key changes there, of the first sixteen.
-    pub(crate) fn staying(
-        &self,
-        p: &Pool<Stored>,
-        node: NodeRef,
-        stored: &Stored,
-        to: &Stamps<'_>,
-    ) -> Stays
-        requires { AreReady (stay.being_in to.now node) 0 self.now.items p.now }
-        ensures { stay.AllTell result.items to.now self.now.items p.now node stored.now }
-    {
-        staying(self.items.as_slice(), p, node, stored, to)
-    }
-
-    /// Sets the tag of a node in each structure in which it stays: that of its value, and the stamp by which it is to stand there.
-    pub(crate) fn retag(&self, p: &mut Pool<Stored>, node: NodeRef, to: &Stamps<'_>, stays: &[bool])
-        requires held { IsHeld p.old node }
-        requires slots { stay.AllAt self.now.items (stay.HasSlot p.old) }
-        ensures own { stay.SetsOwn node p.old p.new }
-        ensures set { (v : Value) → value_of p.old node.name ≡ Some v → stay.AllSet stays.now to.now self.now.items p.old p.new node v }
-    {
-        retag_all(self.items.as_slice(), p, node, to, stays);
     }
 
     /// Moves a node in the list of the index of this number directly before another one, or to the end. Takes no memory.

@@ -62,7 +62,7 @@ fn number_of<'a>(front: &[u8], text: &'a [u8]) -> Option<NumberIn<'a>>
 }
 
 /// The line of a look-up by id.
-#[inline(always)]
+#[inline(never)]
 fn get(line: &[u8]) -> Option<Request<'_>>
     ensures { IsRead (codes "get") ((codes "table", perhaps_name) ∷ (codes "id", a_whole) ∷ []) line.now result }
 {
@@ -74,7 +74,7 @@ fn get(line: &[u8]) -> Option<Request<'_>>
 }
 
 /// The line of an erase.
-#[inline(always)]
+#[inline(never)]
 fn erase(line: &[u8]) -> Option<Request<'_>>
     ensures { IsRead (codes "erase") ((codes "table", perhaps_name) ∷ (codes "id", a_whole) ∷ []) line.now result }
 {
@@ -86,7 +86,7 @@ fn erase(line: &[u8]) -> Option<Request<'_>>
 }
 
 /// The line that asks a record's rank.
-#[inline(always)]
+#[inline(never)]
 fn rank(line: &[u8]) -> Option<Request<'_>>
     ensures { IsRead (codes "rank") ((codes "table", perhaps_name) ∷ (codes "index", a_name) ∷ (codes "id", a_whole) ∷ []) line.now result }
 {
@@ -100,7 +100,7 @@ fn rank(line: &[u8]) -> Option<Request<'_>>
 }
 
 /// The line that asks the record of a rank.
-#[inline(always)]
+#[inline(never)]
 fn nth(line: &[u8]) -> Option<Request<'_>>
     ensures { IsRead (codes "nth") ((codes "table", perhaps_name) ∷ (codes "index", a_name) ∷ (codes "n", a_whole) ∷ []) line.now result }
 {
@@ -114,7 +114,7 @@ fn nth(line: &[u8]) -> Option<Request<'_>>
 }
 
 /// The line that asks a table's size.
-#[inline(always)]
+#[inline(never)]
 fn size(line: &[u8]) -> Option<Request<'_>>
     ensures { IsRead (codes "size") ((codes "table", perhaps_name) ∷ []) line.now result }
 {
@@ -128,7 +128,7 @@ fn size(line: &[u8]) -> Option<Request<'_>>
 }
 
 /// The line of a commit.
-#[inline(always)]
+#[inline(never)]
 fn commit(line: &[u8]) -> Option<Request<'_>>
     ensures { IsRead (codes "commit") ((codes "revision", a_whole) ∷ []) line.now result }
 {
@@ -142,7 +142,7 @@ fn commit(line: &[u8]) -> Option<Request<'_>>
 }
 
 /// The line of a relocation, before a record or to the end.
-#[inline(always)]
+#[inline(never)]
 fn relocate(line: &[u8]) -> Option<Request<'_>>
     ensures { IsRead (codes "relocate")
         ((codes "table", perhaps_name) ∷ (codes "index", a_name) ∷ (codes "id", a_whole) ∷ (codes "before", perhaps_whole) ∷ []) line.now result }

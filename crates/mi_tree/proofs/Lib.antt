@@ -7,7 +7,6 @@ pub mod LookUpLemmas
 pub mod ApartLemmas
 pub mod InsertLemmas
 pub mod RankLemmas
-pub mod RevaluedLemmas
 pub mod BinaryTreeLemmas
 pub mod RemovalWayLemmas
 pub mod SortedLemmas

@@ -3,7 +3,6 @@ pub mod Height
 pub mod Joining
 pub mod Order
 pub mod Probed
-pub mod Revalued
 pub mod BinaryTree
 pub mod Sorted
 pub mod Standing

@@ -1,7 +1,7 @@
 //! Comparisons by tags, and by values where tags don't decide.
 //! They read values through a counted pool, and no links: a caller has read those. It has also asked, once for its whole way
 //! down, whether the tag that it goes by decides.
-ghost use Rattle.std.specs.Prelude.{◌≡◌, ◌+◌, Some};
+ghost use Rattle.std.specs.Prelude.{◌≡◌, ◌+◌};
 ghost use Rattle.mi_node.specs.Pool.{IsHeld, value_of};
 ghost use Rattle.mi_tree.specs.Sorted.{IsTagOf, by_stamp, compared, stamped};
 ghost use Rattle.mi_tree.specs.Probed.{place_at, is_decided};
@@ -42,41 +42,12 @@ pub(crate) fn compare_nodes<T, O: NodeOrder<T>>(
     compare_values(
         p,
         order,
-        p.value(left),
+        left,
         left_tag.stamp,
         right,
         right_tag.stamp,
         steps,
     )
-}
-
-/// Where a value of that tag would stand beside the node, in the same way.
-#[inline(always)]
-pub(crate) fn compare_value<T, O: NodeOrder<T>>(
-    p: &Counted<T>,
-    order: &O,
-    value: &T,
-    tag: Tag,
-    decided: bool,
-    right: NodeRef,
-    right_tag: Tag,
-    steps: &mut Steps,
-) -> Ordering
-    requires tag { tag.key ≡ O.tag_of order.now value.now }
-    requires decided { decided ≡ O.is_exact order.now tag.key }
-    requires right { IsHeld p.now.pool right × IsTagOf (O.tag_of order.now) (value_of p.now.pool right.name) right_tag.key }
-    ensures result { result ≡ compared (by_stamp (O.order order.now)) (Some (value.now, tag.stamp)) (stamped (value_of p.now.pool right.name) right_tag.stamp) }
-    ensures steps { steps.new.count ≡ steps.old.count + 1 }
-{
-    if tag.key != right_tag.key {
-        steps.tick();
-        return tag.key.cmp(&right_tag.key);
-    }
-    if decided {
-        steps.tick();
-        return tag.stamp.cmp(&right_tag.stamp);
-    }
-    compare_values(p, order, value, tag.stamp, right, right_tag.stamp, steps)
 }
 
 /// The same by the values, and by these stamps. On a way down most nodes differ by their tags, so this
@@ -85,18 +56,20 @@ pub(crate) fn compare_value<T, O: NodeOrder<T>>(
 fn compare_values<T, O: NodeOrder<T>>(
     p: &Counted<T>,
     order: &O,
-    left: &T,
+    left: NodeRef,
     left_stamp: u64,
     right: NodeRef,
     right_stamp: u64,
     steps: &mut Steps,
 ) -> Ordering
+    requires left { IsHeld p.now.pool left }
     requires right { IsHeld p.now.pool right }
-    ensures result { result ≡ compared (by_stamp (O.order order.now)) (Some (left.now, left_stamp)) (stamped (value_of p.now.pool right.name) right_stamp) }
+    ensures result { result ≡ compared (by_stamp (O.order order.now))
+        (stamped (value_of p.now.pool left.name) left_stamp) (stamped (value_of p.now.pool right.name) right_stamp) }
     ensures steps { steps.new.count ≡ steps.old.count + 1 }
 {
     order
-        .compare(left, p.value(right), steps)
+        .compare(p.value(left), p.value(right), steps)
         .then(left_stamp.cmp(&right_stamp))
 }
 

@@ -1,7 +1,6 @@
 //! Laws of the definitions, each the contract of a function that does nothing.
 ghost use Rattle.mi_tree.specs.Frame.{StandsWhereAlike, StandsWhereSwapped, ListsNodes, StandsEmpty};
 ghost use Rattle.mi_tree.specs.Height.{HasEnough};
-ghost use Rattle.mi_tree.specs.Revalued.{StandsWhereRevalued};
 
 use crate::order::NodeOrder;
 
@@ -19,11 +18,6 @@ pub fn trees_stand_where_alike<T, O: NodeOrder<T>>()
 /// A tree stands after a node's value was exchanged for one of an equal key.
 pub fn trees_stand_where_swapped<T, O: NodeOrder<T>>()
     ensures { (o : O) → StandsWhereSwapped T O (O.order o) (O.tag_of o) }
-{}
-
-/// A tree stands after a node got another value and the tag of it, where it fits between the nodes beside it: in the same order.
-pub fn trees_stand_where_revalued<T, O: NodeOrder<T>>()
-    ensures { (o : O) → StandsWhereRevalued T O (O.order o) (O.tag_of o) }
 {}
 
 /// A tree is the one list that its links say.

@@ -9,7 +9,6 @@ pub mod laws;
 mod look;
 mod order;
 mod parts;
-mod stay;
 mod tree;
 mod turns;
 mod walk;

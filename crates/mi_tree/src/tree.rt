@@ -1,13 +1,12 @@
 //! The tree: its slot, its order and its root.
 //! It sets links of its own slot alone, owns no node, and never touches a value.
-ghost use Rattle.std.specs.Prelude.{◌≡◌, ℕ, ◌+◌, ◌*◌, ◌^◌, ◌<◌, ◌≤◌, ◌∷◌, ◌++◌, ◌==◌, List, length, take, drop, None, Some, true, false, ◌↔◌};
+ghost use Rattle.std.specs.Prelude.{◌≡◌, ℕ, ◌+◌, ◌*◌, ◌^◌, ◌<◌, ◌≤◌, ◌∷◌, ◌++◌, ◌==◌, List, length, take, drop, None, true, false};
 ghost use Rattle.std.specs.List.{position_or_len};
 ghost use Rattle.std.specs.declared.cmp.Ordering.{Ordering as Side};
-ghost use Rattle.mi_node.specs.Pool.{IsHeld, Keeps, link_of, value_of, with_link};
+ghost use Rattle.mi_node.specs.Pool.{Keeps, link_of};
 ghost use Rattle.mi_node.specs.Refs.{Ref, first_of, last_of};
 ghost use Rattle.mi_tree.specs.BinaryTree.{nth_of};
 ghost use Rattle.mi_tree.specs.Sorted.{side_of_new, IsPutIn};
-ghost use Rattle.mi_tree.specs.Revalued.{retagged, FitsBetween};
 ghost use Rattle.mi_tree.specs.Probed.{is_past_node, is_node_at, first_where};
 
 use crate::change::{put_in, take_out};
@@ -15,7 +14,6 @@ use crate::compare::{compare_probe, probe_decides};
 use crate::look::{is_past, link_ahead, nth_in, rank_in};
 use crate::order::NodeOrder;
 use crate::parts::size;
-use crate::stay::keeps_below;
 use crate::walk::{Direction, Walk};
 use mi_node::{Counted, Link, NodeRef, Pool, Tag};
 use mi_value::{Probe, Steps};
@@ -111,69 +109,6 @@ impl<O> Tree<O> {
     {
         let tag = p.link(node, self.slot).tag;
         self.root = take_out(p, self.slot, &self.order, self.root, node, tag, steps);
-    }
-
-    /// Whether a node of the tree would keep its place with that value and that stamp: it would stand behind each node that is
-    /// before it, and before each that is after it. At most 4b comparisons.
-    pub fn keeps_place<T>(
-        &self,
-        p: &Pool<T>,
-        node: NodeRef,
-        value: &T,
-        stamp: u64,
-        steps: &mut Steps,
-    ) -> bool
-    where
-        O: NodeOrder<T>,
-        requires { (xs : List Ref) × (ys : List Ref) × IsTree self.now p.now (O.order self.now.order) (O.tag_of self.now.order) (xs ++ node ∷ ys) }
-        ensures kept { (xs : List Ref) (ys : List Ref)
-            → IsTree self.now p.now (O.order self.now.order) (O.tag_of self.now.order) (xs ++ node ∷ ys)
-            → (result ≡ true) ↔ FitsBetween (O.order self.now.order) p.now self.now.slot value.now stamp xs ys }
-        ensures steps { (order : T → T → Side) (tag : T → ℕ) (rs : List Ref) → IsTree self.now p.now order tag rs
-            → (b : ℕ) → length rs < 2 ^ b → steps.new.count ≤ steps.old.count + 4 * b }
-    {
-        let tag = p.link(node, self.slot).tag;
-        let decided = self.order.decides(tag.key);
-        let new = Tag {
-            key: self.order.tag(value),
-            stamp,
-        };
-        let exact = self.order.decides(new.key);
-        keeps_below(
-            p,
-            self.slot,
-            &self.order,
-            self.root,
-            node,
-            tag,
-            decided,
-            value,
-            new,
-            exact,
-            steps,
-        )
-    }
-
-    /// Gives a node the tag of its value and that stamp. Where a node of the tree got another value, with which it keeps its
-    /// place, the tree stands again.
-    pub fn retag<T>(&self, p: &mut Pool<T>, node: NodeRef, stamp: u64)
-    where
-        O: NodeOrder<T>,
-        requires held { IsHeld p.old node }
-        requires slot { self.now.slot < p.old.slots }
-        ensures { (v : T) → value_of p.old node.name ≡ Some v → p.new ≡ with_link p.old node.name self.now.slot
-            (retagged (record { key = O.tag_of self.now.order v; stamp = stamp }) (link_of p.old node.name self.now.slot)) }
-    {
-        let key = self.order.tag(p.value(node));
-        let link = p.link(node, self.slot);
-        p.set_link(
-            node,
-            self.slot,
-            Link {
-                tag: Tag { key, stamp },
-                ..link
-            },
-        );
     }
 
     /// How many nodes it has. Reads one link.

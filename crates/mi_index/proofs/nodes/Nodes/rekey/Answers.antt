@@ -1,70 +1,44 @@
--- The node leaves the indexes that are marked, but for those in which it keeps its place, gets its value, and comes into them again.
-use Rattle.std.proofs.Common.{◌≡◌, [], ◌∙◌, sym, subst, Some}
-use Rattle.mi_node.specs.Pool.{IsHeld, value_of}
-use Rattle.mi_node.proofs.EntryLemmas.{ref-with_value, value_here}
-use Rattle.mi_index.specs.Staying.{AllAt, HasSlot, SetsOwn, AllTell, AllSet}
-use Rattle.mi_index.specs.declared.moves.Stamps.TheVariants.{Marked as Stamped}
+-- The node leaves the indexes that are marked, gets its value, and comes into them again.
+use Rattle.std.proofs.Common.{◌∙◌, sym, subst, None}
+use Rattle.mi_index.specs.Pass.{AreReady, IsPass}
+use Rattle.mi_index.specs.Passes.{joining, joined}
+use Rattle.mi_index.specs.Places.{mark_at}
+use Rattle.mi_index.specs.declared.moves.Moves.TheVariants.{Marked}
 use Rattle.mi_index.proofs.InsertLemmas.{like_both}
-use Rattle.mi_index.proofs.RekeyLemmas.{can_ask, can_leave, can_come, is_rekeyed, kept_refs, kept_values, kept_slots}
+use Rattle.mi_index.proofs.RekeyLemmas.{can_leave, can_come, is_rekeyed, kept_refs, kept_values}
 use Rattle.mi_index.proofs.nodes.Nodes.rekey.Goals as goal
 
-pub staying-kept-requires : goal.staying-kept-requires
-staying-kept-requires c = can_ask c.args.marks.now [] c.args.node c.args.stored c.args.stamp
-    c.args.self.now.structures.items c.args.self.now.pool c.requires.places
-
 pub unlink-requires : goal.unlink-requires
-unlink-requires c = can_leave c.args.marks.now c.as_slice-stays.result.now c.args.node c.args.stored
+unlink-requires c = can_leave (mark_at c.args.marks.now) c.args.node c.args.stored
     c.args.stamp c.args.self.now.structures.items c.args.self.now.pool c.requires.places
 
 pub swap_value-old-requires : goal.swap_value-old-requires
 swap_value-old-requires c =
     let i = c.args.self.now in
-    let leaves = can_leave c.args.marks.now c.as_slice-stays.result.now c.args.node c.args.stored c.args.stamp i.structures.items i.pool c.requires.places in
+    let leaves = can_leave (mark_at c.args.marks.now) c.args.node c.args.stored c.args.stamp i.structures.items i.pool c.requires.places in
     kept_refs leaves c.unlink.ensures.pass c.args.node.name ∙ c.requires.held
-
-pub retag-requires-clause-held : goal.retag-requires-clause-held
-retag-requires-clause-held c =
-    let i = c.args.self.now in
-    let leaves = can_leave c.args.marks.now c.as_slice-stays.result.now c.args.node c.args.stored c.args.stamp i.structures.items i.pool c.requires.places in
-    subst (λ z. IsHeld z c.args.node) (sym c.swap_value-old.ensures.pool)
-    (ref-with_value c.unlink.new.p c.args.node.name c.args.stored c.args.node.name ∙ kept_refs leaves c.unlink.ensures.pass c.args.node.name ∙ c.requires.held)
-
-pub retag-requires-clause-slots : goal.retag-requires-clause-slots
-retag-requires-clause-slots c =
-    let i = c.args.self.now in
-    let leaves = can_leave c.args.marks.now c.as_slice-stays.result.now c.args.node c.args.stored c.args.stamp i.structures.items i.pool c.requires.places in
-    subst (λ z. AllAt c.unlink.new.self.items (HasSlot z)) (sym c.swap_value-old.ensures.pool) (kept_slots c.args.stored leaves c.unlink.ensures.pass)
 
 pub link-requires : goal.link-requires
 link-requires c =
-    let i = c.args.self.now in let r = c.args.node in let v = c.args.stored in let ys = c.unlink.new.self.items in let n = c.unlink.new.p in
-    let o = c.retag.new.p in let to = Stamped c.args.marks c.args.stamp in let stays = c.as_slice-stays.result.now in
-    let leaves = can_leave c.args.marks.now stays r v c.args.stamp i.structures.items i.pool c.requires.places in
-    let has : value_of c.swap_value-old.new.self r.name ≡ Some v = subst (λ z. value_of z r.name ≡ Some v) (sym c.swap_value-old.ensures.pool)
-    (value_here n r v (kept_refs leaves c.unlink.ensures.pass r.name ∙ c.requires.held)) in
-    can_come c.args.marks.now stays r v c.args.stamp i.structures.items ys i.pool n o c.requires.held c.unlink.ensures.like c.unlink.ensures.pass
-    (subst (λ z. SetsOwn r z o) c.swap_value-old.ensures.pool c.retag.ensures.own)
-    (subst (λ l. AllTell l to i.structures.items i.pool r v) (sym c.as_slice-stays.ensures.value) c.staying-kept.ensures)
-    (subst (λ z. AllSet stays to ys z o r v) c.swap_value-old.ensures.pool (c.retag.ensures.set v has)) c.requires.places
+    let i = c.args.self.now in let r = c.args.node in let ys = c.unlink.new.self.items in let n = c.unlink.new.p in
+    subst (AreReady (joining (Marked c.args.marks) r c.args.stamp None) 0 ys) (sym c.swap_value-old.ensures.pool)
+    (can_come (mark_at c.args.marks.now) r c.args.stored c.args.stamp i.structures.items ys i.pool
+    n c.requires.held c.unlink.ensures.like c.unlink.ensures.pass c.requires.places)
 
 pub returns-clause-value : goal.returns-clause-value
 returns-clause-value c =
     let i = c.args.self.now in
-    let leaves = can_leave c.args.marks.now c.as_slice-stays.result.now c.args.node c.args.stored c.args.stamp i.structures.items i.pool c.requires.places in
+    let leaves = can_leave (mark_at c.args.marks.now) c.args.node c.args.stored c.args.stamp i.structures.items i.pool c.requires.places in
     sym (kept_values leaves c.unlink.ensures.pass c.args.node.name) ∙ c.swap_value-old.ensures.value
 
 pub returns-clause-rekeyed : goal.returns-clause-rekeyed
 returns-clause-rekeyed c =
-    let i = c.args.self.now in let r = c.args.node in let v = c.args.stored in let ys = c.unlink.new.self.items in let n = c.unlink.new.p in
-    let o = c.retag.new.p in let to = Stamped c.args.marks c.args.stamp in let stays = c.as_slice-stays.result.now in
-    let leaves = can_leave c.args.marks.now stays r v c.args.stamp i.structures.items i.pool c.requires.places in
-    let has : value_of c.swap_value-old.new.self r.name ≡ Some v = subst (λ z. value_of z r.name ≡ Some v) (sym c.swap_value-old.ensures.pool)
-    (value_here n r v (kept_refs leaves c.unlink.ensures.pass r.name ∙ c.requires.held)) in
-    is_rekeyed c.args.marks.now stays r v c.args.stamp i.structures.items ys i.pool n o c.requires.held c.unlink.ensures.like c.unlink.ensures.pass
-    (subst (λ z. SetsOwn r z o) c.swap_value-old.ensures.pool c.retag.ensures.own)
-    (subst (λ l. AllTell l to i.structures.items i.pool r v) (sym c.as_slice-stays.ensures.value) c.staying-kept.ensures)
-    (subst (λ z. AllSet stays to ys z o r v) c.swap_value-old.ensures.pool (c.retag.ensures.set v has))
-    c.link.new.self.items c.link.new.p c.link.ensures.pass
+    let i = c.args.self.now in let r = c.args.node in let ys = c.unlink.new.self.items in
+    let zs = c.link.new.self.items in let p = c.link.new.p in
+    is_rekeyed (mark_at c.args.marks.now) r c.args.stored c.args.stamp i.structures.items ys
+    i.pool c.unlink.new.p c.requires.held c.unlink.ensures.like c.unlink.ensures.pass zs p
+    (subst (λ z. IsPass (joining (Marked c.args.marks) r c.args.stamp None) (joined (Marked c.args.marks) r c.args.stamp None) r 0 ys zs z p)
+    c.swap_value-old.ensures.pool c.link.ensures.pass)
 
 pub returns-clause-like : goal.returns-clause-like
 returns-clause-like c = like_both c.args.self.now.structures.items c.unlink.new.self.items
