@@ -131,7 +131,7 @@ impl<D: Sessions + Drop> Executor<D> {
         }
     }
 
-    /// Answers a command that looks up. It is a call of its own, and so is a change: each then has no room for what the other needs.
+    /// Answers a command that looks up. It is a call of its own, so that it clears no room that only a change needs.
     #[inline(never)]
     fn answer_look(&self, conn: u64, command: &Command, out: &mut Output)
         requires fits { FitsCatalog self.now.database.catalog command.now }

@@ -34,6 +34,7 @@ pub fn find<D: Sessions>(
 }
 
 /// The first id of a key in an ordered or ranked index: its lower bound, if the record there has the key.
+/// The one comparison with that record isn't counted on `steps`.
 fn find_sorted<D: Sessions>(
     db: &D,
     table: usize,

@@ -64,7 +64,7 @@ impl LineReader {
         }
     }
 
-    /// The request that a line is, whatever its length.
+    /// The request that a line is, whatever its length. The flat readers stand in line here, so that an answer is made where it is wanted.
     #[inline(never)]
     fn read<'a>(&'a mut self, line: &'a [u8]) -> Result<Request<'a>, Refusal>
         ensures answer { IsAnswer result (command_line line.now) }

@@ -4,13 +4,13 @@ ghost use Rattle.std.specs.Str.{IsAscii, IsUtf8};
 
 use simdutf8::compat::{Utf8Error, from_utf8};
 
-/// A text of at most so many bytes is asked first whether it is ASCII: of one that is, this takes a fraction of what `simdutf8` takes.
+/// A text of at most so many bytes is asked first whether it is ASCII, as most lines are.
 const FEW: usize = 128;
 
-/// So many bytes `std` asks at once.
+/// Of a longer text than this the first so many bytes are asked by themselves.
 const BLOCK: usize = 64;
 
-/// Whether bytes are ASCII, the first block by itself.
+/// Whether bytes are ASCII. Where it says no, they may be: then nothing is lost but time.
 #[inline(always)]
 fn is_ascii(bytes: &[u8]) -> bool
     ensures { IsTrue result → IsAscii bytes.now }
