@@ -12,3 +12,7 @@ kept d = take d.staying d.bytes.items
 -- how many calls don't fail yet
 abbrev pub sound_calls : MemoryDevice → ℕ
 sound_calls d = d.calls
+
+-- for how many bytes it has room in all
+abbrev pub size_of : MemoryDevice → ℕ
+size_of d = d.size

@@ -1,11 +1,9 @@
-//! What a log stands on: an opened file, or what stands for one.
-use std::fs::OpenFile;
+//! What a log stands on: bytes that are written one behind another.
 use std::io;
-use std::io::Write;
 
-/// Bytes that are written one behind another, and made to stay.
+/// Bytes that are written one behind another, and made to stay. Room for them can be made before they are written.
 pub trait Device {
-    ghost use Rattle.std.specs.Prelude.{◌≡◌, ℕ, List, Option, Bool, true, None, OnOk, OnErr};
+    ghost use Rattle.std.specs.Prelude.{◌≡◌, ℕ, List, Option, Bool, true, false, None, not, OnOk, OnErr};
     ghost use Rattle.std.specs.Io.{WritesAtMost};
     ghost use Rattle.std.specs.Io.KnownBytes.{WriteAppends, Keeps};
 
@@ -17,6 +15,17 @@ pub trait Device {
 
     /// Whether what was written is made to stay where that is asked, and not only said to. No call changes it.
     ghost makes_stay: { Self → Bool } = { λ _. true };
+
+    /// Whether room was last asked for, and wasn't there.
+    ghost lacks_room: { Self → Bool } = { λ _. false };
+
+    /// Makes room for so many bytes behind what was written, and answers whether it is there. Where it is, it stays until as many are
+    /// written, whoever else writes to the disk.
+    fn make_room(&mut self, bytes: u64) -> bool
+        ensures room { result ≡ not (lacks_room self.new) }
+        ensures contents { Keeps (contents self.old) (contents self.new) }
+        ensures stays { Keeps (stays self.old) (stays self.new) }
+        ensures makes_stay { makes_stay self.new ≡ makes_stay self.old };
 
     /// Writes a front of the bytes, and answers how many they are.
     fn write(&mut self, bytes: &[u8]) -> io::Result<usize>
@@ -31,51 +40,4 @@ pub trait Device {
         ensures err { OnErr result (Keeps (stays self.old) (stays self.new)) }
         ensures contents { Keeps (contents self.old) (contents self.new) }
         ensures makes_stay { makes_stay self.new ≡ makes_stay self.old };
-}
-
-/// A file that was opened to be appended to. No clause can say what a file has, nor what of it stays, so it tells nothing of its bytes; but
-/// what it is given is written to the file.
-#[derive(Drop)]
-pub struct OpenedFile<F> {
-    file: F,
-}
-
-impl<F> OpenedFile<F> {
-    ghost use Rattle.std.specs.Prelude.{◌≡◌};
-    ghost use Rattle.mi_log.specs.OpenedFile.{file_of};
-
-    /// Writes go where the file's own writes go: behind its end, where it was opened for that.
-    pub fn new(file: F) -> OpenedFile<F>
-        ensures { file_of result ≡ file }
-    {
-        OpenedFile { file }
-    }
-
-    /// The file itself.
-    pub fn file(&self) -> &F
-        ensures { result.now ≡ file_of self.now }
-    {
-        &self.file
-    }
-}
-
-impl<F: Write + OpenFile> Device for OpenedFile<F> {
-    ghost use Rattle.std.specs.Prelude.{None};
-    ghost use Rattle.std.specs.Io.{WritesAtMost};
-    ghost use Rattle.std.specs.Io.KnownBytes.{WriteAppends, Keeps};
-    ghost use Rattle.mi_log.specs.OpenedFile.{file_of};
-
-    /// The file has what it took, where it is one that tells.
-    fn write(&mut self, bytes: &[u8]) -> io::Result<usize>
-        ensures bound { WritesAtMost result bytes.now }
-        ensures bytes { WriteAppends None None result bytes.now }
-        ensures stays { Keeps None None }
-        ensures file { WriteAppends (F.contents (file_of self.old)) (F.contents (file_of self.new)) result bytes.now }
-    {
-        self.file.write(bytes)
-    }
-
-    fn sync_data(&mut self) -> io::Result<()> {
-        self.file.sync_data()
-    }
 }

@@ -78,6 +78,7 @@ fn note(error: &mut Option<io::Error>, came: io::Result<()>) -> Result<(), LogFa
 }
 
 impl<D: Device> Log for DeviceLog<D> {
+    ghost use Rattle.std.specs.Prelude.{◌||◌};
     ghost use Rattle.mi_log.specs.DeviceLog.{device_of, is_broken};
 
     ghost appended = { λ l. D.contents (device_of l) };
@@ -87,6 +88,12 @@ impl<D: Device> Log for DeviceLog<D> {
     ghost makes_stay = { λ l. D.makes_stay (device_of l) };
 
     ghost has_failed = { λ l. is_broken l };
+
+    ghost lacks_room = { λ l. is_broken l || D.lacks_room (device_of l) };
+
+    fn make_room(&mut self, bytes: u64) -> bool {
+        self.error.is_none() && self.device.make_room(bytes)
+    }
 
     fn append(&mut self, bytes: &[u8]) -> Result<(), LogFault> {
         if self.error.is_some() {

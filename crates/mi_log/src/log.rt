@@ -25,6 +25,18 @@ pub trait Log {
     /// Whether a call has failed.
     ghost has_failed: { Self → Bool };
 
+    /// Whether room was last asked for, and wasn't there.
+    ghost lacks_room: { Self → Bool };
+
+    /// Makes room for so many bytes, and answers whether it is there; it isn't where a call has failed. Where it is, it stays until as many
+    /// are appended, whoever else writes to the disk.
+    fn make_room(&mut self, bytes: u64) -> bool
+        ensures room { result ≡ not (lacks_room self.new) }
+        ensures appended { Keeps (appended self.old) (appended self.new) }
+        ensures synced { Keeps (synced self.old) (synced self.new) }
+        ensures makes_stay { makes_stay self.new ≡ makes_stay self.old }
+        ensures failed { has_failed self.new ≡ has_failed self.old };
+
     /// Appends some bytes. After an error a front of them stands there, and not all.
     fn append(&mut self, bytes: &[u8]) -> Result<(), LogFault>
         requires { 0 < length bytes.now }

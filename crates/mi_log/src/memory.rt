@@ -13,12 +13,14 @@ pub struct MemoryDevice {
     staying: usize,
     calls: u64,
     most: usize,
+    size: usize,
+    lacks: bool,
 }
 
 impl MemoryDevice {
-    ghost use Rattle.mi_log.specs.MemoryDevice.{written, kept, sound_calls};
+    ghost use Rattle.mi_log.specs.MemoryDevice.{written, kept, sound_calls, size_of};
 
-    /// An empty device. Its first `calls` calls, writes and syncs, don't fail, but for memory; each later one does. A write takes at
+    /// An empty device with all the room that is asked for. Its first `calls` calls, writes and syncs, don't fail, but for memory; each later one does. A write takes at
     /// most `most` bytes.
     pub fn new(alloc: Global, calls: u64, most: usize) -> MemoryDevice
         ensures written { written result ≡ [] }
@@ -30,7 +32,19 @@ impl MemoryDevice {
             staying: 0,
             calls,
             most,
+            size: usize::MAX,
+            lacks: false,
         }
+    }
+
+    /// It has room for so many bytes in all.
+    pub fn set_size(&mut self, size: usize)
+        ensures size { size_of self.new ≡ size }
+        ensures written { written self.new ≡ written self.old }
+        ensures kept { kept self.new ≡ kept self.old }
+        ensures calls { sound_calls self.new ≡ sound_calls self.old }
+    {
+        self.size = size;
     }
 
     /// All that was written.
@@ -54,11 +68,28 @@ impl Device for MemoryDevice {
     ghost use Rattle.std.specs.Prelude.{◌≡◌, Some, IsErr, OnOk, OnErr};
     ghost use Rattle.std.specs.Io.{WritesAtMost};
     ghost use Rattle.std.specs.Io.KnownBytes.{WriteAppends, Keeps};
-    ghost use Rattle.mi_log.specs.MemoryDevice.{written, kept, sound_calls};
+    ghost use Rattle.mi_log.specs.MemoryDevice.{written, kept, sound_calls, size_of};
+    ghost use Rattle.std.specs.Prelude.{◌≤◌, ◌↔◌, ◌+◌, not, length, IsTrue};
 
     ghost contents = { λ d. Some (written d) };
 
     ghost stays = { λ d. Some (kept d) };
+
+    ghost lacks_room = { λ d. d.lacks };
+
+    fn make_room(&mut self, bytes: u64) -> bool
+        ensures room { result ≡ not self.new.lacks }
+        ensures there { IsTrue result ↔ (length (written self.old) + bytes ≤ size_of self.old) }
+        ensures contents { written self.new ≡ written self.old }
+        ensures stays { kept self.new ≡ kept self.old }
+    {
+        let size = self.size as u64;
+        self.lacks = match (self.bytes.len() as u64).checked_add(bytes) {
+            Some(end) => end > size,
+            None => true,
+        };
+        !self.lacks
+    }
 
     fn write(&mut self, bytes: &[u8]) -> io::Result<usize> {
         if self.calls == 0 {
