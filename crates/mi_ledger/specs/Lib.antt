@@ -3,3 +3,4 @@ pub mod HeldReplies
 pub mod Journals
 pub mod Ledger
 pub mod Replay
+pub mod Room

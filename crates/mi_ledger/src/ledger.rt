@@ -1,6 +1,6 @@
 //! A hub whose lines are journaled: what changed anything is appended to a log as it is executed, and the replies go out once that stays.
 //! It reads and writes no stream.
-ghost use Rattle.std.specs.Prelude.{◌≡◌, ◌↔◌, ◌<◌, ◌++◌, ℕ, List, [], ◌∷◌, Some, Err, true, false, length, OnOk, OnErr, IfOk, IfErr, IsSome, IsTrue, if◌then◌else◌};
+ghost use Rattle.std.specs.Prelude.{◌≡◌, ◌↔◌, ◌<◌, ◌++◌, ℕ, List, [], ◌⊎◌, ◌∷◌, Some, Ok, Err, true, false, length, OnOk, OnErr, IfOk, IfErr, IfSome, IsSome, IsNone, IsTrue, if◌then◌else◌};
 ghost use Rattle.std.specs.Io.KnownBytes.{Appends, Keeps};
 ghost use Rattle.mi_commands.specs.Holder.{held_by};
 ghost use Rattle.mi_hub.specs.Connections.{rest_at};
@@ -9,12 +9,31 @@ ghost use Rattle.mi_replay.specs.Acts.{leaves};
 ghost use Rattle.mi_ledger.specs.HeldReplies.{bytes_of};
 ghost use Rattle.mi_ledger.specs.Ledger.{is_conn, holder_conn};
 ghost use Rattle.mi_ledger.specs.Journals.{IsWholeLine, Journals, Asks};
+ghost use Rattle.mi_ledger.specs.Room.{NeedsNoRoom, IsTurnedAway};
+ghost use Rattle.mi_model.specs.Database.{depth};
 
 use crate::fault::LedgerFault;
 use crate::replies::HeldReplies;
+use crate::room::{KEPT_ROOM, waits_for_room};
 use mi_hub::{Hub, HubFault};
 use mi_log::Log;
 use mi_sessions::Sessions;
+use std::alloc::Global;
+
+/// What is told to a line that waits for room.
+const NO_ROOM: &[u8] = b"{\"error\":\"journal\",\"ok\":false}\n";
+
+/// What is told to a line that there is no memory to read.
+const NO_MEMORY: &[u8] = b"{\"error\":\"memory\",\"ok\":false}\n";
+
+/// What became of a line that was to be asked.
+#[derive(Clone, Copy, Debug, PartialEq, Eq, Drop)]
+pub enum Admitted {
+    /// It is asked.
+    Asked,
+    /// It isn't, and nothing has changed: the journal has no room for it, or there was no memory to read it.
+    TurnedAway,
+}
 
 /// A hub, and the log that its journal is appended to.
 #[derive(Drop)]
@@ -124,11 +143,64 @@ impl<D: Sessions + Drop, L: Log + Drop> Ledger<D, L> {
         ensures memory { result ≡ Err LedgerFault.Memory → log_of self.new ≡ log_of self.old }
         ensures journal { result ≡ Err LedgerFault.Journal → L.has_failed (log_of self.new) ≡ true }
         ensures makes_stay { L.makes_stay (log_of self.new) ≡ L.makes_stay (log_of self.old) }
+        ensures room { OnOk result (L.lacks_room (log_of self.new) ≡ L.lacks_room (log_of self.old)) }
         ensures settled { IsSettled L.appended L.synced self.old → IsSettled L.appended L.synced self.new }
     {
         match self.hub.ask_line(conn, line, &mut replies.bytes) {
             Ok(changed) => self.note(line, changed),
             Err(_error) => Err(LedgerFault::Memory),
+        }
+    }
+
+    /// The same where the journal has room for the line, and for undoing all sessions behind it. Where it has none a change is turned away,
+    /// but for a short undo of a session that is open, for which room is kept; what is no change is asked. Its reply goes to those that are held.
+    ///
+    /// `Memory` where a reply has no room, and then nothing was appended; `Journal` where the line isn't appended whole.
+    pub fn ask_in_room(
+        &mut self,
+        alloc: Global,
+        conn: u64,
+        line: &[u8],
+        replies: &mut HeldReplies,
+    ) -> Result<Admitted, LedgerFault>
+        requires attached { rest_at conn (hub_of self.old).attached ≡ Some (Some []) }
+        requires whole { IsWholeLine line.now }
+        ensures asked { result ≡ Ok Admitted.Asked → (out : List ℕ) × (bytes_of replies.new ≡ bytes_of replies.old ++ out)
+            × Asks conn line.now (hub_of self.old) (hub_of self.new) (L.appended (log_of self.old)) (L.appended (log_of self.new)) out }
+        ensures room { result ≡ Ok Admitted.Asked
+            → (L.lacks_room (log_of self.new) ≡ false) ⊎ NeedsNoRoom (depth (hub_of self.old).held.database) line.now }
+        ensures turned_away { result ≡ Ok Admitted.TurnedAway → (out : List ℕ) × (bytes_of replies.new ≡ bytes_of replies.old ++ out)
+            × IsTurnedAway (depth (hub_of self.old).held.database) line.now out × (L.lacks_room (log_of self.new) ≡ true)
+            × (hub_of self.new ≡ hub_of self.old) × (L.appended (log_of self.new) ≡ L.appended (log_of self.old)) }
+        ensures memory { result ≡ Err LedgerFault.Memory → L.appended (log_of self.new) ≡ L.appended (log_of self.old) }
+        ensures journal { result ≡ Err LedgerFault.Journal → L.has_failed (log_of self.new) ≡ true }
+        ensures makes_stay { L.makes_stay (log_of self.new) ≡ L.makes_stay (log_of self.old) }
+        ensures settled { IsSettled L.appended L.synced self.old → IsSettled L.appended L.synced self.new }
+    {
+        let wanted = (line.len() as u64).saturating_add(KEPT_ROOM);
+        if !self.log.make_room(wanted) {
+            if let Some(reply) = self.turned_away(alloc, line) {
+                return match replies.add(reply) {
+                    Ok(()) => Ok(Admitted::TurnedAway),
+                    Err(_error) => Err(LedgerFault::Memory),
+                };
+            }
+        }
+        self.ask(conn, line, replies)?;
+        Ok(Admitted::Asked)
+    }
+
+    /// The reply to a line that there is no room for, where it is to be turned away.
+    fn turned_away(&self, alloc: Global, line: &[u8]) -> Option<&'static [u8]>
+        requires { IsWholeLine line.now }
+        ensures some { IfSome result (λ reply. IsTurnedAway (depth (hub_of self.now).held.database) line.now reply.now) }
+        ensures none { IsNone result → NeedsNoRoom (depth (hub_of self.now).held.database) line.now }
+    {
+        let (text, _newline) = line.split_at(line.len().saturating_sub(1));
+        match waits_for_room(alloc, text, self.hub.database().depth()) {
+            Ok(true) => Some(NO_ROOM),
+            Ok(false) => None,
+            Err(_refused) => Some(NO_MEMORY),
         }
     }
 
@@ -140,6 +212,7 @@ impl<D: Sessions + Drop, L: Log + Drop> Ledger<D, L> {
         ensures journal { OnErr result (result ≡ Err LedgerFault.Journal) }
         ensures failed { OnErr result (L.has_failed (log_of self.new) ≡ true) }
         ensures makes_stay { L.makes_stay (log_of self.new) ≡ L.makes_stay (log_of self.old) }
+        ensures room { OnOk result (L.lacks_room (log_of self.new) ≡ L.lacks_room (log_of self.old)) }
         ensures settled { IsSettled L.appended L.synced self.old → IsSettled L.appended L.synced self.new }
     {
         if !changed {

@@ -6,8 +6,10 @@ pub mod laws;
 mod ledger;
 mod replaying;
 mod replies;
+mod room;
 
 pub use fault::LedgerFault;
-pub use ledger::Ledger;
+pub use ledger::{Admitted, Ledger};
 pub use replaying::{LineFault, REPLAYER, ReplayFault, replay, replay_line};
 pub use replies::HeldReplies;
+pub use room::SHORT_UNDO;

@@ -1,7 +1,7 @@
 //! Replies that are not to go out yet.
-ghost use Rattle.std.specs.Prelude.{◌≡◌, ◌↔◌, [], length, IsTrue};
+ghost use Rattle.std.specs.Prelude.{◌≡◌, ◌↔◌, ◌++◌, [], length, IsTrue, OnOk};
 
-use std::alloc::Global;
+use std::alloc::{AllocError, Global};
 
 /// Replies to lines whose journal may not stay yet. A ledger hands their bytes out, once it does.
 #[derive(Drop)]
@@ -33,6 +33,13 @@ impl HeldReplies {
         ensures { IsTrue result ↔ (bytes_of self.now ≡ []) }
     {
         self.bytes.is_empty()
+    }
+
+    /// A reply goes to them. Where it has no room nothing changes.
+    pub(crate) fn add(&mut self, reply: &[u8]) -> Result<(), AllocError>
+        ensures ok { OnOk result (bytes_of self.new ≡ bytes_of self.old ++ reply.now) }
+    {
+        self.bytes.extend_from_slice(reply)
     }
 
     /// Their bytes.

@@ -23,8 +23,8 @@ pub trait Device {
     /// written, whoever else writes to the disk.
     fn make_room(&mut self, bytes: u64) -> bool
         ensures room { result ≡ not (lacks_room self.new) }
-        ensures contents { Keeps (contents self.old) (contents self.new) }
-        ensures stays { Keeps (stays self.old) (stays self.new) }
+        ensures contents { contents self.new ≡ contents self.old }
+        ensures stays { stays self.new ≡ stays self.old }
         ensures makes_stay { makes_stay self.new ≡ makes_stay self.old };
 
     /// Writes a front of the bytes, and answers how many they are.
@@ -32,12 +32,14 @@ pub trait Device {
         ensures bound { WritesAtMost result bytes.now }
         ensures bytes { WriteAppends (contents self.old) (contents self.new) result bytes.now }
         ensures stays { Keeps (stays self.old) (stays self.new) }
-        ensures makes_stay { makes_stay self.new ≡ makes_stay self.old };
+        ensures makes_stay { makes_stay self.new ≡ makes_stay self.old }
+        ensures room { lacks_room self.new ≡ lacks_room self.old };
 
     /// Makes what was written stay.
     fn sync_data(&mut self) -> io::Result<()>
         ensures ok { OnOk result (Keeps (contents self.new) (stays self.new)) }
         ensures err { OnErr result (Keeps (stays self.old) (stays self.new)) }
         ensures contents { Keeps (contents self.old) (contents self.new) }
-        ensures makes_stay { makes_stay self.new ≡ makes_stay self.old };
+        ensures makes_stay { makes_stay self.new ≡ makes_stay self.old }
+        ensures room { lacks_room self.new ≡ lacks_room self.old };
 }

@@ -50,6 +50,7 @@ fn write_all<D: Device>(device: &mut D, bytes: &[u8]) -> io::Result<()>
     ensures err { OnErr result (AppendsFront (D.contents device.old) (D.contents device.new) bytes.now) }
     ensures stays { Keeps (D.stays device.old) (D.stays device.new) }
     ensures makes_stay { D.makes_stay device.new ≡ D.makes_stay device.old }
+    ensures room { D.lacks_room device.new ≡ D.lacks_room device.old }
 {
     let mut at = 0;
     'bytes: while at < bytes.len() {

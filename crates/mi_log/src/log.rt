@@ -32,8 +32,8 @@ pub trait Log {
     /// are appended, whoever else writes to the disk.
     fn make_room(&mut self, bytes: u64) -> bool
         ensures room { result ≡ not (lacks_room self.new) }
-        ensures appended { Keeps (appended self.old) (appended self.new) }
-        ensures synced { Keeps (synced self.old) (synced self.new) }
+        ensures appended { appended self.new ≡ appended self.old }
+        ensures synced { synced self.new ≡ synced self.old }
         ensures makes_stay { makes_stay self.new ≡ makes_stay self.old }
         ensures failed { has_failed self.new ≡ has_failed self.old };
 
@@ -45,6 +45,7 @@ pub trait Log {
         ensures synced { Keeps (synced self.old) (synced self.new) }
         ensures makes_stay { makes_stay self.new ≡ makes_stay self.old }
         ensures failed { has_failed self.new ≡ not (is_ok result) }
+        ensures room { OnOk result (lacks_room self.new ≡ lacks_room self.old) }
         ensures over { has_failed self.old ≡ true → IsErr result × (self.new ≡ self.old) };
 
     /// Makes all that was appended stay.
@@ -54,5 +55,6 @@ pub trait Log {
         ensures appended { Keeps (appended self.old) (appended self.new) }
         ensures makes_stay { makes_stay self.new ≡ makes_stay self.old }
         ensures failed { has_failed self.new ≡ not (is_ok result) }
+        ensures room { OnOk result (lacks_room self.new ≡ lacks_room self.old) }
         ensures over { has_failed self.old ≡ true → IsErr result × (self.new ≡ self.old) };
 }

@@ -99,8 +99,6 @@ impl<F: PlacedFile> Device for RoomFile<F> {
         ensures room { result ≡ not self.new.lacks }
         ensures there { IsTrue result → bytes ≤ self.new.size - self.new.end }
         ensures enough { bytes ≤ self.old.size - self.old.end → result ≡ true }
-        ensures contents { Keeps None None }
-        ensures stays { Keeps None None }
         ensures written { Keeps (front_of self.old.end (F.contents self.old.file)) (front_of self.new.end (F.contents self.new.file)) }
     {
         if self.size - self.end < bytes {
@@ -115,6 +113,7 @@ impl<F: PlacedFile> Device for RoomFile<F> {
         ensures bound { WritesAtMost result bytes.now }
         ensures bytes { WriteAppends None None result bytes.now }
         ensures stays { Keeps None None }
+        ensures room { self.new.lacks ≡ self.old.lacks }
         ensures written { WriteAppends (front_of self.old.end (F.contents self.old.file)) (front_of self.new.end (F.contents self.new.file)) result bytes.now }
     {
         if self.end.checked_add(bytes.len() as u64).is_none() {

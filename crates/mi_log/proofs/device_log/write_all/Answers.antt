@@ -10,4 +10,5 @@ bytes-preserved g c = record {
   written = rw (take-add, ← c.split_at.ensures.back) (Appends-trans _ _ _ _ _ c.bytes.invariant.written c.in_ok-n.ensures.bytes);
   stays = Keeps-trans _ _ _ c.bytes.invariant.stays c.in_ok-n.ensures.stays;
   makes_stay = c.in_ok-n.ensures.makes_stay ∙ c.bytes.invariant.makes_stay;
+  room = c.in_ok-n.ensures.room ∙ c.bytes.invariant.room;
 }

@@ -9,6 +9,7 @@ invariant-bytes g l = record {
   written : Appends (g.D.Device.contents l.fn.device) (g.D.Device.contents l.device) (take l.at l.bytes);
   stays : Keeps (g.D.Device.stays l.fn.device) (g.D.Device.stays l.device);
   makes_stay : g.D.Device.makes_stay l.device ≡ g.D.Device.makes_stay l.fn.device;
+  room : g.D.Device.lacks_room l.device ≡ g.D.Device.lacks_room l.fn.device;
 }
 
 abbrev pub decreases-bytes : goal.decreases-bytes
