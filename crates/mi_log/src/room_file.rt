@@ -28,7 +28,7 @@ pub struct RoomFile<F: PlacedFile> {
 }
 
 impl<F: PlacedFile> RoomFile<F> {
-    /// A file of this size, all of whose bytes were written.
+    /// A file of this size, all of whose bytes count as written.
     pub fn new(file: F, size: u64) -> RoomFile<F>
         requires { IfSome (F.contents file) (λ all. size ≡ length all) }
         ensures file { result.file ≡ file }
@@ -40,6 +40,16 @@ impl<F: PlacedFile> RoomFile<F> {
             size,
             lacks: false,
         }
+    }
+
+    /// All bytes of the file count as written, of which there are so many.
+    pub fn renew(&mut self, size: u64)
+        requires { IfSome (F.contents self.old.file) (λ all. size ≡ length all) }
+        ensures file { self.new.file ≡ self.old.file }
+        ensures written { front_of self.new.end (F.contents self.new.file) ≡ F.contents self.new.file }
+    {
+        self.end = size;
+        self.size = size;
     }
 
     /// The file itself.

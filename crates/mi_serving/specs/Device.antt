@@ -1,5 +1,6 @@
 -- What a service's journal is appended to: nowhere, or a file that is synced or isn't.
 use Rattle.std.specs.Prelude.{ℕ, List, Bool, true, false, ◌&&◌, if◌then◌else◌, Option, None, is_some, option_and_then}
+use Rattle.std.specs.Option.{option_map_or}
 use Rattle.mi_serving.specs.declared.device.JournalDevice.{JournalDevice}
 use Rattle.mi_serving.specs.declared.device.Keeping.{Keeping}
 use Rattle.mi_serving.specs.declared.device.Keeping.TheVariants.{Synced, Unsynced}
@@ -26,3 +27,7 @@ is_staying d = is_some d.file && is_synced d.keeping
 -- what it tells of its file's bytes: where they are made to stay what the file tells, and else nothing
 abbrev pub told_of : {F : Type 0} → (F → Option (List ℕ)) → JournalDevice F → Option (List ℕ)
 told_of contents d = if is_staying d then written_to contents d else None
+
+-- whether its file lacks room, where it has one
+abbrev pub lacks_room : {F : Type 0} → (F → Bool) → JournalDevice F → Bool
+lacks_room lacks d = option_map_or false lacks d.file

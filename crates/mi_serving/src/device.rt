@@ -40,16 +40,18 @@ impl<F> JournalDevice<F> {
 }
 
 impl<F: Device> Device for JournalDevice<F> {
-    ghost use Rattle.std.specs.Prelude.{◌≡◌};
+    ghost use Rattle.std.specs.Prelude.{◌≡◌, None, not, true};
     ghost use Rattle.std.specs.Io.{WritesAtMost};
     ghost use Rattle.std.specs.Io.KnownBytes.{WriteAppends, Keeps};
-    ghost use Rattle.mi_serving.specs.Device.{keeping_of, written_to, told_of, is_staying};
+    ghost use Rattle.mi_serving.specs.Device.{file_of, keeping_of, written_to, told_of, is_staying, lacks_room};
 
     ghost contents = { λ d. told_of F.contents d };
 
     ghost stays = { λ d. told_of F.stays d };
 
     ghost makes_stay = { λ d. is_staying d };
+
+    ghost lacks_room = { λ d. lacks_room F.lacks_room d };
 
     /// Its file has what it took.
     fn write(&mut self, bytes: &[u8]) -> io::Result<usize>
@@ -59,10 +61,26 @@ impl<F: Device> Device for JournalDevice<F> {
         ensures file { WriteAppends (written_to F.contents self.old) (written_to F.contents self.new) result bytes.now }
         ensures keeping { keeping_of self.new ≡ keeping_of self.old }
         ensures makes_stay { is_staying self.new ≡ is_staying self.old }
+        ensures room { lacks_room F.lacks_room self.new ≡ lacks_room F.lacks_room self.old }
     {
         match &mut self.file {
             Some(file) => file.write(bytes),
             None => Ok(bytes.len()),
+        }
+    }
+
+    fn make_room(&mut self, bytes: u64) -> bool
+        ensures room { result ≡ not (lacks_room F.lacks_room self.new) }
+        ensures contents { told_of F.contents self.new ≡ told_of F.contents self.old }
+        ensures stays { told_of F.stays self.new ≡ told_of F.stays self.old }
+        ensures makes_stay { is_staying self.new ≡ is_staying self.old }
+        ensures none { file_of self.old ≡ None → result ≡ true }
+        ensures file { written_to F.contents self.new ≡ written_to F.contents self.old }
+        ensures keeping { keeping_of self.new ≡ keeping_of self.old }
+    {
+        match &mut self.file {
+            Some(file) => file.make_room(bytes),
+            None => true,
         }
     }
 

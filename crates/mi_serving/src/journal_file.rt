@@ -1,5 +1,5 @@
 //! The file that a journal is kept in, and where it is found. It looks at no byte of the journal.
-use mi_log::{Device, OpenedFile};
+use mi_log::{Device, RoomFile};
 use std::fs::{File, OpenOptions, TryLockError};
 use std::io::ErrorKind;
 use std::os::unix::fs::{FileExt, MetadataExt};
@@ -7,7 +7,8 @@ use std::path::Path;
 use std::rt::Files;
 use std::{fs, io};
 
-/// An open file of a journal: it is locked, read from its start, cut where its last line is torn, and written to behind its end.
+/// An open file of a journal: it is locked, read from its start, cut where its last line is torn, and written to behind its end. What is cut
+/// off may stay as room: it has no newline.
 pub trait JournalFile: Device {
     ghost use Rattle.std.specs.Prelude.{◌≡◌, ℕ, List, Option, Bool, true, length, OnOk, IfOk, IfSome};
     ghost use Rattle.std.specs.Io.{ReadsAtMost};
@@ -59,9 +60,16 @@ pub trait JournalFiles {
 }
 
 /// No clause can say what a file of the system has, so it tells nothing of its bytes.
-impl JournalFile for OpenedFile<File> {
+impl JournalFile for RoomFile<File> {
     fn try_lock(&mut self) -> Result<(), TryLockError> {
-        self.file().try_lock()
+        self.file().try_lock()?;
+        match self.file().metadata() {
+            Ok(metadata) => {
+                self.renew(metadata.len());
+                Ok(())
+            }
+            Err(error) => Err(TryLockError::Error(error)),
+        }
     }
 
     fn read_at(&self, buffer: &mut [u8], at: u64) -> io::Result<usize> {
@@ -69,11 +77,13 @@ impl JournalFile for OpenedFile<File> {
     }
 
     fn size(&self) -> io::Result<u64> {
-        Ok(self.file().metadata()?.len())
+        Ok(self.len())
     }
 
+    /// What is cut off is room from here on.
     fn cut_to(&mut self, size: u64) -> io::Result<()> {
-        self.file().set_len(size)
+        self.keep(size);
+        Ok(())
     }
 }
 
@@ -101,20 +111,20 @@ fn folder_of(path: &str) -> Path<'_> {
 impl<'a, R: Files<File = File>> JournalFiles for SystemFiles<'a, R> {
     ghost use Rattle.std.specs.Prelude.{⊤};
 
-    type File = OpenedFile<File>;
+    type File = RoomFile<File>;
 
     ghost is_seen = { λ _ _ _. ⊤ };
 
-    fn open(&self, path: &str) -> io::Result<OpenedFile<File>> {
+    fn open(&self, path: &str) -> io::Result<RoomFile<File>> {
         let file = OpenOptions::new()
             .read(true)
-            .append(true)
+            .write(true)
             .create(true)
             .open(self.rt, path)?;
-        Ok(OpenedFile::new(file))
+        Ok(RoomFile::new(file, 0))
     }
 
-    fn names(&self, path: &str, file: &OpenedFile<File>) -> io::Result<bool> {
+    fn names(&self, path: &str, file: &RoomFile<File>) -> io::Result<bool> {
         let opened = file.file().metadata()?;
         match fs::metadata(self.rt, path) {
             Ok(named) => Ok(named.ino() == opened.ino() && named.dev() == opened.dev()),

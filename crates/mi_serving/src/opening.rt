@@ -19,7 +19,7 @@ use crate::journal_file::{JournalFile, JournalFiles};
 use mi_clients::part;
 use mi_hub::Hub;
 use mi_ledger::{HeldReplies, Ledger, REPLAYER, replay};
-use mi_log::{Device, DeviceLog, Heading, Log, LogLines, OpenedFile, judge_heading};
+use mi_log::{Device, DeviceLog, Heading, Log, LogLines, RoomFile, judge_heading};
 use mi_sessions::Sessions;
 use std::alloc::Global;
 use std::fs::File;
@@ -29,7 +29,7 @@ use std::io::{BufRead, BufReader, Error};
 pub type JournalLedger<F, D> = Ledger<D, DeviceLog<JournalDevice<F>>>;
 
 /// The same over a file of the system.
-pub type FileLedger<D> = JournalLedger<OpenedFile<File>, D>;
+pub type FileLedger<D> = JournalLedger<RoomFile<File>, D>;
 
 /// Makes the name of a journal's file stay, where what is appended to it is made to stay.
 fn named<P: JournalFiles>(files: &P, path: &str, keeping: Keeping) -> Result<(), Fault> {
