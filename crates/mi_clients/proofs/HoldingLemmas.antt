@@ -13,7 +13,7 @@ use Rattle.mi_hub.specs.Run.{HubState}
 use Rattle.mi_hub.specs.Served.{InTurn}
 use Rattle.mi_replay.specs.Acts.{Act}
 use Rattle.mi_replay.specs.Replayed.{replayer, replayed}
-use Rattle.mi_clients.specs.Steps.{Step, comes, asks, tells, undoes, goes, StepDone, DoneBy, HoldsSome}
+use Rattle.mi_clients.specs.Steps.{Step, comes, asks, denies, tells, undoes, goes, StepDone, DoneBy, HoldsSome}
 use Rattle.mi_clients.specs.Laws.{HoldersHoldSome, ReplaysHoldSome}
 
 -- ---- how a holder moves
@@ -85,6 +85,7 @@ step_some : (step : Step) (acts : List Act) (old new : HubState) → StepDone ol
 step_some (comes conn) acts old new done some = subst (λ (s : HubState). HoldsSome s.held.holder) (sym done.0.3) some
 step_some (asks conn line reply) acts old new done some =
     turns_some conn _ done.0.0.2.replies old.held new.held done.0.0.2.in_turn some
+step_some (denies conn line reply) acts old new done some = subst (λ (s : HubState). HoldsSome s.held.holder) (sym done.1) some
 step_some (tells conn line told) acts old new done some = subst (λ (s : HubState). HoldsSome s.held.holder) (sym done.1) some
 step_some (undoes conn reply) acts old new done some =
     turns_some conn _ done.0.0.2.replies old.held new.held done.0.0.2.in_turn some

@@ -16,7 +16,7 @@ use Rattle.mi_clients.specs.Heard.{heard}
 use Rattle.mi_clients.specs.Output.{Sends}
 use Rattle.mi_ledger.specs.HeldReplies.{bytes_of}
 use Rattle.mi_clients.specs.Row.{ids, inputs, IsNoneOf, AllDiffer, EachServed, EachAsked, EachUnread, StayersAsked, EachAsFar, OpenOnlyAsk, AllOnlyAsk, StayersOnlyAsk, EachWoken, IsNew, Joins, LetsGo, NoneIsOver, Serves}
-use Rattle.mi_clients.specs.Steps.{Step, comes, asks, tells, undoes, goes, reply_to, given_to, GivesOnly, GivesNone, AreAsks, AreUndos}
+use Rattle.mi_clients.specs.Steps.{Step, comes, asks, denies, tells, undoes, goes, reply_to, given_to, GivesOnly, GivesNone, AreAsks, AreUndos}
 use Rattle.mi_clients.specs.Steps.{line_by, asked_by, told_line, told_by, AsksOnly, AsksNone, OnlyAsks, LeavesOthers}
 use Rattle.mi_clients.specs.declared.client.Client.{Client}
 use Rattle.mi_clients.specs.declared.input.Input.{Input}
@@ -68,6 +68,10 @@ asks_given conn (asks k line reply ∷ steps) taken given p =
     ap (λ n. cond (nat_eq n conn) reply [] ++ given_to conn steps) p.0
     ∙ ap (λ b. cond b reply [] ++ given_to conn steps) (same_test conn)
     ∙ ap (λ t. reply ++ t) (asks_given conn steps p.1 p.2 p.3) ∙ sym p.5
+asks_given conn (denies k line reply ∷ steps) taken given p =
+    ap (λ n. cond (nat_eq n conn) reply [] ++ given_to conn steps) p.0
+    ∙ ap (λ b. cond b reply [] ++ given_to conn steps) (same_test conn)
+    ∙ ap (λ t. reply ++ t) (asks_given conn steps p.1 p.2 p.3) ∙ sym p.5
 asks_given conn (tells k line text ∷ steps) taken given p = absurd p
 asks_given conn (undoes k reply ∷ steps) taken given p = absurd p
 asks_given conn (goes k ∷ steps) taken given p = absurd p
@@ -76,6 +80,10 @@ asks_only : (conn : ℕ) (steps : List Step) (taken given : List ℕ) → AreAsk
 asks_only conn [] taken given p = λ k other. refl
 asks_only conn (comes k ∷ steps) taken given p = absurd p
 asks_only conn (asks j line reply ∷ steps) taken given p = λ k other.
+    ap (λ n. cond (nat_eq n k) reply [] ++ given_to k steps) p.0
+    ∙ ap (λ b. cond b reply [] ++ given_to k steps) other
+    ∙ asks_only conn steps p.1 p.2 p.3 k other
+asks_only conn (denies j line reply ∷ steps) taken given p = λ k other.
     ap (λ n. cond (nat_eq n k) reply [] ++ given_to k steps) p.0
     ∙ ap (λ b. cond b reply [] ++ given_to k steps) other
     ∙ asks_only conn steps p.1 p.2 p.3 k other
@@ -88,6 +96,7 @@ pub undos_none : (conn : ℕ) (steps : List Step) → AreUndos conn steps → Gi
 undos_none conn [] p = λ k. refl
 undos_none conn (comes k ∷ steps) p = absurd p
 undos_none conn (asks k line reply ∷ steps) p = absurd p
+undos_none conn (denies k line reply ∷ steps) p = absurd p
 undos_none conn (tells k line text ∷ steps) p = absurd p
 undos_none conn (undoes j reply ∷ steps) p = λ k. undos_none conn steps p.1 k
 undos_none conn (goes k ∷ steps) p = absurd p
@@ -116,6 +125,10 @@ asks_taken conn (asks k line reply ∷ steps) taken given p =
     ap (λ n. cond (nat_eq n conn) line [] ++ asked_by conn steps) p.0
     ∙ ap (λ b. cond b line [] ++ asked_by conn steps) (same_test conn)
     ∙ ap (λ t. line ++ t) (asks_taken conn steps p.1 p.2 p.3) ∙ sym p.4
+asks_taken conn (denies k line reply ∷ steps) taken given p =
+    ap (λ n. cond (nat_eq n conn) line [] ++ asked_by conn steps) p.0
+    ∙ ap (λ b. cond b line [] ++ asked_by conn steps) (same_test conn)
+    ∙ ap (λ t. line ++ t) (asks_taken conn steps p.1 p.2 p.3) ∙ sym p.4
 asks_taken conn (tells k line text ∷ steps) taken given p = absurd p
 asks_taken conn (undoes k reply ∷ steps) taken given p = absurd p
 asks_taken conn (goes k ∷ steps) taken given p = absurd p
@@ -124,6 +137,7 @@ undos_taken : (conn k : ℕ) (steps : List Step) → AreUndos conn steps → ask
 undos_taken conn k [] p = refl
 undos_taken conn k (comes j ∷ steps) p = absurd p
 undos_taken conn k (asks j line reply ∷ steps) p = absurd p
+undos_taken conn k (denies j line reply ∷ steps) p = absurd p
 undos_taken conn k (tells j line text ∷ steps) p = absurd p
 undos_taken conn k (undoes j reply ∷ steps) p = undos_taken conn k steps p.1
 undos_taken conn k (goes j ∷ steps) p = absurd p
@@ -139,6 +153,10 @@ asks_only_lines : (conn : ℕ) (steps : List Step) (taken given : List ℕ) → 
 asks_only_lines conn [] taken given p = λ k other. refl
 asks_only_lines conn (comes k ∷ steps) taken given p = absurd p
 asks_only_lines conn (asks j line reply ∷ steps) taken given p = λ k other.
+    ap (λ n. cond (nat_eq n k) line [] ++ asked_by k steps) p.0
+    ∙ ap (λ b. cond b line [] ++ asked_by k steps) other
+    ∙ asks_only_lines conn steps p.1 p.2 p.3 k other
+asks_only_lines conn (denies j line reply ∷ steps) taken given p = λ k other.
     ap (λ n. cond (nat_eq n k) line [] ++ asked_by k steps) p.0
     ∙ ap (λ b. cond b line [] ++ asked_by k steps) other
     ∙ asks_only_lines conn steps p.1 p.2 p.3 k other
@@ -193,6 +211,7 @@ pub only_then : (k : ℕ) (xs ys : List Step) → OnlyAsks k xs → OnlyAsks k y
 only_then k [] ys p q = q
 only_then k (comes j ∷ xs) ys p q = (p.0, only_then k xs ys p.1 q)
 only_then k (asks j line reply ∷ xs) ys p q = only_then k xs ys p q
+only_then k (denies j line reply ∷ xs) ys p q = only_then k xs ys p q
 only_then k (tells j line text ∷ xs) ys p q = only_then k xs ys p q
 only_then k (undoes j reply ∷ xs) ys p q = (p.0, only_then k xs ys p.1 q)
 only_then k (goes j ∷ xs) ys p q = (p.0, only_then k xs ys p.1 q)
@@ -201,6 +220,7 @@ only_asks : (conn k : ℕ) (steps : List Step) (taken given : List ℕ) → AreA
 only_asks conn k [] taken given p = tt
 only_asks conn k (comes j ∷ steps) taken given p = absurd p
 only_asks conn k (asks j line reply ∷ steps) taken given p = only_asks conn k steps p.1 p.2 p.3
+only_asks conn k (denies j line reply ∷ steps) taken given p = only_asks conn k steps p.1 p.2 p.3
 only_asks conn k (tells j line text ∷ steps) taken given p = absurd p
 only_asks conn k (undoes j reply ∷ steps) taken given p = absurd p
 only_asks conn k (goes j ∷ steps) taken given p = absurd p
@@ -209,6 +229,7 @@ undos_others : (conn : ℕ) (steps : List Step) → AreUndos conn steps → Leav
 undos_others conn [] p = λ k other. tt
 undos_others conn (comes j ∷ steps) p = absurd p
 undos_others conn (asks j line reply ∷ steps) p = absurd p
+undos_others conn (denies j line reply ∷ steps) p = absurd p
 undos_others conn (tells j line text ∷ steps) p = absurd p
 undos_others conn (undoes j reply ∷ steps) p = λ k other. (ap (λ n. nat_eq n k) p.0 ∙ other, undos_others conn steps p.1 k other)
 undos_others conn (goes j ∷ steps) p = absurd p

@@ -1,7 +1,7 @@
 -- Steps one behind another, and the steps that calls of a ledger are.
-use Rattle.std.proofs.Common.{◌≡◌, ℕ, List, [], ◌∷◌, ◌++◌, codes, true, Option, Some, refl, sym, ap, ◌∙◌, subst, append-nil, append_assoc}
+use Rattle.std.proofs.Common.{◌≡◌, ℕ, List, [], ◌∷◌, ◌++◌, codes, Bool, true, false, inl, inr, Option, Some, Result, Ok, refl, sym, ap, ◌∙◌, subst, append-nil, append_assoc}
 use Rattle.std.specs.Io.KnownBytes.{Appends, Keeps}
-use Rattle.std.proofs.KnownBytes.{Appends-nil, Appends-kept, Appends-trans}
+use Rattle.std.proofs.KnownBytes.{Appends-nil, Appends-kept, Appends-trans, Keeps-refl}
 use Rattle.mi_commands.specs.Holder.{HeldDatabase}
 use Rattle.mi_hub.specs.Ended.{ended}
 use Rattle.mi_hub.specs.Lines.{lines_of, rest_of, lines_from, rest_from}
@@ -15,8 +15,13 @@ use Rattle.mi_replay.proofs.JoinLemmas.{journals_join}
 use Rattle.mi_ledger.specs.Journals.{Journals, Asks, IsWholeLine}
 use Rattle.mi_ledger.proofs.JournalLemmas.{asked_attached}
 use Rattle.mi_ledger.specs.Ledger.{holder_conn}
+use Rattle.mi_ledger.specs.Room.{IsTurnedAway}
+use Rattle.mi_ledger.specs.declared.fault.LedgerFault.{LedgerFault}
+use Rattle.mi_ledger.specs.declared.ledger.Admitted.{Admitted}
+use Rattle.mi_ledger.specs.declared.ledger.Admitted.TheVariants.{Asked, TurnedAway}
+use Rattle.mi_model.specs.Database.{depth}
 use Rattle.mi_clients.specs.ServiceLines.{is_service}
-use Rattle.mi_clients.specs.Steps.{Step, comes, asks, tells, undoes, goes, undo_bytes, StepDone, DoneBy, Makes, AreAsks, AreUndos}
+use Rattle.mi_clients.specs.Steps.{Step, comes, asks, denies, tells, undoes, goes, undo_bytes, StepDone, DoneBy, Makes, IsAskOf, is_denial, AreAsks, AreUndos}
 
 -- ---- nothing
 
@@ -96,6 +101,25 @@ undo_makes conn line out old new a b is holds p = record {
   journal = p.journal;
 }
 
+-- a line is asked
+asks_makes : (conn : ℕ) (line out : List ℕ) (old new : HubState) (a b : Option (List ℕ)) → is_service line ≡ false → Asks conn line old new a b out
+    → Makes (asks conn line out ∷ []) old new a b
+asks_makes conn line out old new a b other p = record {
+  acts = p.acts;
+  done = one_step (asks conn line out) old new p.acts ((p.done, p.are), other);
+  journal = p.journal;
+}
+
+-- a line is turned away
+denies_makes : (conn : ℕ) (line text : List ℕ) (old new : HubState) (a b : Option (List ℕ)) → is_service line ≡ false
+    → IsTurnedAway (depth old.held.database) line text → new ≡ old → b ≡ a → Makes (denies conn line text ∷ []) old new a b
+denies_makes conn line text old new a b other away same kept = record {
+  acts = [];
+  done = one_step (denies conn line text) old new [] (refl, same, other, away);
+  journal = subst (λ (s : HubState). Journals old.held s.held a b []) (sym same)
+      (subst (λ after. Journals old.held old.held a after []) (sym kept) (journal_none old.held a a (Keeps-refl a)));
+}
+
 -- the service tells something to a line of its own
 pub tells_makes : (conn : ℕ) (line text : List ℕ) (s : HubState) (a b : Option (List ℕ)) → is_service line ≡ true → ¬ (text ≡ []) → Keeps a b
     → Makes (tells conn line text ∷ []) s s a b
@@ -128,11 +152,39 @@ pub asks_attached : (conn : ℕ) (line out : List ℕ) (old new : HubState) (a b
     → Asks conn line old new a b out → new.attached ≡ old.attached
 asks_attached conn line out old new a b here p = asked_attached conn line out old new here p.done p.still
 
+-- a line that a ledger was asked is done, or turned away
+pub line_step : (conn : ℕ) (line before after : List ℕ) (old new : HubState) (a b : Option (List ℕ)) (lacks : Bool) (r : Admitted)
+    → is_service line ≡ false
+    → (◌≡◌ {A = Result Admitted LedgerFault} (Ok r) (Ok Asked) → (out : List ℕ) × (after ≡ before ++ out) × Asks conn line old new a b out)
+    → (◌≡◌ {A = Result Admitted LedgerFault} (Ok r) (Ok TurnedAway) → (out : List ℕ) × (after ≡ before ++ out)
+    × IsTurnedAway (depth old.held.database) line out × (lacks ≡ true) × (new ≡ old) × (b ≡ a))
+    → (out : List ℕ) × (after ≡ before ++ out) × (step : Step) × IsAskOf conn line out step × Makes (step ∷ []) old new a b
+    × (is_denial step ≡ true → lacks ≡ true)
+line_step conn line before after old new a b lacks Asked other asked away =
+    let p = asked refl in
+    (p.0, p.1, asks conn line p.0, inl refl, asks_makes conn line p.0 old new a b other p.2, λ is. absurd (cc))
+line_step conn line before after old new a b lacks TurnedAway other asked away =
+    let p = away refl in
+    (p.0, p.1, denies conn line p.0, inr refl, denies_makes conn line p.0 old new a b other p.2 p.4 p.5, λ is. p.3)
+
+-- and leaves who is attached
+pub line_attached : (conn : ℕ) (line before after : List ℕ) (old new : HubState) (a b : Option (List ℕ)) (lacks : Bool) (r : Admitted)
+    → rest_at conn old.attached ≡ Some (Some [])
+    → (◌≡◌ {A = Result Admitted LedgerFault} (Ok r) (Ok Asked) → (out : List ℕ) × (after ≡ before ++ out) × Asks conn line old new a b out)
+    → (◌≡◌ {A = Result Admitted LedgerFault} (Ok r) (Ok TurnedAway) → (out : List ℕ) × (after ≡ before ++ out)
+    × IsTurnedAway (depth old.held.database) line out × (lacks ≡ true) × (new ≡ old) × (b ≡ a))
+    → new.attached ≡ old.attached
+line_attached conn line before after old new a b lacks Asked here asked away =
+    let p = asked refl in
+    asks_attached conn line p.0 old new a b here p.2
+line_attached conn line before after old new a b lacks TurnedAway here asked away = ap (λ (s : HubState). s.attached) (away refl).4
+
 -- ---- lines of one connection
 
-pub asks_more : (conn : ℕ) (steps : List Step) (taken given line out : List ℕ) → AreAsks conn steps taken given
-    → AreAsks conn (steps ++ asks conn line out ∷ []) (taken ++ line) (given ++ out)
-asks_more conn [] taken given line out p = (
+-- one line behind none
+one_ask : (conn : ℕ) (taken given line out : List ℕ) → (taken ≡ []) × (given ≡ [])
+    → (conn ≡ conn) × (more : List ℕ) × (later : List ℕ) × ((more ≡ []) × (later ≡ [])) × (taken ++ line ≡ line ++ more) × (given ++ out ≡ out ++ later)
+one_ask conn taken given line out p = (
   refl,
   [],
   [],
@@ -140,23 +192,39 @@ asks_more conn [] taken given line out p = (
   ap (λ t. t ++ line) p.0 ∙ sym (append-nil line),
   ap (λ t. t ++ out) p.1 ∙ sym (append-nil out),
 )
-asks_more conn (comes k ∷ steps) taken given line out p = absurd p
-asks_more conn (asks k l o ∷ steps) taken given line out p = (
+
+pub asks_more : (conn : ℕ) (steps : List Step) (taken given line out : List ℕ) (step : Step) → IsAskOf conn line out step
+    → AreAsks conn steps taken given → AreAsks conn (steps ++ step ∷ []) (taken ++ line) (given ++ out)
+asks_more conn [] taken given line out step is p = elim is [
+  | inl same ↦ subst (λ s. AreAsks conn (s ∷ []) (taken ++ line) (given ++ out)) (sym same) (one_ask conn taken given line out p)
+  | inr same ↦ subst (λ s. AreAsks conn (s ∷ []) (taken ++ line) (given ++ out)) (sym same) (one_ask conn taken given line out p)
+]
+asks_more conn (comes k ∷ steps) taken given line out step is p = absurd p
+asks_more conn (asks k l o ∷ steps) taken given line out step is p = (
   p.0,
   p.1 ++ line,
   p.2 ++ out,
-  asks_more conn steps p.1 p.2 line out p.3,
+  asks_more conn steps p.1 p.2 line out step is p.3,
   ap (λ t. t ++ line) p.4 ∙ append_assoc l p.1 line,
   ap (λ t. t ++ out) p.5 ∙ append_assoc o p.2 out,
 )
-asks_more conn (tells k l o ∷ steps) taken given line out p = absurd p
-asks_more conn (undoes k o ∷ steps) taken given line out p = absurd p
-asks_more conn (goes k ∷ steps) taken given line out p = absurd p
+asks_more conn (denies k l o ∷ steps) taken given line out step is p = (
+  p.0,
+  p.1 ++ line,
+  p.2 ++ out,
+  asks_more conn steps p.1 p.2 line out step is p.3,
+  ap (λ t. t ++ line) p.4 ∙ append_assoc l p.1 line,
+  ap (λ t. t ++ out) p.5 ∙ append_assoc o p.2 out,
+)
+asks_more conn (tells k l o ∷ steps) taken given line out step is p = absurd p
+asks_more conn (undoes k o ∷ steps) taken given line out step is p = absurd p
+asks_more conn (goes k ∷ steps) taken given line out step is p = absurd p
 
 pub undos_more : (conn : ℕ) (steps : List Step) (out : List ℕ) → AreUndos conn steps → AreUndos conn (steps ++ undoes conn out ∷ [])
 undos_more conn [] out p = (refl, tt)
 undos_more conn (comes k ∷ steps) out p = absurd p
 undos_more conn (asks k l o ∷ steps) out p = absurd p
+undos_more conn (denies k l o ∷ steps) out p = absurd p
 undos_more conn (tells k l o ∷ steps) out p = absurd p
 undos_more conn (undoes k o ∷ steps) out p = (p.0, undos_more conn steps out p.1)
 undos_more conn (goes k ∷ steps) out p = absurd p
@@ -185,6 +253,5 @@ pub waits_more : (all taken line w v : List ℕ) → all ≡ taken ++ w → w �
 waits_more all taken line w v p q = p ∙ ap (λ t. taken ++ t) q ∙ sym (append_assoc taken line v)
 
 -- a line asked by a connection of this number
-pub asks_of : (k conn : ℕ) (line out : List ℕ) (old new : HubState) (a b : Option (List ℕ)) → k ≡ conn → Makes (asks k line out ∷ []) old new a b
-    → Makes (asks conn line out ∷ []) old new a b
-asks_of k conn line out old new a b is p = subst (λ n. Makes (asks n line out ∷ []) old new a b) is p
+pub asks_of : (k conn : ℕ) (line out : List ℕ) (step : Step) → k ≡ conn → IsAskOf k line out step → IsAskOf conn line out step
+asks_of k conn line out step is p = subst (λ n. IsAskOf n line out step) is p

@@ -18,7 +18,7 @@ use Rattle.mi_clients.specs.Input.{waiting}
 use Rattle.mi_clients.specs.Lines.{SameLines, Ends}
 use Rattle.mi_clients.specs.Client.{owed, Owes, HasRoom, MayTell, IsAsked, IsHeard, AsksWhatCame, IsAsFar, Takes, GoesOn, IsWhole, BreaksWith, IsSame, IsRead, IsServed}
 use Rattle.mi_clients.specs.Row.{EachServed, EachAsked, EachTakes, EachSame, EachRead, OpenOnlyAsk, NoneIsWhole, AllBreakWith, TellsWhatIs, Joins}
-use Rattle.mi_clients.specs.Steps.{Step, comes, asks, tells, undoes, goes, given_to, asked_by, told_by, reply_to, GivesOnly, GivesNone, AsksOnly, OnlyAsks}
+use Rattle.mi_clients.specs.Steps.{Step, comes, asks, denies, tells, undoes, goes, given_to, asked_by, told_by, reply_to, GivesOnly, GivesNone, AsksOnly, OnlyAsks}
 use Rattle.mi_clients.specs.Steps.{AreAsks, AreUndos, AreTells, AllTell, TellsNone, TellsSo, DoneBy}
 use Rattle.mi_clients.specs.declared.client.Client.{Client}
 use Rattle.mi_clients.specs.declared.client.Phase.{Phase}
@@ -94,6 +94,7 @@ pub quiet_join : (xs ys : List Step) → TellsNone xs → TellsNone ys → Tells
 quiet_join [] ys p q = q
 quiet_join (comes j ∷ xs) ys p q = quiet_join xs ys p q
 quiet_join (asks j line reply ∷ xs) ys p q = quiet_join xs ys p q
+quiet_join (denies j line reply ∷ xs) ys p q = quiet_join xs ys p q
 quiet_join (tells j line text ∷ xs) ys p q = absurd p
 quiet_join (undoes j reply ∷ xs) ys p q = quiet_join xs ys p q
 quiet_join (goes j ∷ xs) ys p q = quiet_join xs ys p q
@@ -102,6 +103,7 @@ pub asks_quiet : (conn : ℕ) (steps : List Step) (taken given : List ℕ) → A
 asks_quiet conn [] taken given p = tt
 asks_quiet conn (comes j ∷ steps) taken given p = absurd p
 asks_quiet conn (asks j line reply ∷ steps) taken given p = asks_quiet conn steps p.1 p.2 p.3
+asks_quiet conn (denies j line reply ∷ steps) taken given p = asks_quiet conn steps p.1 p.2 p.3
 asks_quiet conn (tells j line text ∷ steps) taken given p = absurd p
 asks_quiet conn (undoes j reply ∷ steps) taken given p = absurd p
 asks_quiet conn (goes j ∷ steps) taken given p = absurd p
@@ -110,6 +112,7 @@ pub undos_quiet : (conn : ℕ) (steps : List Step) → AreUndos conn steps → T
 undos_quiet conn [] p = tt
 undos_quiet conn (comes j ∷ steps) p = absurd p
 undos_quiet conn (asks j line reply ∷ steps) p = absurd p
+undos_quiet conn (denies j line reply ∷ steps) p = absurd p
 undos_quiet conn (tells j line text ∷ steps) p = absurd p
 undos_quiet conn (undoes j reply ∷ steps) p = undos_quiet conn steps p.1
 undos_quiet conn (goes j ∷ steps) p = absurd p
@@ -120,6 +123,8 @@ none_quiet [] acts old new p none = tt
 none_quiet (comes j ∷ steps) acts old new p none = none_quiet steps p.2 p.0 new p.4 none
 none_quiet (asks j line reply ∷ steps) acts old new p none =
     none_quiet steps p.2 p.0 new p.4 (λ k. back_none (reply_to k (asks j line reply)) (given_to k steps) (none k))
+none_quiet (denies j line reply ∷ steps) acts old new p none =
+    none_quiet steps p.2 p.0 new p.4 (λ k. back_none (reply_to k (denies j line reply)) (given_to k steps) (none k))
 none_quiet (tells j line text ∷ steps) acts old new p none =
     absurd (p.3.3 (front_none text (given_to j steps) (sym (ap (λ b. cond b text [] ++ given_to j steps) (same_test j)) ∙ none j)))
 none_quiet (undoes j reply ∷ steps) acts old new p none = none_quiet steps p.2 p.0 new p.4 none
@@ -129,6 +134,7 @@ pub quiet_so : (status schema : List ℕ) (steps : List Step) → TellsNone step
 quiet_so status schema [] p = tt
 quiet_so status schema (comes j ∷ steps) p = quiet_so status schema steps p
 quiet_so status schema (asks j line reply ∷ steps) p = quiet_so status schema steps p
+quiet_so status schema (denies j line reply ∷ steps) p = quiet_so status schema steps p
 quiet_so status schema (tells j line text ∷ steps) p = absurd p
 quiet_so status schema (undoes j reply ∷ steps) p = quiet_so status schema steps p
 quiet_so status schema (goes j ∷ steps) p = quiet_so status schema steps p
@@ -137,6 +143,7 @@ pub so_join : (status schema : List ℕ) (xs ys : List Step) → TellsSo status 
 so_join status schema [] ys p q = q
 so_join status schema (comes j ∷ xs) ys p q = so_join status schema xs ys p q
 so_join status schema (asks j line reply ∷ xs) ys p q = so_join status schema xs ys p q
+so_join status schema (denies j line reply ∷ xs) ys p q = so_join status schema xs ys p q
 so_join status schema (tells j line text ∷ xs) ys p q = (p.0, so_join status schema xs ys p.1 q)
 so_join status schema (undoes j reply ∷ xs) ys p q = so_join status schema xs ys p q
 so_join status schema (goes j ∷ xs) ys p q = so_join status schema xs ys p q
@@ -147,6 +154,7 @@ pub tells_only : (conn : ℕ) (steps : List Step) → AreTells conn steps → Gi
 tells_only conn [] p = λ k other. refl
 tells_only conn (comes j ∷ steps) p = absurd p
 tells_only conn (asks j line reply ∷ steps) p = absurd p
+tells_only conn (denies j line reply ∷ steps) p = absurd p
 tells_only conn (tells j line text ∷ steps) p = λ k other.
     ap (λ n. cond (nat_eq n k) text [] ++ given_to k steps) p.0
     ∙ ap (λ b. cond b text [] ++ given_to k steps) other
@@ -158,6 +166,7 @@ pub tells_asked : (conn : ℕ) (steps : List Step) → AreTells conn steps → A
 tells_asked conn [] p = λ k other. refl
 tells_asked conn (comes j ∷ steps) p = absurd p
 tells_asked conn (asks j line reply ∷ steps) p = absurd p
+tells_asked conn (denies j line reply ∷ steps) p = absurd p
 tells_asked conn (tells j line text ∷ steps) p = λ k other.
     ap (λ n. cond (nat_eq n k) line [] ++ asked_by k steps) p.0
     ∙ ap (λ b. cond b line [] ++ asked_by k steps) other
@@ -169,6 +178,7 @@ pub tells_all : (conn : ℕ) (steps : List Step) → AreTells conn steps → All
 tells_all conn [] p = tt
 tells_all conn (comes j ∷ steps) p = absurd p
 tells_all conn (asks j line reply ∷ steps) p = absurd p
+tells_all conn (denies j line reply ∷ steps) p = absurd p
 tells_all conn (tells j line text ∷ steps) p = tells_all conn steps p.1
 tells_all conn (undoes j reply ∷ steps) p = absurd p
 tells_all conn (goes j ∷ steps) p = absurd p
@@ -177,6 +187,7 @@ pub tell_join : (xs ys : List Step) → AllTell xs → AllTell ys → AllTell (x
 tell_join [] ys p q = q
 tell_join (comes j ∷ xs) ys p q = absurd p
 tell_join (asks j line reply ∷ xs) ys p q = absurd p
+tell_join (denies j line reply ∷ xs) ys p q = absurd p
 tell_join (tells j line text ∷ xs) ys p q = tell_join xs ys p q
 tell_join (undoes j reply ∷ xs) ys p q = absurd p
 tell_join (goes j ∷ xs) ys p q = absurd p
@@ -186,6 +197,7 @@ tell_alone : (k : ℕ) (steps : List Step) → AllTell steps → OnlyAsks k step
 tell_alone k [] p = tt
 tell_alone k (comes j ∷ steps) p = absurd p
 tell_alone k (asks j line reply ∷ steps) p = absurd p
+tell_alone k (denies j line reply ∷ steps) p = absurd p
 tell_alone k (tells j line text ∷ steps) p = tell_alone k steps p
 tell_alone k (undoes j reply ∷ steps) p = absurd p
 tell_alone k (goes j ∷ steps) p = absurd p
@@ -195,6 +207,7 @@ tell_lines : (k : ℕ) (steps : List Step) → AllTell steps → told_by k steps
 tell_lines k [] p = refl
 tell_lines k (comes j ∷ steps) p = absurd p
 tell_lines k (asks j line reply ∷ steps) p = absurd p
+tell_lines k (denies j line reply ∷ steps) p = absurd p
 tell_lines k (tells j line text ∷ steps) p = ap (λ t. cond (nat_eq j k) line [] ++ t) (tell_lines k steps p)
 tell_lines k (undoes j reply ∷ steps) p = absurd p
 tell_lines k (goes j ∷ steps) p = absurd p

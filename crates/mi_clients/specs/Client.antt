@@ -8,7 +8,7 @@ use Rattle.mi_clients.specs.Lines.{SameLines, Ends}
 use Rattle.mi_clients.specs.Heard.{heard, still_first, is_last}
 use Rattle.mi_clients.specs.Stream.{one_more}
 use Rattle.mi_clients.specs.ServiceLines.{is_service}
-use Rattle.mi_clients.specs.Steps.{Step, asks, given_to, told_by}
+use Rattle.mi_clients.specs.Steps.{Step, IsAskOf, given_to, told_by}
 use Rattle.mi_ledger.specs.Journals.{IsWholeLine}
 use Rattle.mi_hub.specs.Ended.{ended}
 use Rattle.mi_clients.specs.declared.client.Client.{Client}
@@ -99,8 +99,8 @@ IsBusy c = MayAsk c ⊎ (WantsBytes c ⊎ (IsTrue c.may_write × ¬ (unsent c.ou
 -- of that, had room.
 abbrev pub AsksWithin : {S : Type 0} → Client S → List Step → Type 0
 AsksWithin old steps =
-    (steps ≡ []) ⊎ (¬ (old.phase ≡ Broken) × (front : List Step) × (line : List ℕ) × (last : List ℕ) × (steps ≡ front ++ asks old.conn line last ∷ [])
-    × (length (owed old ++ given_to old.conn front) ≤ MOST_UNSENT))
+    (steps ≡ []) ⊎ (¬ (old.phase ≡ Broken) × (front : List Step) × (last : Step) × (steps ≡ front ++ last ∷ []) × (line : List ℕ) × (reply : List ℕ)
+    × IsAskOf old.conn line reply last × (length (owed old ++ given_to old.conn front) ≤ MOST_UNSENT))
 
 -- Between old and new these bytes waited of a connection or came, and it has asked these lines: they and what waits then have the lines that are
 -- heard. Behind a first line that begins as no command does no more comes.

@@ -1,19 +1,22 @@
 -- What a service does to its hub, one step after another. Connection 2 comes, asks to start a session, and goes away:
 -- comes 2, asks 2 "{\"cmd\":\"start\"}⏎" "{\"ok\":true,\"revision\":1}⏎", undoes 2 "{\"ok\":true,\"revision\":0}⏎", goes 2.
-use Rattle.std.specs.Prelude.{◌≡◌, ℕ, ◌<◌, List, [], ◌∷◌, ◌++◌, ◌==◌, true, false, if◌then◌else◌, codes, Option, Some, None}
+use Rattle.std.specs.Prelude.{◌≡◌, ◌⊎◌, ℕ, ◌<◌, List, [], ◌∷◌, ◌++◌, ◌==◌, Bool, true, false, if◌then◌else◌, codes, Option, Some, None}
 use Rattle.mi_commands.specs.declared.holder.Holder.{Holder}
 use Rattle.mi_hub.specs.Run.{HubState, Event, attach, piece, cut, Done}
 use Rattle.mi_replay.specs.Acts.{Act}
 use Rattle.mi_replay.specs.RunActs.{ActsOfDone}
 use Rattle.mi_ledger.specs.Journals.{Journals}
 use Rattle.mi_ledger.specs.Ledger.{holder_conn}
+use Rattle.mi_ledger.specs.Room.{IsTurnedAway}
+use Rattle.mi_model.specs.Database.{depth}
 use Rattle.mi_clients.specs.ServiceLines.{is_service, told_to}
 
--- A connection comes; it asks a line and this is the reply; the service tells it this text to a line of its own; a session is undone that it
--- leaves behind, and nobody hears the reply; it goes away.
+-- A connection comes; it asks a line and this is the reply; a line that it asks is turned away with this reply; the service tells it this text
+-- to a line of its own; a session is undone that it leaves behind, and nobody hears the reply; it goes away.
 pub data Step : Type 0 where
   comes : ℕ → Step
   asks : ℕ → List ℕ → List ℕ → Step
+  denies : ℕ → List ℕ → List ℕ → Step
   tells : ℕ → List ℕ → List ℕ → Step
   undoes : ℕ → List ℕ → Step
   goes : ℕ → Step
@@ -27,10 +30,13 @@ abbrev pub HubDoes : HubState → Event → List ℕ → List Act → HubState �
 HubDoes old event out acts new = Done old event out new × ActsOfDone old event out acts
 
 -- From old, a step is made; these are its acts, and new is left. A line that reaches the tables is none of the service's, and to one of the
--- service's some text is told, which changes nothing. A session that is undone is the connection's own: it is the holder.
+-- service's some text is told, which changes nothing. Nor does a line that is turned away, since the journal has no room for it. A session that
+-- is undone is the connection's own: it is the holder.
 abbrev pub StepDone : HubState → Step → List Act → HubState → Type 0
 StepDone old (comes conn) acts new = HubDoes old (attach conn) [] acts new
 StepDone old (asks conn line reply) acts new = HubDoes old (piece conn line) reply acts new × (is_service line ≡ false)
+StepDone old (denies conn line reply) acts new =
+    (acts ≡ []) × (new ≡ old) × (is_service line ≡ false) × IsTurnedAway (depth old.held.database) line reply
 StepDone old (tells conn line text) acts new = (acts ≡ []) × (new ≡ old) × (is_service line ≡ true) × ¬ (text ≡ [])
 StepDone old (undoes conn reply) acts new = HubDoes old (piece conn undo_bytes) reply acts new × (holder_conn old.held.holder ≡ Some conn)
 StepDone old (goes conn) acts new = HubDoes old (cut conn) [] acts new
@@ -47,11 +53,26 @@ pub record Makes (steps : List Step) (old new : HubState) (before after : Option
   pub done : DoneBy old steps acts new
   pub journal : Journals old.held new.held before after acts
 
+-- In a step this connection asks this line, and this is the reply: the line is done, or turned away.
+abbrev pub IsAskOf : ℕ → List ℕ → List ℕ → Step → Type 0
+IsAskOf conn line reply step = (step ≡ asks conn line reply) ⊎ (step ≡ denies conn line reply)
+
+-- whether a line is turned away in a step
+abbrev pub is_denial : Step → Bool
+is_denial (comes conn) = false
+is_denial (asks conn line reply) = false
+is_denial (denies conn line reply) = true
+is_denial (tells conn line text) = false
+is_denial (undoes conn reply) = false
+is_denial (goes conn) = false
+
 -- All of these steps are this connection asking a line: taken are their lines, one behind another, and given their replies.
 abbrev pub AreAsks : ℕ → List Step → List ℕ → List ℕ → Type 0
 AreAsks conn [] taken given = (taken ≡ []) × (given ≡ [])
 AreAsks conn (comes k ∷ steps) taken given = ⊥
 AreAsks conn (asks k line reply ∷ steps) taken given =
+    (k ≡ conn) × (more : List ℕ) × (later : List ℕ) × AreAsks conn steps more later × (taken ≡ line ++ more) × (given ≡ reply ++ later)
+AreAsks conn (denies k line reply ∷ steps) taken given =
     (k ≡ conn) × (more : List ℕ) × (later : List ℕ) × AreAsks conn steps more later × (taken ≡ line ++ more) × (given ≡ reply ++ later)
 AreAsks conn (tells k line text ∷ steps) taken given = ⊥
 AreAsks conn (undoes k reply ∷ steps) taken given = ⊥
@@ -62,6 +83,7 @@ abbrev pub AreUndos : ℕ → List Step → Type 0
 AreUndos conn [] = Unit {0}
 AreUndos conn (comes k ∷ steps) = ⊥
 AreUndos conn (asks k line reply ∷ steps) = ⊥
+AreUndos conn (denies k line reply ∷ steps) = ⊥
 AreUndos conn (tells k line text ∷ steps) = ⊥
 AreUndos conn (undoes k reply ∷ steps) = (k ≡ conn) × AreUndos conn steps
 AreUndos conn (goes k ∷ steps) = ⊥
@@ -71,6 +93,7 @@ abbrev pub AreTells : ℕ → List Step → Type 0
 AreTells conn [] = Unit {0}
 AreTells conn (comes k ∷ steps) = ⊥
 AreTells conn (asks k line reply ∷ steps) = ⊥
+AreTells conn (denies k line reply ∷ steps) = ⊥
 AreTells conn (tells k line text ∷ steps) = (k ≡ conn) × AreTells conn steps
 AreTells conn (undoes k reply ∷ steps) = ⊥
 AreTells conn (goes k ∷ steps) = ⊥
@@ -80,14 +103,16 @@ abbrev pub AllTell : List Step → Type 0
 AllTell [] = Unit {0}
 AllTell (comes k ∷ steps) = ⊥
 AllTell (asks k line reply ∷ steps) = ⊥
+AllTell (denies k line reply ∷ steps) = ⊥
 AllTell (tells k line text ∷ steps) = AllTell steps
 AllTell (undoes k reply ∷ steps) = ⊥
 AllTell (goes k ∷ steps) = ⊥
 
--- what a connection is replied in a step: only where it asks a line itself, or a text is told to its own line
+-- what a connection is replied in a step: only where it asks a line itself, which is done or turned away, or a text is told to its own line
 abbrev pub reply_to : ℕ → Step → List ℕ
 reply_to k (comes conn) = []
 reply_to k (asks conn line reply) = if conn == k then reply else []
+reply_to k (denies conn line reply) = if conn == k then reply else []
 reply_to k (tells conn line text) = if conn == k then text else []
 reply_to k (undoes conn reply) = []
 reply_to k (goes conn) = []
@@ -109,6 +134,7 @@ GivesNone steps = (k : ℕ) → given_to k steps ≡ []
 abbrev pub line_by : ℕ → Step → List ℕ
 line_by k (comes conn) = []
 line_by k (asks conn line reply) = if conn == k then line else []
+line_by k (denies conn line reply) = if conn == k then line else []
 line_by k (tells conn line text) = if conn == k then line else []
 line_by k (undoes conn reply) = []
 line_by k (goes conn) = []
@@ -130,6 +156,7 @@ AsksNone steps = (k : ℕ) → asked_by k steps ≡ []
 abbrev pub told_line : ℕ → Step → List ℕ
 told_line k (comes conn) = []
 told_line k (asks conn line reply) = []
+told_line k (denies conn line reply) = []
 told_line k (tells conn line text) = if conn == k then line else []
 told_line k (undoes conn reply) = []
 told_line k (goes conn) = []
@@ -144,6 +171,7 @@ abbrev pub TellsNone : List Step → Type 0
 TellsNone [] = Unit {0}
 TellsNone (comes conn ∷ steps) = TellsNone steps
 TellsNone (asks conn line reply ∷ steps) = TellsNone steps
+TellsNone (denies conn line reply ∷ steps) = TellsNone steps
 TellsNone (tells conn line text ∷ steps) = ⊥
 TellsNone (undoes conn reply ∷ steps) = TellsNone steps
 TellsNone (goes conn ∷ steps) = TellsNone steps
@@ -153,6 +181,7 @@ abbrev pub TellsSo : List ℕ → List ℕ → List Step → Type 0
 TellsSo status schema [] = Unit {0}
 TellsSo status schema (comes conn ∷ steps) = TellsSo status schema steps
 TellsSo status schema (asks conn line reply ∷ steps) = TellsSo status schema steps
+TellsSo status schema (denies conn line reply ∷ steps) = TellsSo status schema steps
 TellsSo status schema (tells conn line text ∷ steps) = (text ≡ told_to status schema line) × TellsSo status schema steps
 TellsSo status schema (undoes conn reply ∷ steps) = TellsSo status schema steps
 TellsSo status schema (goes conn ∷ steps) = TellsSo status schema steps
@@ -162,6 +191,7 @@ abbrev pub OnlyAsks : ℕ → List Step → Type 0
 OnlyAsks k [] = Unit {0}
 OnlyAsks k (comes conn ∷ steps) = ((conn == k) ≡ false) × OnlyAsks k steps
 OnlyAsks k (asks conn line reply ∷ steps) = OnlyAsks k steps
+OnlyAsks k (denies conn line reply ∷ steps) = OnlyAsks k steps
 OnlyAsks k (tells conn line text ∷ steps) = OnlyAsks k steps
 OnlyAsks k (undoes conn reply ∷ steps) = ((conn == k) ≡ false) × OnlyAsks k steps
 OnlyAsks k (goes conn ∷ steps) = ((conn == k) ≡ false) × OnlyAsks k steps

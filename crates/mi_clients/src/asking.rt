@@ -5,7 +5,7 @@ ghost use Rattle.mi_commands.specs.Holder.{held_by, released};
 ghost use Rattle.mi_hub.specs.Connections.{rest_at, others};
 ghost use Rattle.mi_ledger.specs.Ledger.{holder_conn};
 ghost use Rattle.mi_ledger.specs.Ledger.{hub_of, log_of, IsSettled};
-ghost use Rattle.mi_clients.specs.Steps.{Step, asks, Makes, GivesNone, AsksNone, AreAsks, AreUndos, LeavesOthers, HoldsSome};
+ghost use Rattle.mi_clients.specs.Steps.{Step, Makes, IsAskOf, is_denial, GivesNone, AsksNone, AreAsks, AreUndos, LeavesOthers, HoldsSome};
 ghost use Rattle.mi_clients.specs.Input.{waiting};
 ghost use Rattle.mi_ledger.specs.HeldReplies.{bytes_of};
 ghost use Rattle.mi_clients.specs.Output.{unsent};
@@ -101,7 +101,7 @@ fn release_each<D: Sessions + Drop, L: Log + Drop, S>(
 /// What came of asking the first whole line of a connection that waits.
 #[derive(Clone, Copy, Drop)]
 enum Found {
-    /// It is asked, and its reply is held.
+    /// It is asked, or turned away, and its reply is held.
     Asked,
     /// No whole line waits.
     Nothing,
@@ -109,17 +109,19 @@ enum Found {
     Service,
 }
 
-/// Asks the first whole line of a connection that waits, where it is none of the service's own.
+/// Asks the first whole line of a connection that waits, where it is none of the service's own. It is turned away where the ledger has no
+/// room for it.
 fn ask_line<D: Sessions + Drop, L: Log + Drop, S>(
     ledger: &mut Ledger<D, L>,
     client: &mut Client<S>,
 ) -> Result<Found, LedgerFault>
     requires here { rest_at client.old.conn (hub_of ledger.old).attached ≡ Some (Some []) }
     requires lines { IsTrue client.old.has_lines }
-    ensures one { IfOk result (λ found. found ≡ Found.Asked → (line : List ℕ) × (out : List ℕ) × (0 < length line)
+    ensures one { IfOk result (λ found. found ≡ Found.Asked → (line : List ℕ) × (out : List ℕ) × (step : Step)
+        × IsAskOf client.old.conn line out step × (0 < length line)
         × (waiting client.old.input ≡ line ++ waiting client.new.input) × (owed client.new ≡ owed client.old ++ out)
-        × Makes (asks client.old.conn line out ∷ []) (hub_of ledger.old) (hub_of ledger.new)
-        (L.appended (log_of ledger.old)) (L.appended (log_of ledger.new))) }
+        × Makes (step ∷ []) (hub_of ledger.old) (hub_of ledger.new) (L.appended (log_of ledger.old)) (L.appended (log_of ledger.new))
+        × (is_denial step ≡ true → L.lacks_room (log_of ledger.new) ≡ true)) }
     ensures none { IfOk result (λ found. found ≡ Found.Nothing → (client.new ≡ client.old) × (ledger.new ≡ ledger.old) × (ended (waiting client.old.input) ≡ [])) }
     ensures service { IfOk result (λ found. found ≡ Found.Service → (client.new ≡ client.old) × (ledger.new ≡ ledger.old) × IsAtService client.old) }
     ensures same { OnOk result ((client.new.conn ≡ client.old.conn) × (client.new.phase ≡ client.old.phase) × (client.new.stream ≡ client.old.stream)) }
@@ -134,7 +136,7 @@ fn ask_line<D: Sessions + Drop, L: Log + Drop, S>(
     if is_service(line) {
         return Ok(Found::Service);
     }
-    ledger.ask(client.conn, line, &mut client.held)?;
+    ledger.ask_in_room(client.alloc, client.conn, line, &mut client.held)?;
     let count = line.len();
     client.input.pass(count);
     Ok(Found::Asked)

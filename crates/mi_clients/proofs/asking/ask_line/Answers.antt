@@ -1,18 +1,43 @@
--- A line that is asked leaves who is attached.
-use Rattle.std.proofs.Common.{◌∙◌, ap}
+-- A line that is asked, or turned away, is a step, and leaves who is attached.
+use Rattle.std.proofs.Common.{◌≡◌, ◌<◌, ◌∙◌, [], ◌∷◌, ◌++◌, length, drop, sym, ap, subst, append_assoc, arith}
+use Rattle.std.proofs.lemmas.List.{length-append}
+use Rattle.std.proofs.Math.Seq.{drop-append_seam}
 use Rattle.mi_hub.specs.Ended.{ended}
+use Rattle.mi_ledger.specs.HeldReplies.{bytes_of}
 use Rattle.mi_ledger.specs.Ledger.{hub_of}
 use Rattle.mi_clients.specs.Input.{waiting}
+use Rattle.mi_clients.specs.Output.{unsent}
+use Rattle.mi_clients.proofs.StepLemmas.{line_step, line_attached}
 use Rattle.mi_clients.proofs.InputLemmas.{unended_drop}
-use Rattle.mi_clients.proofs.StepLemmas.{asks_attached}
 use Rattle.mi_clients.proofs.asking.ask_line.Goals as goal
-
-pub returns-clause-attached : goal.returns-clause-attached
-returns-clause-attached g c =
-    let asked = c.in_ok-ask.ensures.ok in
-    asks_attached c.args.client.now.conn _ asked.0 (hub_of c.args.ledger.now) (hub_of c.ask.new.self) _ _ c.requires.here asked.2
 
 -- where no line waited none does
 pub invariant_of-client-2-clause-all_asked : goal.invariant_of-client-2-clause-all_asked
 invariant_of-client-2-clause-all_asked g c = λ is.
     ap ended c.pass.ensures.waiting ∙ unended_drop _ (waiting c.args.client.now.input) (c.args.client.now.all_asked is)
+
+pub returns-clause-one : goal.returns-clause-one
+returns-clause-one g c = λ _.
+    let ask = c.in_ok-ask_in_room in
+    let line = c.in-Some.line.now in
+    let at = c.in-Some.ensures in
+    let one = line_step c.args.client.now.conn line (bytes_of c.args.client.now.held) (bytes_of c.ask_in_room.new.replies)
+    (hub_of c.args.ledger.now) (hub_of c.ask_in_room.new.self) _ _ _ ask.field-0 (sym c.if-is_service.ensures) ask.ensures.asked ask.ensures.turned_away in
+    let left : waiting c.pass.new.self ≡ at.1 =
+    c.pass.ensures.waiting ∙ ap (drop (length line)) at.2 ∙ drop-append_seam line at.1 in (
+      line,
+      one.0,
+      one.2,
+      one.3,
+      (subst (λ l. 0 < length l) (sym at.0.1) (omega (arith, length-append at.0.0 (10 ∷ [])))),
+      at.2 ∙ ap (λ w. line ++ w) (sym left),
+      ap (λ h. unsent c.args.client.now.output ++ h) one.1 ∙ sym (append_assoc (unsent c.args.client.now.output) (bytes_of c.args.client.now.held) one.0),
+      one.4,
+      one.5,
+    )
+
+pub returns-clause-attached : goal.returns-clause-attached
+returns-clause-attached g c =
+    let ask = c.in_ok-ask_in_room in
+    line_attached c.args.client.now.conn c.in-Some.line.now (bytes_of c.args.client.now.held) (bytes_of c.ask_in_room.new.replies)
+    (hub_of c.args.ledger.now) (hub_of c.ask_in_room.new.self) _ _ _ ask.field-0 c.requires.here ask.ensures.asked ask.ensures.turned_away

@@ -4,7 +4,6 @@ use Rattle.std.proofs.KnownBytes.{Keeps-refl}
 use Rattle.mi_hub.specs.Run.{HubState}
 use Rattle.mi_ledger.specs.Ledger.{hub_of}
 use Rattle.mi_clients.specs.Input.{waiting}
-use Rattle.mi_clients.specs.Steps.{asks}
 use Rattle.mi_clients.specs.Client.{MayAsk}
 use Rattle.mi_clients.specs.declared.client.Client.{Client}
 use Rattle.mi_clients.specs.declared.input.Input.{Input}
@@ -36,33 +35,35 @@ lines-preserved g c =
     let one = c.in_ok-ask_line.ensures.one c.in-Asked.is in
     let same = c.in_ok-ask_line.ensures.same in
     let conn = c.args.client.now.conn in
-    let step = asks conn one.0 one.1 in
+    let step = one.2 in
+    let own = asks_of c.lines.client.conn conn one.0 one.1 step before.owes.conn one.3 in
     let sound : ¬ (c.lines.client.phase ≡ Broken) = (c.may_ask.ensures.may.0 c.lines-test.true).0 in record {
       attached = ap (λ (s : HubState). s.attached) c.in_ok-release_each-in-Asked.ensures.hub ∙ c.in_ok-ask_line.ensures.attached ∙ before.attached;
       settled = c.in_ok-release_each-in-Asked.ensures.settled;
       steps = before.steps ++ step ∷ [];
       taken = before.taken ++ one.0;
       given = before.given ++ one.1;
-      own = asks_more conn before.steps before.taken before.given one.0 one.1 before.own;
+      own = asks_more conn before.steps before.taken before.given one.0 one.1 step own before.own;
       input = waits_more _ before.taken one.0 (waiting c.lines.client.input) _ before.input
-          (one.3 ∙ ap (λ i. one.0 ++ waiting i) (sym c.in_ok-release_each-in-Asked.ensures.input));
+          (one.5 ∙ ap (λ i. one.0 ++ waiting i) (sym c.in_ok-release_each-in-Asked.ensures.input));
       owes = owes_more before.given one.1 c.args.client.now c.lines.client c.ask_line.new.client c.release_each.new.client before.owes
-          (owes_reply one.1 c.lines.client c.ask_line.new.client same.0 same.2 one.4 sound) c.in_ok-release_each-in-Asked.ensures.owes;
+          (owes_reply one.1 c.lines.client c.ask_line.new.client same.0 same.2 one.6 sound) c.in_ok-release_each-in-Asked.ensures.owes;
       far = far_then c.args.client.now c.lines.client c.release_each.new.client before.far
           (far_then c.lines.client c.ask_line.new.client c.release_each.new.client (inr same.1) c.in_ok-release_each-in-Asked.ensures.phase);
       within = inr (
         λ broken. sound (before.owes.broken broken).0,
         before.steps,
+        step,
+        refl,
         one.0,
         one.1,
-        refl,
+        own,
         room_left c.args.client.now c.lines.client before.steps before.taken before.given before.own before.owes sound
             (c.may_ask.ensures.may.0 c.lines-test.true).2,
       );
       first = ap (λ (i : Input). i.is_first) c.in_ok-release_each-in-Asked.ensures.input ∙ c.in_ok-ask_line.ensures.first ∙ before.first;
       idle = λ no. absurd (no (subst (λ (x : Client _). MayAsk x) (before.idle no) (c.may_ask.ensures.may.0 c.lines-test.true)));
       makes = makes_kept (before.steps ++ step ∷ []) _ (hub_of c.ask_line.new.ledger) _ _ _ _
-          (makes_then before.steps (step ∷ []) _ (hub_of c.lines.ledger) _ _ _ _ before.makes
-          (asks_of c.lines.client.conn conn one.0 one.1 (hub_of c.lines.ledger) (hub_of c.ask_line.new.ledger) _ _ before.owes.conn one.5))
+          (makes_then before.steps (step ∷ []) _ (hub_of c.lines.ledger) _ _ _ _ before.makes one.7)
           c.in_ok-release_each-in-Asked.ensures.hub c.in_ok-release_each-in-Asked.ensures.appended;
     }
