@@ -1,10 +1,12 @@
 -- The first line of a journal, and what is done before the first connection comes.
-use Rattle.std.proofs.Common.{◌≡◌, ◌≤◌, ℕ, List, [], ◌∷◌, ◌++◌, length, Option, Some, None, sym, ◌∙◌, subst, append-nil, length-append, arith}
+use Rattle.std.proofs.Common.{◌≡◌, ◌≤◌, ℕ, List, [], ◌∷◌, ◌++◌, ◌-◌, length, drop, Bool, true, false, not, cond, ◌&&◌, ◌==◌, Option, Some, None, refl, sym, ap, ◌∙◌, subst, append-nil, append_assoc, length-append, arith}
+use Rattle.std.proofs.Math.Seq.{drop-append_seam}
+use Rattle.mi_log.specs.Room.{ends_no_line}
 use Rattle.std.specs.Prelude.{IfSome}
 use Rattle.std.specs.Io.KnownBytes.{Consumes, Keeps}
 use Rattle.mi_hub.specs.Run.{HubState}
 use Rattle.mi_commands.specs.Holder.{HeldDatabase}
-use Rattle.mi_hub.specs.Ended.{ended, if_none, after_newlines}
+use Rattle.mi_hub.specs.Ended.{put_front, ended, if_none, after_newlines}
 use Rattle.mi_clients.specs.Steps.{Step, Makes, GivesNone}
 use Rattle.mi_clients.proofs.StepLemmas.{makes_kept}
 use Rattle.mi_serving.specs.declared.device.Keeping.{Keeping}
@@ -39,12 +41,53 @@ after_within (b ∷ bs) = go (ended (b ∷ bs)) (after_within bs)
     go [] within = omega arith
     go (t ∷ ts) within = omega (arith, within)
 
+-- where no newline ends a text no line ends
+unended_none : (bs : List ℕ) → ended bs ≡ [] → ends_no_line bs ≡ true
+unfolding ended
+unended_none [] h = refl
+unended_none (b ∷ bs) h = by_head (b == 10) refl h (ended bs) refl (λ none. unended_none bs none)
+  where
+    by_head : (t : Bool) → (b == 10) ≡ t → cond t ([] ∷ ended bs) (put_front b (ended bs)) ≡ [] → (ts : List (List ℕ)) → ended bs ≡ ts
+        → (ended bs ≡ [] → ends_no_line bs ≡ true) → (not (b == 10) && ends_no_line bs) ≡ true
+    by_head true is e ts same more = absurd (cc)
+    by_head false is e [] same more = ap (λ x. not x && ends_no_line bs) is ∙ more same
+    by_head false is e (t ∷ ts) same more = absurd (some_front (sym (ap (put_front b) same) ∙ e))
+      where
+        some_front : (b ∷ t) ∷ ts ≡ [] → ⊥
+        some_front e = cc
+
+-- what stands behind the last newline is the end of all, and no line ends in it
+after_end : (bs : List ℕ) → (front : List ℕ) × (bs ≡ front ++ after_newlines bs) × (ends_no_line (after_newlines bs) ≡ true)
+unfolding after_newlines
+after_end [] = ([], refl, refl)
+after_end (b ∷ bs) = go (ended (b ∷ bs)) refl (after_end bs)
+  where
+    go : (ts : List (List ℕ)) → ended (b ∷ bs) ≡ ts
+        → (front : List ℕ) × (bs ≡ front ++ after_newlines bs) × (ends_no_line (after_newlines bs) ≡ true)
+        → (front : List ℕ) × (b ∷ bs ≡ front ++ if_none ts (b ∷ bs) (after_newlines bs))
+        × (ends_no_line (if_none ts (b ∷ bs) (after_newlines bs)) ≡ true)
+    go [] is p = ([], refl, unended_none (b ∷ bs) is)
+    go (t ∷ ts) is p = (b ∷ p.0, ap (λ l. b ∷ l) p.1, p.2)
+
+-- so it is of a journal
+torn_none : (header rest bytes : List ℕ) (torn : ℕ) → bytes ≡ header ++ 10 ∷ rest → torn ≡ length (after_newlines rest)
+    → ends_no_line (drop (length bytes - torn) bytes) ≡ true
+torn_none header rest bytes torn is many =
+    let end = after_end rest in
+    let front = header ++ 10 ∷ end.0 in
+    let all : bytes ≡ front ++ after_newlines rest =
+    is ∙ ap (λ r. header ++ 10 ∷ r) end.1 ∙ sym (append_assoc header (10 ∷ end.0) (after_newlines rest)) in
+    let size : length bytes - torn ≡ length front =
+    omega (arith, many, ap length all ∙ length-append front (after_newlines rest)) in
+    ap (λ n. ends_no_line (drop n bytes)) size ∙ ap (λ b. ends_no_line (drop (length front) b)) all
+    ∙ ap ends_no_line (drop-append_seam front (after_newlines rest)) ∙ end.2
+
 -- what is recovered was found
 found_of : (header bytes : List ℕ) (found : Journaled) (old new : HeldDatabase) → IsRecovered header bytes found old new → IsFound header bytes found
 found_of header bytes Nothing old new p = p.0
 found_of header bytes (Journal torn) old new p =
     let within : torn ≤ length p.0 = rw p.2.1 (after_within p.0) in
-    rw (p.1, length-append) (omega (arith, within))
+    (rw (p.1, length-append) (omega (arith, within)), torn_none header p.0 bytes torn p.1 p.2.1)
 
 pub found_after : (o : Option (List ℕ)) (header same : List ℕ) (found : Journaled) (old new : HeldDatabase) → header ≡ same
     → IfSome o (λ bytes. IsRecovered header bytes found old new) → IfSome o (λ bytes. IsFound same bytes found)

@@ -30,4 +30,4 @@ told_of contents d = if is_staying d then written_to contents d else None
 
 -- whether its file lacks room, where it has one
 abbrev pub lacks_room : {F : Type 0} → (F → Bool) → JournalDevice F → Bool
-lacks_room lacks d = option_map_or false lacks d.file
+lacks_room lacks d = option_map_or lacks d.file false

@@ -1,10 +1,11 @@
 //! The journal at the start: what it has is asked again, a torn end of it is cut off, and it is opened to go on with, under a name that stays.
-ghost use Rattle.std.specs.Prelude.{◌≡◌, ◌-◌, ◌++◌, ◌∷◌, List, [], ℕ, true, false, take, length, Some, Ok, OnOk, IfOk, IfErr, IfSome};
+ghost use Rattle.std.specs.Prelude.{◌≡◌, ◌-◌, ◌++◌, ◌∷◌, List, [], ℕ, true, false, take, drop, length, Some, Ok, OnOk, IfOk, IfErr, IfSome};
 ghost use Rattle.std.specs.Io.BufRead.{ends_with_byte};
 ghost use Rattle.std.specs.Io.KnownBytes.{Keeps, Appends};
 ghost use Rattle.mi_log.specs.LogLines.{reader_of};
 ghost use Rattle.mi_replay.specs.Replayed.{replayer};
 ghost use Rattle.mi_log.specs.DeviceLog.{device_of};
+ghost use Rattle.mi_log.specs.Room.{ends_no_line};
 ghost use Rattle.mi_ledger.specs.Ledger.{hub_of, log_of};
 ghost use Rattle.mi_serving.specs.Device.{is_synced, is_staying, told_of};
 ghost use Rattle.mi_clients.specs.Row.{fresh};
@@ -218,8 +219,9 @@ fn begun<F: JournalFile + Drop>(
     Ok(log)
 }
 
-/// Cuts so many bytes off the end of a file.
+/// Cuts so many bytes off the end of a file, among which no newline is.
 fn cut_off<F: JournalFile>(file: &mut F, torn: u64) -> Result<(), Fault>
+    requires { IfSome (F.contents file.old) (λ bytes. ends_no_line (drop (length bytes - torn) bytes) ≡ true) }
     ensures { OnOk result (IfSome (F.contents file.old) (λ bytes. F.contents file.new ≡ Some (take (length bytes - torn) bytes))) }
 {
     if torn == 0 {
