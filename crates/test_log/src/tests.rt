@@ -1,8 +1,11 @@
 //! A log over a device that fails, over a file, and lines out of bytes.
-use mi_log::{DeviceLog, Log, LogLines, MemoryDevice, OpenedFile, header_line};
+use mi_log::{DeviceLog, Log, LogLines, MemoryDevice, PlacedFile, RoomFile, header_line};
+use std::alloc::Global;
+use std::cell::Cell;
 use std::fs::OpenOptions;
+use std::io::{Error, ErrorKind};
 use std::test::Fail;
-use std::{fs, process};
+use std::{fs, io, process};
 
 /// Two lines by writes of at most three bytes, each synced: a call of the device fails, for each in turn, and those behind it.
 #[test]
@@ -32,18 +35,78 @@ fn fails_at_each_call(rt: HostRuntime) -> Result<(), Fail> {
     Ok(())
 }
 
-/// What is appended stands behind what the file had.
+/// What is appended stands behind what is kept of the file, and room behind that.
 #[test]
 fn a_file_is_appended_to(rt: HostRuntime) -> Result<(), Fail> {
     let path = format!(in rt.alloc(); "/tmp/mi_log-{}", process::id(rt.process()))?;
-    fs::write(&rt, path.as_str(), "ab\n")?;
-    let file = OpenOptions::new().append(true).open(&rt, path.as_str())?;
-    let mut log = DeviceLog::new(OpenedFile::new(file));
+    fs::write(&rt, path.as_str(), "ab\ntorn")?;
+    let file = OpenOptions::new().write(true).open(&rt, path.as_str())?;
+    let mut device = RoomFile::new(file, 7);
+    device.keep(3);
+    let mut log = DeviceLog::new(device);
     assert!(rt; log.append(b"cd\n").is_ok());
     assert!(rt; log.sync().is_ok());
-    let text = fs::read_to_string(&rt, path.as_str())?;
+    let torn = fs::read_to_string(&rt, path.as_str())?;
+    assert!(rt; log.make_room(100));
+    assert!(rt; log.append(b"efg\n").is_ok());
+    let text = fs::read(&rt, path.as_str())?;
     fs::remove_file(&rt, path.as_str())?;
-    assert!(rt; text.as_str() == "ab\ncd\n");
+    assert!(rt; torn.as_str() == "ab\ncd\nn");
+    assert!(rt; text.len() >= 1_048_576 + 106);
+    assert!(rt; text.starts_with(b"ab\ncd\nefg\n\0"));
+    assert!(rt; text.ends_with(b"\0"));
+    Ok(())
+}
+
+/// A file on a disk that has room for so many bytes of it.
+#[derive(Drop)]
+struct SmallDisk<'a> {
+    alloc: Global,
+    bytes: &'a Cell<Vec<u8>>,
+    most: usize,
+}
+
+impl<'a> PlacedFile for SmallDisk<'a> {
+    fn write_at(&mut self, bytes: &[u8], at: u64) -> io::Result<usize> {
+        let mut all = self.bytes.replace(Vec::new(self.alloc));
+        let count = bytes.len().min(self.most.saturating_sub(at as usize));
+        let (front, _) = bytes.split_at(count);
+        let over = all.len().saturating_sub(at as usize).min(count);
+        let (old, new) = front.split_at(over);
+        let place = (at as usize).min(all.len());
+        all.as_mut_slice()[place..place + over].copy_from_slice(old);
+        let added = all.extend_from_slice(new);
+        self.bytes.set(all);
+        if count == 0 || added.is_err() {
+            return Err(Error::from(ErrorKind::StorageFull));
+        }
+        Ok(count)
+    }
+
+    fn sync_data(&mut self) -> io::Result<()> {
+        Ok(())
+    }
+}
+
+/// As much room is made as the disk has, none is told that isn't there, and what has room is written.
+#[test]
+fn a_small_disk(rt: HostRuntime) -> Result<(), Fail> {
+    let bytes = Cell::new(Vec::new(rt.alloc()));
+    let disk = SmallDisk {
+        alloc: rt.alloc(),
+        bytes: &bytes,
+        most: 20_000,
+    };
+    let mut log = DeviceLog::new(RoomFile::new(disk, 0));
+    assert!(rt; log.append(b"ab\n").is_ok());
+    assert!(rt; log.make_room(19_997));
+    assert!(rt; !log.make_room(19_998));
+    assert!(rt; log.append(b"cd\n").is_ok());
+    assert!(rt; log.make_room(19_994));
+    assert!(rt; !log.make_room(19_995));
+    let text = bytes.replace(Vec::new(rt.alloc()));
+    assert_eq!(rt; text.len(), 20_000);
+    assert!(rt; text.starts_with(b"ab\ncd\n\0"));
     Ok(())
 }
 

@@ -89,9 +89,16 @@ fn turn<'a, D: Sessions + Drop, L: Log + Drop>(
     }
 }
 
-/// Three turns of two connections, 2 and 3, that have sent these bytes.
-fn serve_two<'a>(alloc: Global, first: Pipe<'a>, second: Pipe<'a>) -> Result<(), Fail> {
-    let log = DeviceLog::new(MemoryDevice::new(alloc, 100, 100));
+/// Three turns of two connections, 2 and 3, that have sent these bytes, over a journal that has room for so many.
+fn serve_two<'a>(
+    alloc: Global,
+    room: usize,
+    first: Pipe<'a>,
+    second: Pipe<'a>,
+) -> Result<(), Fail> {
+    let mut device = MemoryDevice::new(alloc, 100, 100);
+    device.set_size(room);
+    let log = DeviceLog::new(device);
     let mut ledger = Ledger::<Plain, DeviceLog<MemoryDevice>>::new(hub(alloc)?, log);
     let mut row = Vec::new(alloc);
     come(alloc, &mut ledger, &mut row, 2, first)?;
@@ -103,6 +110,11 @@ fn serve_two<'a>(alloc: Global, first: Pipe<'a>, second: Pipe<'a>) -> Result<(),
 
 /// What is replied to connection 3, beside connection 2, which has sent other bytes.
 fn replied(alloc: Global, beside: &[u8], bytes: &[u8]) -> Result<Vec<u8>, Fail> {
+    replied_in(alloc, usize::MAX, beside, bytes)
+}
+
+/// The same over a journal that has room for so many bytes.
+fn replied_in(alloc: Global, room: usize, beside: &[u8], bytes: &[u8]) -> Result<Vec<u8>, Fail> {
     let (unheard, out) = (Cell::new(Vec::new(alloc)), Cell::new(Vec::new(alloc)));
     let first = Pipe {
         alloc,
@@ -114,7 +126,7 @@ fn replied(alloc: Global, beside: &[u8], bytes: &[u8]) -> Result<Vec<u8>, Fail> 
         bytes,
         out: &out,
     };
-    serve_two(alloc, first, second)?;
+    serve_two(alloc, room, first, second)?;
     Ok(out.replace(Vec::new(alloc)))
 }
 
@@ -142,6 +154,23 @@ fn lines_keep_their_turns(rt: HostRuntime) -> Result<(), Fail> {
     let want =
         b"{\"ok\":true,\"size\":0}\n{\"ok\":true,\"schema\":\"a \\\"t\\\"\\n\"}\n{\"error\":\"busy\",\"ok\":false}\n\
 {\"error\":\"form\",\"ok\":false}\n{\"error\":\"form\",\"ok\":false}\n";
+    assert!(rt; out.as_slice() == want.as_slice());
+    Ok(())
+}
+
+/// Behind a start there is room for four bytes more than for undoing all sessions: a change waits, look-ups and the undo don't.
+#[test]
+fn a_full_journal_turns_changes_away(rt: HostRuntime) -> Result<(), Fail> {
+    let out = replied_in(
+        rt.alloc(),
+        65_536 + 20,
+        b"",
+        b"{\"cmd\":\"start\"}\n{\"cmd\":\"insert\",\"row\":{\"owner\":\"ann\",\"balance\":50,\"vip\":false}}\n{\"cmd\":\"size\"}\n\
+{\"cmd\":\"undo\"}\n{\"cmd\":\"start\"}\n{\"cmd\":\"revision\"}\n",
+    )?;
+    let want =
+        b"{\"ok\":true,\"revision\":1}\n{\"error\":\"journal\",\"ok\":false}\n{\"ok\":true,\"size\":0}\n{\"ok\":true,\"revision\":0}\n\
+{\"error\":\"journal\",\"ok\":false}\n{\"depth\":0,\"held\":0,\"ok\":true,\"revision\":0}\n";
     assert!(rt; out.as_slice() == want.as_slice());
     Ok(())
 }

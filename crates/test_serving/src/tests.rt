@@ -81,6 +81,10 @@ struct MemoryFile {
 }
 
 impl Device for MemoryFile {
+    fn make_room(&mut self, _bytes: u64) -> bool {
+        true
+    }
+
     fn write(&mut self, bytes: &[u8]) -> io::Result<usize> {
         match self.bytes.extend_from_slice(bytes) {
             Ok(()) => Ok(bytes.len()),
