@@ -49,10 +49,11 @@ module _ {S : Type 0} where
       subst (λ n. n ≤ last) (sym old.2.conn) (all old.0 (in_to a old.0 old.1))
 
   pub up_to_ids : (last : ℕ) (a b : List (Client S)) → AllUpTo last a → ids b ≡ ids a → AllUpTo last b
-  up_to_ids last a b all same = λ c here.
-      let old = find c a b same (in_from b c here) in
-      subst (λ n. n ≤ last) old.2 (all old.0 (in_to a old.0 old.1))
+  up_to_ids last a b all same = λ c here. below c (find c a b same (in_from b c here))
     where
+      below : (c : Client S) → (d : Client S) × IsIn d a × (d.conn ≡ c.conn) → c.conn ≤ last
+      below c (d, there, is) = subst (λ n. n ≤ last) is (all d (in_to a d there))
+
       find : (c : Client S) (a b : List (Client S)) → ids b ≡ ids a → IsIn c b → (d : Client S) × IsIn d a × (d.conn ≡ c.conn)
       find c [] [] e here = absurd here
       find c [] (y ∷ b) e here = cc
