@@ -8,3 +8,5 @@ mod InputLemmas
 mod HeardLemmas
 mod UndoneLemmas
 mod HoldingLemmas
+mod EndingLemmas
+mod DigitLemmas

@@ -1,5 +1,5 @@
 -- What the service tells, one step behind another, and over a row.
-use Rattle.std.proofs.Common.{◌≡◌, ◌⊎◌, inl, inr, ℕ, ℤ, ◌<◌, List, [], ◌∷◌, ◌++◌, length, codes, nat_eq, cond, Bool, true, false, Option, refl, sym, ap, ◌∙◌, subst, append-nil, append_assoc, arith}
+use Rattle.std.proofs.Common.{◌≡◌, ◌⊎◌, inl, inr, ℕ, ℤ, ◌<◌, List, [], ◌∷◌, ◌++◌, length, codes, nat_eq, cond, Bool, true, false, Option, is_some, refl, sym, ap, ◌∙◌, subst, append-nil, append_assoc, arith}
 use Rattle.std.specs.Prelude.{IfSome}
 use Rattle.std.specs.List.{All}
 use Rattle.std.specs.Io.KnownBytes.{Consumes, IsAtEnd}
@@ -11,12 +11,12 @@ use Rattle.mi_ledger.specs.Journals.{IsWholeLine}
 use Rattle.mi_ledger.specs.Ledger.{holder_conn}
 use Rattle.mi_model.specs.Database.{Database}
 use Rattle.mi_clients.specs.Output.{unsent}
-use Rattle.mi_clients.specs.ServiceLines.{is_service, asks_status, asks_schema, form_line, told_to}
+use Rattle.mi_clients.specs.ServiceLines.{is_service, asks_status, asks_schema, ended_in, done_line, form_line, told_to}
 use Rattle.mi_clients.specs.Status.{listed, connection_text, database_text, status_line, memory_line}
 use Rattle.mi_clients.specs.Heard.{heard}
 use Rattle.mi_clients.specs.Input.{waiting}
 use Rattle.mi_clients.specs.Lines.{SameLines, Ends}
-use Rattle.mi_clients.specs.Client.{owed, Owes, HasRoom, MayTell, IsAsked, IsHeard, AsksWhatCame, IsAsFar, Takes, GoesOn, IsWhole, BreaksWith, IsSame, IsRead, IsServed}
+use Rattle.mi_clients.specs.Client.{owed, Owes, HasRoom, MayTell, IsAsked, IsHeard, AsksWhatCame, IsAsFar, ends_after, Takes, GoesOn, IsWhole, BreaksWith, IsSame, IsRead, IsServed}
 use Rattle.mi_clients.specs.Row.{EachServed, EachAsked, EachTakes, EachSame, EachRead, OpenOnlyAsk, NoneIsWhole, AllBreakWith, TellsWhatIs, Joins}
 use Rattle.mi_clients.specs.Steps.{Step, comes, asks, denies, tells, undoes, goes, given_to, asked_by, told_by, reply_to, GivesOnly, GivesNone, AsksOnly, OnlyAsks}
 use Rattle.mi_clients.specs.Steps.{AreAsks, AreUndos, AreTells, AllTell, TellsNone, TellsSo, DoneBy}
@@ -59,12 +59,13 @@ bytes_some x xs e = cc
 
 -- and so has what is told to it
 pub told_some : (status schema line : List ℕ) → ¬ (status ≡ []) → ¬ (schema ≡ []) → ¬ (told_to status schema line ≡ [])
-told_some status schema line p q = by_two (asks_status line) (asks_schema line)
+told_some status schema line p q = by_three (asks_status line) (asks_schema line) (is_some (ended_in line))
   where
-    by_two : (a b : Bool) → ¬ (cond a status (cond b schema form_line) ≡ [])
-    by_two true b = p
-    by_two false true = q
-    by_two false false = bytes_some _ _
+    by_three : (a b c : Bool) → ¬ (cond a status (cond b schema (cond c done_line form_line)) ≡ [])
+    by_three true b c = p
+    by_three false true c = q
+    by_three false false true = bytes_some _ _
+    by_three false false false = bytes_some _ _
 
 pub status_some : {S : Type 0} (row : List (Client S)) (s : HubState) → ¬ (status_line row s ≡ [])
 status_some row s = bytes_some _ _
@@ -221,6 +222,11 @@ tells_one_asked conn line text = ap (λ b. cond b line [] ++ []) (same_test conn
 
 -- ---- one connection
 
+-- what it has asked to end is that of the line, which has a byte
+ended_some : (before : Option ℕ) (line : List ℕ) → ¬ (line ≡ []) → ended_in line ≡ ends_after before line
+ended_some before [] some = absurd (some refl)
+ended_some before (b ∷ bs) some = refl
+
 broken_open : (p : Phase) → p ≡ Broken → p ≡ Open → ⊥
 broken_open p h k = cc
 
@@ -242,20 +248,23 @@ module _ {S : Type 0} where
     first = refl;
     far = inr refl;
     lines = refl;
+    ends = refl;
     other = λ also. (refl, refl);
     told = λ may. absurd (never may);
   }
 
   -- one that is told something to its line
   pub takes_line : (line : List ℕ) (a b : Client S) → MayTell a → ¬ (line ≡ []) → b.conn ≡ a.conn → b.stream ≡ a.stream
-      → waiting a.input ≡ line ++ waiting b.input → b.input.is_first ≡ a.input.is_first → IsAsFar a b → b.has_lines ≡ a.has_lines → Takes line a b
-  takes_line line a b may some conn stream waits first far lines = record {
+      → waiting a.input ≡ line ++ waiting b.input → b.input.is_first ≡ a.input.is_first → IsAsFar a b → b.has_lines ≡ a.has_lines → b.ends ≡ ended_in line
+      → Takes line a b
+  takes_line line a b may some conn stream waits first far lines ends = record {
     conn = conn;
     stream = stream;
     waits = waits;
     first = first;
     far = far;
     lines = lines;
+    ends = ends ∙ ended_some a.ends line some;
     other = λ no. absurd (no may);
     told = λ also. inr some;
   }

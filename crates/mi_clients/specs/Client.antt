@@ -7,7 +7,7 @@ use Rattle.mi_clients.specs.Input.{waiting}
 use Rattle.mi_clients.specs.Lines.{SameLines, Ends}
 use Rattle.mi_clients.specs.Heard.{heard, still_first, is_last}
 use Rattle.mi_clients.specs.Stream.{one_more}
-use Rattle.mi_clients.specs.ServiceLines.{is_service}
+use Rattle.mi_clients.specs.ServiceLines.{is_service, ended_in}
 use Rattle.mi_clients.specs.Steps.{Step, IsAskOf, given_to, told_by}
 use Rattle.mi_ledger.specs.Journals.{IsWholeLine}
 use Rattle.mi_hub.specs.Ended.{ended}
@@ -125,6 +125,11 @@ AsksWhatCame remaining taken old new =
 abbrev pub IsAsFar : {S : Type 0} → Client S → Client S → Type 0
 IsAsFar old new = (new.phase ≡ Broken) ⊎ (new.phase ≡ old.phase)
 
+-- what it has asked to end, once a line was told something
+abbrev pub ends_after : Option ℕ → List ℕ → Option ℕ
+ends_after before [] = before
+ends_after before (b ∷ bs) = ended_in (b ∷ bs)
+
 -- Between old and new the service may have told something to a line of a connection, whose bytes these are: the line is taken of what waited.
 -- One that stands at a line of the service is told something, or is broken; any other is as it was.
 pub record Takes {S : Type 0} (taken : List ℕ) (old new : Client S) : Type 0 where
@@ -134,6 +139,7 @@ pub record Takes {S : Type 0} (taken : List ℕ) (old new : Client S) : Type 0 w
   pub first : new.input.is_first ≡ old.input.is_first
   pub far : IsAsFar old new
   pub lines : new.has_lines ≡ old.has_lines
+  pub ends : new.ends ≡ ends_after old.ends taken
   pub other : ¬ MayTell old → (new ≡ old) × (taken ≡ [])
   pub told : MayTell old → (new.phase ≡ Broken) ⊎ ¬ (taken ≡ [])
 

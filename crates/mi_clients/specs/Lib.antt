@@ -11,4 +11,5 @@ pub mod Client
 pub mod Status
 pub mod Row
 pub mod Silence
+pub mod Ending
 pub mod Laws

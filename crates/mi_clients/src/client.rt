@@ -57,6 +57,8 @@ pub struct Client<S> {
     heard_at: u64,
     /// Whether a whole line of it may wait to be asked.
     pub(crate) has_lines: bool,
+    /// The number of a connection that it has asked to end, as long as that isn't done.
+    pub(crate) ends: Option<u64>,
     /// Where memory for it comes from.
     pub(crate) alloc: Global,
     /// Where no line may wait, none does.
@@ -71,6 +73,7 @@ impl<S> Client<S> {
     ghost use Rattle.mi_clients.specs.ServiceLines.{is_service};
     ghost use Rattle.mi_clients.specs.Client.{owed, IsOver, HasRoom, MayAsk, MayTell, IsAsked, WantsBytes, IsBusy, IsWoken, woken};
     ghost use Rattle.mi_clients.specs.Silence.{IsSilent, IsJudged};
+    ghost use Rattle.mi_clients.specs.Ending.{forgotten, IsEnded};
 
     /// A connection that has just come.
     pub(crate) fn new(alloc: Global, conn: u64, stream: S) -> Client<S>
@@ -96,6 +99,7 @@ impl<S> Client<S> {
             has_come: true,
             heard_at: 0,
             has_lines: false,
+            ends: None,
             alloc,
         }
     }
@@ -201,6 +205,25 @@ impl<S> Client<S> {
             self.has_come = false;
             self.heard_at = now;
         } else if self.is_silent(now, limit) {
+            self.phase = Phase::Broken;
+        }
+    }
+
+    /// What it has asked to end, which is noted no more.
+    pub(crate) fn take_end(&mut self) -> Option<u64>
+        ensures taken { result ≡ self.old.ends }
+        ensures same { self.new ≡ forgotten self.old }
+    {
+        let ends = self.ends;
+        self.ends = None;
+        ends
+    }
+
+    /// It is given up, where it has this number.
+    pub(crate) fn end(&mut self, conn: u64)
+        ensures { IsEnded conn self.old self.new }
+    {
+        if self.conn == conn {
             self.phase = Phase::Broken;
         }
     }

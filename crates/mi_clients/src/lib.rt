@@ -6,6 +6,7 @@
 mod asking;
 mod client;
 mod duplex;
+mod ending;
 mod input;
 pub mod laws;
 mod lines;
@@ -21,6 +22,7 @@ mod telling;
 pub use asking::part;
 pub use client::Client;
 pub use duplex::Duplex;
+pub use ending::end_asked;
 pub use row::{Admission, admit, is_any_busy, serve_all, wake_one};
 pub use schema_line::SchemaLine;
 pub use silence::{Limits, give_up_silent};

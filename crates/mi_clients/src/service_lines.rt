@@ -26,7 +26,34 @@ fn asks_schema(line: &[u8]) -> bool
         || line == b"{\"service\":\"schema\"}\r\n".as_slice()
 }
 
-/// What is told to a line of the service: the status or the schema where it asks for one, and else that its form is refused.
+/// The number that decimal digits are, where they are some and it has room.
+fn number_in(digits: &[u8]) -> Option<u64>
+    ensures { result ≡ spec.number_in digits.now }
+{
+    if digits.starts_with(b"+") {
+        return None;
+    }
+    match str::from_utf8(digits) {
+        Ok(text) => text.parse::<u64>().ok(),
+        Err(_error) => None,
+    }
+}
+
+/// The number of the connection that a line asks to end.
+pub(crate) fn ended_in(line: &[u8]) -> Option<u64>
+    ensures { result ≡ spec.ended_in line.now }
+{
+    let Some(rest) = line.strip_prefix(b"{\"service\":\"end\",\"connection\":") else {
+        return None;
+    };
+    match rest.strip_suffix(b"}\n") {
+        Some(digits) => number_in(digits),
+        None => number_in(rest.strip_suffix(b"}\r\n")?),
+    }
+}
+
+/// What is told to a line of the service: the status or the schema where it asks for one, that a connection is ended where it asks for that,
+/// and else that its form is refused.
 pub(crate) fn told_to<'a>(line: &[u8], status: &'a [u8], schema: &'a [u8]) -> &'a [u8]
     ensures { result.now ≡ spec.told_to status.now schema.now line.now }
 {
@@ -34,6 +61,8 @@ pub(crate) fn told_to<'a>(line: &[u8], status: &'a [u8], schema: &'a [u8]) -> &'
         status
     } else if asks_schema(line) {
         schema
+    } else if ended_in(line).is_some() {
+        b"{\"ok\":true}\n"
     } else {
         b"{\"error\":\"form\",\"ok\":false}\n"
     }

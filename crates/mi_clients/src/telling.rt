@@ -15,7 +15,7 @@ use crate::asking::{hand_out, take_held};
 use crate::client::{Client, Phase};
 use crate::duplex::Duplex;
 use crate::schema_line::SchemaLine;
-use crate::service_lines::told_to;
+use crate::service_lines::{ended_in, told_to};
 use crate::status::status_line;
 use mi_ledger::{Ledger, LedgerFault};
 use mi_log::Log;
@@ -53,6 +53,7 @@ fn give<D: Sessions + Drop, L: Log + Drop, S>(
     ensures far { OnOk result (IsAsFar client.old client.new) }
     ensures input { OnOk result (client.new.input ≡ client.old.input) }
     ensures has_lines { OnOk result (client.new.has_lines ≡ client.old.has_lines) }
+    ensures ends { OnOk result (client.new.ends ≡ client.old.ends) }
     ensures hub { hub_of ledger.new ≡ hub_of ledger.old }
     ensures appended { Keeps (L.appended (log_of ledger.old)) (L.appended (log_of ledger.new)) }
     ensures failed { OnErr result ((result ≡ Err LedgerFault.Journal) × (L.has_failed (log_of ledger.new) ≡ true)) }
@@ -85,8 +86,10 @@ fn tell<D: Sessions + Drop, L: Log + Drop, S>(
         return Ok(());
     };
     let text = told_to(line, status, schema.as_slice());
+    let ends = ended_in(line);
     let count = line.len();
     client.input.pass(count);
+    client.ends = ends;
     give(ledger, client, text)?;
     Ok(())
 }

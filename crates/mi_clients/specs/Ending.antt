@@ -1,0 +1,43 @@
+-- Connections that others have asked to end. Connection 3 asks "{\"service\":\"end\",\"connection\":2}⏎": that is noted of it, and then 2 is given up.
+use Rattle.std.specs.Prelude.{◌≡◌, ◌⊎◌, ℕ, List, [], ◌∷◌, Option, Some, None}
+use Rattle.std.specs.List.{All, AllZip}
+use Rattle.mi_clients.specs.Silence.{IsGivenUp}
+use Rattle.mi_clients.specs.declared.client.Client.{Client}
+use Rattle.mi_clients.specs.declared.client.Phase.TheVariants.{Broken}
+
+-- nothing is noted of it any more
+abbrev pub forgotten : {S : Type 0} → Client S → Client S
+forgotten c = record c { ends = None }
+
+-- of none of a row anything is noted
+abbrev pub NoneEnds : {S : Type 0} → List (Client S) → Type 0
+NoneEnds row = All (λ c. c.ends ≡ None) row
+
+-- the first of a row of which something is noted has asked to end this number; that is forgotten, and nothing else is another
+abbrev pub TakesEnd : {S : Type 0} → ℕ → List (Client S) → List (Client S) → Type 0
+TakesEnd n [] news = ⊥
+TakesEnd {S} n (c ∷ row) news =
+    ((c.ends ≡ Some n) × (news ≡ forgotten c ∷ row))
+    ⊎ ((c.ends ≡ None) × (rest : List (Client S)) × (news ≡ c ∷ rest) × TakesEnd n row rest)
+
+-- it is given up where it has this number, and else as it was
+abbrev pub IsEnded : {S : Type 0} → ℕ → Client S → Client S → Type 0
+IsEnded n old new = ((old.conn ≡ n) × IsGivenUp old new) ⊎ (¬ (old.conn ≡ n) × (new ≡ old))
+
+-- so is each of a row
+abbrev pub EachEnded : {S : Type 0} → ℕ → List (Client S) → List (Client S) → Type 0
+EachEnded n olds news = AllZip (λ old new. IsEnded n old new) olds news
+
+-- some of a row has asked to end this number
+abbrev pub HasAsked : {S : Type 0} → ℕ → List (Client S) → Type 0
+HasAsked n [] = ⊥
+HasAsked n (c ∷ row) = (c.ends ≡ Some n) ⊎ HasAsked n row
+
+-- the connection of this number is broken, where it is in a row
+abbrev pub IsBroken : {S : Type 0} → ℕ → List (Client S) → Type 0
+IsBroken n [] = Unit {0}
+IsBroken n (c ∷ row) = (c.conn ≡ n → c.phase ≡ Broken) × IsBroken n row
+
+-- it is as far as it was, and its stream is the same
+abbrev pub IsAsBefore : {S : Type 0} → ℕ → List (Client S) → List (Client S) → Type 0
+IsAsBefore n olds news = AllZip (λ old new. old.conn ≡ n → (new.phase ≡ old.phase) × (new.stream ≡ old.stream)) olds news
