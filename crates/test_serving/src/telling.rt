@@ -5,7 +5,7 @@ ghost use Rattle.mi_ledger.specs.Ledger.{hub_of, log_of, IsSettled};
 ghost use Rattle.mi_clients.specs.Row.{ids, Attends};
 
 use crate::tests::hub;
-use mi_clients::{Client, Duplex, SchemaLine, admit, serve_all};
+use mi_clients::{Client, Duplex, SchemaLine, admit, end_asked, serve_all};
 use mi_ledger::Ledger;
 use mi_log::{DeviceLog, Log, MemoryDevice};
 use mi_plain::Plain;
@@ -83,6 +83,7 @@ fn turn<'a, D: Sessions + Drop, L: Log + Drop>(
 {
     let schema = SchemaLine::of(alloc, "a \"t\"\n")?;
     let mut buffer = [0u8; 4096];
+    end_asked(row);
     match serve_all(alloc, ledger, row, &mut buffer, false, &schema) {
         Ok(()) => Ok(()),
         Err(_fault) => Err(Fail::from("a turn fails")),
@@ -172,5 +173,27 @@ fn a_full_journal_turns_changes_away(rt: HostRuntime) -> Result<(), Fail> {
         b"{\"ok\":true,\"revision\":1}\n{\"error\":\"journal\",\"ok\":false}\n{\"ok\":true,\"size\":0}\n{\"ok\":true,\"revision\":0}\n\
 {\"error\":\"journal\",\"ok\":false}\n{\"depth\":0,\"held\":0,\"ok\":true,\"revision\":0}\n";
     assert!(rt; out.as_slice() == want.as_slice());
+    Ok(())
+}
+
+/// A holder is let go that another one asks to end, and its session is undone. A number that nobody has ends nobody.
+#[test]
+fn a_holder_is_ended(rt: HostRuntime) -> Result<(), Fail> {
+    let out = replied(
+        rt.alloc(),
+        b"{\"cmd\":\"start\"}\n",
+        b"{\"service\":\"end\",\"connection\":2}\r\n{\"service\":\"end\",\"connection\":+3}\n{\"cmd\":\"revision\"}\n",
+    )?;
+    let want =
+        b"{\"ok\":true}\n{\"error\":\"form\",\"ok\":false}\n{\"depth\":0,\"held\":0,\"ok\":true,\"revision\":0}\n";
+    assert!(rt; out.as_slice() == want.as_slice());
+    let kept = replied(
+        rt.alloc(),
+        b"{\"cmd\":\"start\"}\n",
+        b"{\"service\":\"end\",\"connection\":20}\n{\"service\":\"schema\"}\n{\"cmd\":\"start\"}\n",
+    )?;
+    let refused =
+        b"{\"ok\":true}\n{\"ok\":true,\"schema\":\"a \\\"t\\\"\\n\"}\n{\"error\":\"busy\",\"ok\":false}\n";
+    assert!(rt; kept.as_slice() == refused.as_slice());
     Ok(())
 }
