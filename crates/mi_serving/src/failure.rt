@@ -26,7 +26,7 @@ pub enum Failure {
     Journal,
     /// Standard output can't be written to.
     Output,
-    /// The port can't be listened on.
+    /// The port, or the path, can't be listened on.
     Listen,
     /// The system doesn't tell which connections are ready.
     Poll,
@@ -116,6 +116,8 @@ pub struct Fault {
     pub failure: Failure,
     /// What the system said.
     pub error: Option<io::Error>,
+    /// Whether it is the path that can't be listened on.
+    pub is_of_path: bool,
 }
 
 impl Fault {
@@ -126,6 +128,18 @@ impl Fault {
         Fault {
             failure,
             error: Some(error),
+            is_of_path: false,
+        }
+    }
+
+    /// The path can't be listened on, since the system has said this.
+    pub fn of_path(error: io::Error) -> Fault
+        ensures { result.failure ≡ Failure.Listen }
+    {
+        Fault {
+            failure: Failure::Listen,
+            error: Some(error),
+            is_of_path: true,
         }
     }
 }
@@ -137,6 +151,7 @@ impl From<Failure> for Fault {
         Fault {
             failure,
             error: None,
+            is_of_path: false,
         }
     }
 }
