@@ -19,6 +19,7 @@ from mi_client.calls import Request
 from mi_client.database import AnySchema, schema_of
 from mi_client.dialect import ASKS_SCHEMA, Dialect, sent_by
 from mi_client.errors import Ended
+from mi_client.listening import Where, waits_for_acknowledgement
 from mi_client.old_forms import Openness
 from mi_client.pipeline import WINDOW
 from mi_client.places import Places
@@ -61,15 +62,16 @@ class AsyncDatabase(AwaitedWalks):
         self._closed_for = ""
         self._timeout: Optional[float] = None
         self._clock: Optional[asyncio.Handle] = None
+        self._waits_for_this = process is None and waits_for_acknowledgement(writer.get_extra_info("socket"))
         self._reading = asyncio.ensure_future(self._read())
 
     @classmethod
     async def connect(
-        cls, port: int, schema: AnySchema = None, wait: float = 0.0, window: int = WINDOW, timeout: Optional[float] = None, host: str = "127.0.0.1"
+        cls, port: Where, schema: AnySchema = None, wait: float = 0.0, window: int = WINDOW, timeout: Optional[float] = None, host: str = "127.0.0.1"
     ) -> AsyncDatabase:
         """A connection to a server that listens on this port of 127.0.0.1, or does so within `wait` seconds; else OSError is
-        raised. At most `window` replies are awaited at a time. A reply that takes longer than `timeout` seconds ends the connection.
-        Another `host` has members of a ledger alone."""
+        raised. A text with a `/` in it is the path of a Unix socket. At most `window` replies are awaited at a time. A reply that takes
+        longer than `timeout` seconds ends the connection. Another `host` has members of a ledger alone."""
         read, places = Schema.of(schema), Places(window)
         made = cls(*await opened(host, port, wait, timeout), None, read, places)
         made.answer_within(timeout)
@@ -288,7 +290,7 @@ class AsyncDatabase(AwaitedWalks):
 
     def _acknowledge(self) -> None:
         """The server's next reply may wait for this, which the system else puts off for 40 ms."""
-        if not self._process and hasattr(socket, "TCP_QUICKACK"):
+        if self._waits_for_this:
             self._writer.get_extra_info("socket").setsockopt(socket.IPPROTO_TCP, socket.TCP_QUICKACK, 1)
 
     async def _why(self) -> str:
