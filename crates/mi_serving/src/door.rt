@@ -1,5 +1,5 @@
 //! What the system tells of sockets: which connections come, and which are ready. It reads and writes none of their bytes.
-ghost use Rattle.std.specs.Prelude.{◌≡◌, ◌<◌, true, false, not, Err, IfSome, IfErr, OnErr};
+ghost use Rattle.std.specs.Prelude.{◌≡◌, ◌<◌, true, false, not, is_some, None, Err, IfSome, IfOk, IfErr, OnOk, OnErr};
 ghost use Rattle.mio.specs.Events.{items as events_of};
 ghost use Rattle.mi_replay.specs.Replayed.{replayer};
 ghost use Rattle.mi_clients.specs.Row.{ids, EachWoken};
@@ -111,7 +111,9 @@ fn tell(event: &Event, callers: &mut Callers, row: &mut Vec<Client<Link>>)
 
 impl Door {
     /// A door that nobody comes through yet.
-    fn new<R: Net + AllocGlobal>(rt: &R) -> io::Result<Door> {
+    fn new<R: Net + AllocGlobal>(rt: &R) -> io::Result<Door>
+        ensures closed { IfOk result (λ door. (door.port ≡ None) × (door.path ≡ None)) }
+    {
         Ok(Door {
             poll: Poll::new(rt)?,
             events: Events::with_capacity(rt.alloc(), MOST_EVENTS)?,
@@ -127,7 +129,11 @@ impl Door {
     }
 
     /// Opens the port, where one is asked for.
-    fn open_port<R: Net>(&mut self, rt: &R, port: Option<u16>) -> io::Result<()> {
+    fn open_port<R: Net>(&mut self, rt: &R, port: Option<u16>) -> io::Result<()>
+        requires closed { self.old.port ≡ None }
+        ensures opens { OnOk result (is_some self.new.port ≡ is_some port) }
+        ensures path { self.new.path ≡ self.old.path }
+    {
         if let Some(port) = port {
             self.port = Some(listen_on(rt, &self.poll, port)?);
             self.callers.port = true;
@@ -136,7 +142,12 @@ impl Door {
     }
 
     /// Opens the path, where one is asked for.
-    fn open_path<R: Files + Net>(&mut self, rt: &R, path: Option<&str>) -> io::Result<()> {
+    fn open_path<R: Files + Net>(&mut self, rt: &R, path: Option<&str>) -> io::Result<()>
+        requires closed { self.old.path ≡ None }
+        ensures opens { OnOk result (is_some self.new.path ≡ is_some path.entry) }
+        ensures fails { OnErr result (is_some path.entry ≡ true) }
+        ensures port { self.new.port ≡ self.old.port }
+    {
         if let Some(path) = path {
             self.path = Some(listen_at(rt, &self.poll, path)?);
             self.callers.path = true;
@@ -146,9 +157,11 @@ impl Door {
 
     /// Listens on a port of 127.0.0.1, on one that is free where it is 0, and at a path, as is asked for.
     ///
-    /// A file that a socket has left at the path is removed. Where somebody listens there, or the file is no socket, that is the fault.
+    /// A file that a socket has left at the path is removed. Where somebody listens there, or the file is no socket, that is the fault. It is
+    /// of the path only where one is asked for.
     pub fn open<R: Files + Net + AllocGlobal>(rt: &R, places: &Places) -> Result<Door, Fault>
-        ensures { IfErr result (λ fault. fault.failure ≡ Failure.Listen) }
+        ensures opens { IfOk result (λ door. (is_some door.port ≡ is_some places.now.port) × (is_some door.path ≡ is_some places.now.unix)) }
+        ensures fails { IfErr result (λ fault. (fault.failure ≡ Failure.Listen) × (fault.is_of_path ≡ true → is_some places.now.unix ≡ true)) }
     {
         let mut door = match Door::new(rt) {
             Ok(door) => door,
@@ -165,7 +178,8 @@ impl Door {
 
     /// The port that is listened on, where one is.
     pub fn port(&self) -> Result<Option<u16>, Fault>
-        ensures { IfErr result (λ fault. fault.failure ≡ Failure.Listen) }
+        ensures tells { IfOk result (λ port. is_some port ≡ is_some self.now.port) }
+        ensures fails { IfErr result (λ fault. fault.failure ≡ Failure.Listen) }
     {
         let Some(listener) = &self.port else {
             return Ok(None);

@@ -1,5 +1,5 @@
 //! Why the service ends: the line on standard error and the exit status.
-ghost use Rattle.std.specs.Prelude.{◌≡◌, ◌⊎◌, true};
+ghost use Rattle.std.specs.Prelude.{◌≡◌, ◌⊎◌, true, false};
 ghost use Rattle.mi_serving.specs.Recovery.{ends_replay, told_as};
 ghost use Rattle.mi_serving.specs.Status.{status_of};
 
@@ -123,7 +123,8 @@ pub struct Fault {
 impl Fault {
     /// A failure of which the system has said this.
     pub fn of(failure: Failure, error: io::Error) -> Fault
-        ensures { result.failure ≡ failure }
+        ensures failure { result.failure ≡ failure }
+        ensures other { result.is_of_path ≡ false }
     {
         Fault {
             failure,
@@ -134,7 +135,8 @@ impl Fault {
 
     /// The path can't be listened on, since the system has said this.
     pub fn of_path(error: io::Error) -> Fault
-        ensures { result.failure ≡ Failure.Listen }
+        ensures failure { result.failure ≡ Failure.Listen }
+        ensures path { result.is_of_path ≡ true }
     {
         Fault {
             failure: Failure::Listen,
