@@ -45,3 +45,7 @@ called_by_all (e ∷ es) c = called_by_all es (called_by e c)
 -- the path's listener is asked for the next connection: where one may be there, and it's its turn or none may be at the port
 abbrev pub is_path_asked : Callers → Bool → Bool
 is_path_asked c path_is_next = c.path && (path_is_next || not c.port)
+
+-- behind a wait: where the system gave no connection before it, one may be there at each listener; else as before
+abbrev pub callers_behind : Bool → Bool → Bool → Callers → Callers
+callers_behind is_tired port path c = if is_tired then record { port = port; path = path } else c

@@ -1,10 +1,10 @@
 //! What the system tells of sockets: which connections come, and which are ready. It reads and writes none of their bytes.
-ghost use Rattle.std.specs.Prelude.{◌≡◌, ◌<◌, true, false, not, is_some, None, Err, IfSome, IfOk, IfErr, OnOk, OnErr};
+ghost use Rattle.std.specs.Prelude.{◌≡◌, ◌<◌, ◌||◌, ◌⊎◌, true, false, not, is_some, None, Err, IfSome, IfOk, IfErr, OnOk, OnErr};
 ghost use Rattle.mio.specs.Events.{items as events_of};
 ghost use Rattle.mi_replay.specs.Replayed.{replayer};
 ghost use Rattle.mi_clients.specs.Row.{ids, EachWoken};
 ghost use Rattle.mi_serving.specs.Link.{is_unix};
-ghost use Rattle.mi_serving.specs.Events.{told_by, told_by_all, called_by, called_by_all, is_path_asked};
+ghost use Rattle.mi_serving.specs.Events.{told_by, told_by_all, called_by, called_by_all, callers_behind, is_path_asked};
 
 use crate::failure::{Failure, Fault};
 use crate::link::Link;
@@ -191,13 +191,16 @@ impl Door {
     }
 
     /// Whether a connection may be there to be accepted.
-    pub fn may_accept(&self) -> bool {
+    pub fn may_accept(&self) -> bool
+        ensures { result ≡ (self.now.callers.port || self.now.callers.path) }
+    {
         self.callers.port || self.callers.path
     }
 
     /// Waits so long at most. A wait that a signal ends tells of nothing that is ready, so behind one that does it looks once more.
     fn look(&mut self, timeout: Option<Duration>) -> Result<(), Failure>
-        ensures { OnErr result (result ≡ Err Failure.Poll) }
+        ensures poll { OnErr result (result ≡ Err Failure.Poll) }
+        ensures same { self.new ≡ record self.old { poll = self.new.poll; events = self.new.events } }
     {
         let at_once = Some(Duration::from_millis(0));
         if self.poll.poll(&mut self.events, timeout).is_err()
@@ -208,9 +211,12 @@ impl Door {
         Ok(())
     }
 
-    /// Waits until something is ready, or for the longest time that is given, or only looks.
+    /// Waits until something is ready, or for the longest time that is given, or only looks. Where the system gave no connection before, one
+    /// may be there behind this, at each listener.
     pub fn wait(&mut self, at_once: bool, longest: Option<Duration>) -> Result<(), Failure>
-        ensures { OnErr result (result ≡ Err Failure.Poll) }
+        ensures poll { OnErr result (result ≡ Err Failure.Poll) }
+        ensures rested { OnOk result (self.new.callers ≡ callers_behind self.old.is_tired (is_some self.old.port) (is_some self.old.path) self.old.callers) }
+        ensures fresh { OnOk result (self.new.is_tired ≡ false) }
     {
         let timeout = if at_once {
             Some(Duration::from_millis(0))
@@ -306,7 +312,9 @@ impl Door {
 
     /// No connection was accepted: none is there, or the system gives none for now. Whether one may be there still.
     fn goes_on(&mut self, kind: ErrorKind) -> bool
-        ensures turns { self.new.path_is_next ≡ self.old.path_is_next }
+        ensures passes { result ≡ true → (kind ≡ ErrorKind.Interrupted) ⊎ (kind ≡ ErrorKind.ConnectionAborted) }
+        ensures waits { result ≡ false → (kind ≡ ErrorKind.WouldBlock) ⊎ (self.new.is_tired ≡ true) }
+        ensures turns { self.new ≡ record self.old { is_tired = self.new.is_tired } }
     {
         match kind {
             ErrorKind::WouldBlock => false,

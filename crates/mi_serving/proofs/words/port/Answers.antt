@@ -7,7 +7,8 @@ use Rattle.mi_serving.proofs.words.port.Goals as goal
 
 pub returns-in-Some : goal.returns-in-Some
 returns-in-Some c =
-    number_read 16 0 65535 _ _ c.in-Some.port (one_text-rows (found_of c.args.matches.now) (codes "listen")) (omega arith) (let h = rw c.in-Some.is at c.get_one.type_inv in omega (arith, h))
+    let fits = rw c.in-Some.is at c.get_one.type_inv in
+    number_read 16 0 65535 _ _ c.in-Some.port (one_text-rows (found_of c.args.matches.now) (codes "listen")) (omega arith) (omega (arith, fits))
     c.in-Some.ensures.none c.in-Some.ensures.value
 
 pub returns-in-None : goal.returns-in-None
