@@ -4,7 +4,7 @@ from __future__ import annotations
 import contextlib
 import os
 import socket
-from typing import Optional, Union
+from typing import Callable, Optional, Union
 
 from mi_client.errors import nobody_at, nobody_listens
 
@@ -65,6 +65,10 @@ def joins_itself(stream: socket.socket) -> bool:
     return False
 
 
-def waits_for_acknowledgement(stream: socket.socket) -> bool:
-    """Whether the server's next reply over this stream may wait until this side has acknowledged the one before, which it can be asked for."""
-    return hasattr(socket, "TCP_QUICKACK") and stream.family != socket.AF_UNIX
+def acknowledging(stream: Optional[socket.socket]) -> Optional[Callable[[], None]]:
+    """What is called behind each read of such a stream. The server's next reply may wait until this side has acknowledged the one before, which
+    it does 40 ms later unless it is asked to do so at once; the system forgets that with time. Over a Unix socket and pipes nothing waits."""
+    if stream is None or stream.family == socket.AF_UNIX or not hasattr(socket, "TCP_QUICKACK"):
+        return None
+    asked = stream  # (which is some stream)
+    return lambda: asked.setsockopt(socket.IPPROTO_TCP, socket.TCP_QUICKACK, 1)
