@@ -494,6 +494,22 @@ test("a port where nobody listens is told, and what is to be done", async () => 
   await assert.rejects(Database.connect(port), { code: "ECONNREFUSED", message: said });
 });
 
+test("a text with a slash is the path of a socket", async () => {
+  const folder = fs.mkdtempSync(path.join(os.tmpdir(), "weltiyo-"));
+  const place = path.join(folder, "socket");
+  const said = `nothing listens at ${place}. Start a service there, as mi_service --unix ${place}, or name the path of one that runs`;
+  await assert.rejects(Database.connect(place), { code: "ENOENT", message: said });
+  const asked = [];
+  const server = net.createServer((stream) => stream.on("data", (bytes) => asked.push(String(bytes)) && stream.write('{"ok":true,"size":3}\n')));
+  await new Promise((resolve) => server.listen(place, resolve));
+  const db = await Database.connect(place);
+  assert.equal(await db.size(), 3);
+  assert.deepEqual(asked, ['{"cmd":"size"}\n']);
+  await db.close();
+  await new Promise((resolve) => server.close(resolve));
+  fs.rmSync(folder, { recursive: true });
+});
+
 test("a connection that was closed tells the status and nothing behind it", async () => {
   const db = await Database.start(PROGRAM);
   await db.close();

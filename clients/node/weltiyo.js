@@ -175,9 +175,15 @@ function boundOf(bound, side) {
   return Object.fromEntries(Object.entries(bound).map(([word, key]) => [word, keyOf(key)]));
 }
 
+/** Whether a place to connect to is the path of a Unix socket: a text with a `/` in it. Else it is a port. */
+function isPath(place) {
+  return typeof place === "string" && place.includes("/");
+}
+
 /** The same error, which says where nobody listens and what is to be done. */
 function nobodyListens(error, port) {
-  error.message = `nothing listens on port ${port} of 127.0.0.1. Start a server there, as mi_service --listen ${port}, or name the port of one that runs`;
+  if (isPath(port)) error.message = `nothing listens at ${port}. Start a service there, as mi_service --unix ${port}, or name the path of one that runs`;
+  else error.message = `nothing listens on port ${port} of 127.0.0.1. Start a server there, as mi_service --listen ${port}, or name the port of one that runs`;
   return error;
 }
 
@@ -410,11 +416,13 @@ class Database {
     return db;
   }
 
-  /** A connection to a server that listens on this port of 127.0.0.1. The server answers once all its clients have come. */
+  /** A connection to a server that listens on this port of 127.0.0.1. A text with a `/` in it is the path of a Unix socket, which a service
+   * listens at by --unix. The server answers once all its clients have come. */
   static connect(port, { window = WINDOW } = {}) {
     return new Promise((resolve, reject) => {
-      const stream = net.connect({ port, host: "127.0.0.1", noDelay: true });
-      const failed = (error) => reject(error.code === "ECONNREFUSED" ? nobodyListens(error, port) : error);
+      const stream = net.connect(isPath(port) ? { path: port } : { port, host: "127.0.0.1", noDelay: true });
+      const isNobody = (error) => error.code === "ECONNREFUSED" || (isPath(port) && error.code === "ENOENT");
+      const failed = (error) => reject(isNobody(error) ? nobodyListens(error, port) : error);
       stream.once("error", failed);
       stream.once("connect", () => {
         stream.off("error", failed);

@@ -29,15 +29,16 @@ _weltiyo() {
     COMPREPLY=()
     case $before in
         --schema) _weltiyo_files "$word" .toml; return ;;
-        --program | --run | --dump | --file | --svg | --load | --journal) _weltiyo_files "$word"; return ;;
-        --listen | --connect) COMPREPLY=($(compgen -W '8000' -- "$word")); return ;;
+        --program | --run | --dump | --file | --svg | --load | --journal | --unix) _weltiyo_files "$word"; return ;;
+        --connect) case $word in */*) _weltiyo_files "$word"; return ;; esac; COMPREPLY=($(compgen -W '8000' -- "$word")); return ;;
+        --listen) COMPREPLY=($(compgen -W '8000' -- "$word")); return ;;
         --clients) COMPREPLY=($(compgen -W '1 2 4 8 16 32 64' -- "$word")); return ;;
         --format) COMPREPLY=($(compgen -W 'csv jsonl' -- "$word")); return ;;
         --sync) COMPREPLY=($(compgen -W 'always turn never' -- "$word")); return ;;
     esac
     case ${1##*/} in
         mi_server) options='--schema --check --listen --clients --help' ;;
-        mi_service) options='--schema --listen --journal --sync --hold-seconds --idle-seconds --help' ;;
+        mi_service) options='--schema --listen --unix --journal --sync --hold-seconds --idle-seconds --help' ;;
         weltiyo-lint)
             options='--program --help'
             [[ $word == -* ]] || { _weltiyo_files "$word" .toml; return; } ;;

@@ -8,7 +8,6 @@ import collections
 import contextlib
 import contextvars
 import os
-import socket
 from typing import TYPE_CHECKING, Any, AsyncIterator, Awaitable, Callable, Deque, Iterable, List, Optional, Tuple, TypeVar, Union
 
 from mi_client import calls
@@ -19,6 +18,7 @@ from mi_client.calls import Request
 from mi_client.database import AnySchema, schema_of
 from mi_client.dialect import ASKS_SCHEMA, Dialect, sent_by
 from mi_client.errors import Ended
+from mi_client.listening import Where, acknowledging
 from mi_client.old_forms import Openness
 from mi_client.pipeline import WINDOW
 from mi_client.places import Places
@@ -61,15 +61,16 @@ class AsyncDatabase(AwaitedWalks):
         self._closed_for = ""
         self._timeout: Optional[float] = None
         self._clock: Optional[asyncio.Handle] = None
+        self._acknowledge = acknowledging(None if process else writer.get_extra_info("socket"))
         self._reading = asyncio.ensure_future(self._read())
 
     @classmethod
     async def connect(
-        cls, port: int, schema: AnySchema = None, wait: float = 0.0, window: int = WINDOW, timeout: Optional[float] = None, host: str = "127.0.0.1"
+        cls, port: Where, schema: AnySchema = None, wait: float = 0.0, window: int = WINDOW, timeout: Optional[float] = None, host: str = "127.0.0.1"
     ) -> AsyncDatabase:
         """A connection to a server that listens on this port of 127.0.0.1, or does so within `wait` seconds; else OSError is
-        raised. At most `window` replies are awaited at a time. A reply that takes longer than `timeout` seconds ends the connection.
-        Another `host` has members of a ledger alone."""
+        raised. A text with a `/` in it is the path of a Unix socket. At most `window` replies are awaited at a time. A reply that takes
+        longer than `timeout` seconds ends the connection. Another `host` has members of a ledger alone."""
         read, places = Schema.of(schema), Places(window)
         made = cls(*await opened(host, port, wait, timeout), None, read, places)
         made.answer_within(timeout)
@@ -255,7 +256,8 @@ class AsyncDatabase(AwaitedWalks):
             data = await self._reader.read(CHUNK)
             if not data:
                 return
-            self._acknowledge()
+            if self._acknowledge:
+                self._acknowledge()
             *lines, rest = (rest + data).split(b"\n")
             for it in lines:
                 if not self._awaited:
@@ -285,11 +287,6 @@ class AsyncDatabase(AwaitedWalks):
             with contextlib.suppress(ProcessLookupError):
                 self._process.kill()  # (one that stands still wouldn't end by itself, and its tables go with the connection)
         self._break_off("the server took too long")
-
-    def _acknowledge(self) -> None:
-        """The server's next reply may wait for this, which the system else puts off for 40 ms."""
-        if not self._process and hasattr(socket, "TCP_QUICKACK"):
-            self._writer.get_extra_info("socket").setsockopt(socket.IPPROTO_TCP, socket.TCP_QUICKACK, 1)
 
     async def _why(self) -> str:
         if not self._process:

@@ -10,6 +10,8 @@ import socket
 import time
 from typing import Callable, Deque, List, Optional, Tuple
 
+from mi_client.listening import acknowledging
+
 LARGEST_READ = 1 << 16
 IN = select.POLLIN | select.POLLHUP | select.POLLERR | select.POLLNVAL
 
@@ -44,10 +46,7 @@ class Channel:
     def of_socket(cls, stream: socket.socket, timeout: Optional[float] = None) -> Channel:
         stream.setblocking(True)
         made = cls(stream.fileno(), stream.fileno(), lambda data: stream.send(data, socket.MSG_DONTWAIT), timeout)
-        if hasattr(socket, "TCP_QUICKACK"):
-            # (the server's next reply may wait until this side has acknowledged the one before, which it does 40 ms later unless
-            # it is asked to do so at once; the system forgets that with time)
-            made._acknowledge = lambda: stream.setsockopt(socket.IPPROTO_TCP, socket.TCP_QUICKACK, 1)
+        made._acknowledge = acknowledging(stream)
         return made
 
     def wait_for(self, timeout: Optional[float]) -> None:

@@ -4,7 +4,6 @@ from __future__ import annotations
 
 import contextlib
 import os
-import socket
 import subprocess
 import threading
 import time
@@ -15,7 +14,8 @@ from typing import Any, Iterable, Iterator, List, Optional, Sequence, Type, Type
 from mi_client.calls import Request
 from mi_client.channel import Channel
 from mi_client.dialect import ASKS_SCHEMA, Dialect
-from mi_client.errors import Ended, nobody_listens
+from mi_client.errors import Ended
+from mi_client.listening import NOBODY, Where, nobody, stream_to
 from mi_client.old_forms import Openness
 from mi_client.pipeline import WINDOW, LinesAhead, Pipeline
 from mi_client.schema import Schema
@@ -48,26 +48,23 @@ class Database(Walks):
 
     @classmethod
     def connect(
-        cls, port: int, timeout: Optional[float] = None, schema: AnySchema = None, wait: float = 0.0, host: str = "127.0.0.1"
+        cls, port: Where, timeout: Optional[float] = None, schema: AnySchema = None, wait: float = 0.0, host: str = "127.0.0.1"
     ) -> Database:
         """A connection to a server that listens on this port of 127.0.0.1, or does so within `wait` seconds; else OSError is
-        raised. The server answers once all its clients have come. A reply that takes longer than `timeout` seconds ends the
-        connection. With the `schema` that the server was started with, refusals say which column is at fault, and keys can be
-        given by columns; `learn_schema` asks a service for it. Another `host` has members of a ledger alone: servers listen on 127.0.0.1."""
+        raised. A text with a `/` in it is the path of a Unix socket, which a service listens at by --unix. The server answers once all its
+        clients have come. A reply that takes longer than `timeout` seconds ends the connection. With the `schema` that the server was
+        started with, refusals say which column is at fault, and keys can be given by columns; `learn_schema` asks a service for it.
+        Another `host` has members of a ledger alone: servers listen on 127.0.0.1."""
         read = Schema.of(schema)
         end = time.monotonic() + wait
         while True:
             try:
-                stream = socket.create_connection((host, port), timeout=timeout)
-                if joins_itself(stream):
-                    stream.close()  # (where nobody listens the system may have chosen this very port, and joined the two ends)
-                    raise nobody_listens(host, port)
+                stream = stream_to(host, port, timeout)
                 break
-            except ConnectionRefusedError:
+            except NOBODY:
                 if time.monotonic() >= end:
-                    raise nobody_listens(host, port) from None
+                    raise nobody(host, port) from None
                 time.sleep(0.02)
-        stream.setsockopt(socket.IPPROTO_TCP, socket.TCP_NODELAY, 1)
         return cls(Channel.of_socket(stream, timeout), [stream], None, read)
 
     @classmethod
@@ -305,13 +302,6 @@ class _Unbroken:
             raise Ended(self._db._closed_for or self._db._why(error)) from error
         if error is not None:
             self._db._break_off(f"a call was interrupted by {type(error).__name__}")
-
-
-def joins_itself(stream: socket.socket) -> bool:
-    """Whether a connection's two ends are one. Not of one that has broken off by now, which the first command tells."""
-    with contextlib.suppress(OSError):
-        return bool(stream.getsockname() == stream.getpeername())
-    return False
 
 
 def schema_of(path: Union[None, str, os.PathLike[str]]) -> Optional[Schema]:

@@ -47,9 +47,15 @@ class Ended(ConnectionError):
         super().__init__(why or "the connection is at its end")
 
 
-def nobody_listens(host: str, port: int) -> ConnectionRefusedError:
+def nobody_listens(host: str, port: object) -> ConnectionRefusedError:
     """What is raised where a port has no server."""
     what = f"nothing listens on port {port} of {host}. Start a server there, as mi_service --listen {port}, or name the port of one that runs"
+    return ConnectionRefusedError(errno.ECONNREFUSED, what)
+
+
+def nobody_at(path: str) -> ConnectionRefusedError:
+    """What is raised where a path has no server."""
+    what = f"nothing listens at {path}. Start a service there, as mi_service --unix {path}, or name the path of one that runs"
     return ConnectionRefusedError(errno.ECONNREFUSED, what)
 
 

@@ -9,6 +9,7 @@ from mi_client.database import AnySchema, Database
 from mi_client.errors import Ended
 from mi_client.fitting import misfit
 from mi_client.journals import OtherSchema, check_schema, replay
+from mi_client.listening import Where, called, path_of
 from mi_client.schema import Schema
 from mi_client.whole_files import part_of
 
@@ -37,15 +38,17 @@ def seconds(text: str) -> float:
     return found
 
 
-def port(text: str) -> int:
-    """A port's number. Raises ArgumentTypeError."""
+def where(text: str) -> Where:
+    """A port's number, or the path of a socket. Raises ArgumentTypeError."""
+    if path_of(text) is not None:
+        return text
     if not text.isdecimal() or not 0 <= int(text) <= 65535:
-        raise argparse.ArgumentTypeError(f"{text!r} is no port: a number from 0 to 65535 is wanted")
+        raise argparse.ArgumentTypeError(f"{text!r} is no port: a number from 0 to 65535 is wanted, or a path with a / in it")
     return int(text)
 
 
 def add_server(parser: argparse.ArgumentParser) -> None:
-    parser.add_argument("--connect", type=port, metavar="PORT", help="asks the server that listens on this port of 127.0.0.1")
+    parser.add_argument("--connect", type=where, metavar="PORT", help="asks the server on this port of 127.0.0.1, or at this path of a Unix socket")
     parser.add_argument("--program", metavar="FILE", help="the server to start, where --connect isn't given: else MI_SERVER's, else mi_server")
     parser.add_argument("--schema", metavar="FILE", help="the schema that this server is started with, or was, with --connect; a service tells its own")
     parser.add_argument("--timeout", type=seconds, default=5.0, metavar="SECONDS", help="how long a reply is waited for; 0 is without an end (%(default)g)")
@@ -84,7 +87,7 @@ def is_written(path: str, other: Optional[str]) -> bool:
 
 
 def connected(options: argparse.Namespace, schema: AnySchema) -> Database:
-    """A connection to the server that is named by its port. Raises OSError."""
+    """A connection to the server that is named by its port, or by its path. Raises OSError."""
     return Database.connect(options.connect, options.timeout or None, schema)
 
 
@@ -94,7 +97,7 @@ def why(error: BaseException, options: argparse.Namespace) -> str:
         return error.strerror  # (without its number)
     if not isinstance(error, TimeoutError) and not isinstance(error.__cause__, TimeoutError):
         return str(error)
-    return (f"port {options.connect} gave no reply for {options.timeout:g} seconds. It may be busy, all its places may be taken, or it waits for "
+    return (f"{called(options.connect)} gave no reply for {options.timeout:g} seconds. It may be busy, all its places may be taken, or it waits for "
             "another client. --timeout SECONDS waits longer")
 
 

@@ -1,12 +1,17 @@
-"""What Linux tells of a server's process: memory, bytes, processor time; and which process listens on a port."""
+"""What Linux tells of a server's process: memory, bytes, processor time; and which process listens on a port or at a path."""
 from __future__ import annotations
 
+import contextlib
 import glob
 import os
 from typing import Dict, NamedTuple, Optional
 
+from mi_client.listening import Where, path_of
+
 LISTENS = "0A"
 """The state of a listening socket in /proc/net/tcp."""
+ACCEPTS = 0x10000
+"""The flag of one in /proc/net/unix."""
 
 
 class Usage(NamedTuple):
@@ -52,21 +57,34 @@ def _seconds(number: int) -> Optional[float]:
         return None
 
 
-def listener(port: int) -> Optional[int]:
-    """The process that listens on this port of 127.0.0.1, where it can be seen."""
-    wanted = None
-    try:
-        with open("/proc/net/tcp", encoding="ascii") as file:
-            for line in list(file)[1:]:
-                fields = line.split()
-                if fields[3] == LISTENS and int(fields[1].split(":")[1], 16) == port:
-                    wanted = f"socket:[{fields[9]}]"
-    except OSError:
-        return None
-    for path in glob.glob("/proc/[0-9]*/fd/*") if wanted else []:
+def listener(where: Where) -> Optional[int]:
+    """The process that listens on this port of 127.0.0.1, or at this path, where it can be seen."""
+    at = path_of(where)
+    inode = _inode_of(where) if at is None else _inode_at(at)
+    wanted = f"socket:[{inode}]"
+    for path in glob.glob("/proc/[0-9]*/fd/*") if inode else []:
         try:
             if os.readlink(path) == wanted:
                 return int(path.split("/")[2])
         except OSError:
             continue
+    return None
+
+
+def _inode_of(port: object) -> Optional[str]:
+    found = None
+    with contextlib.suppress(OSError), open("/proc/net/tcp", encoding="ascii") as file:
+        for line in list(file)[1:]:
+            fields = line.split()
+            if fields[3] == LISTENS and int(fields[1].split(":")[1], 16) == port:
+                found = fields[9]
+    return found
+
+
+def _inode_at(path: str) -> Optional[str]:
+    with contextlib.suppress(OSError), open("/proc/net/unix", encoding="utf-8", errors="surrogateescape") as file:
+        for line in list(file)[1:]:
+            fields = line.rstrip("\n").split(maxsplit=7)
+            if len(fields) == 8 and int(fields[3], 16) & ACCEPTS and os.path.realpath(fields[7]) == os.path.realpath(path):
+                return fields[6]
     return None

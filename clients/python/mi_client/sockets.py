@@ -9,7 +9,7 @@ import socket
 import struct
 from typing import Iterator, NamedTuple, Optional, Set, Tuple
 
-UNTOLD = "not told: the system counts no bytes of connections for this user"
+UNTOLD = "not told: the system counts no bytes of such connections, or not for this user"
 BY_FAMILY, ENDS, FAULT = 20, 3, 2
 """The types of a question and of the messages that end an answer."""
 REQUEST_ALL = 0x301

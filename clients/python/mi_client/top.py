@@ -11,6 +11,7 @@ from typing import Any, Callable, Dict, List, NamedTuple, Optional, Tuple
 from mi_client import process
 from mi_client.database import Database
 from mi_client.errors import Ended, Refused
+from mi_client.listening import path_of
 from mi_client.opening import add_server, add_source, opened, source_words, status_of, why
 from mi_client.process import Usage
 from mi_client.rowfiles import writing
@@ -161,7 +162,12 @@ def moved_by(options: argparse.Namespace) -> Optional[Moved]:
     """What tells the bytes of a server that is connected to: its other connections, from one look to the next."""
     if options.connect is None:
         return None
-    return Traffic(options.connect).moved if options.every else lambda: (None, None)
+    return Traffic(options.connect).moved if options.every and counts_bytes(options) else lambda: (None, None)
+
+
+def counts_bytes(options: argparse.Namespace) -> bool:
+    """Whether Linux counts what the connections move: those of a port, and not those of a Unix socket."""
+    return options.connect is not None and path_of(options.connect) is None
 
 
 def watch(options: argparse.Namespace, shown: Callable[[Sample, Sample], None]) -> int:
@@ -217,7 +223,7 @@ def main_metrics(words: Optional[List[str]] = None) -> int:
         options.count = 1
 
     def shown(now: Sample, _: Sample) -> None:
-        text = prometheus(now) + (f"{ONCE}\n" if options.connect is not None and not options.every else "")
+        text = prometheus(now) + (f"{ONCE}\n" if counts_bytes(options) and not options.every else "")
         if options.file:
             write_whole(options.file, text)
         else:
@@ -247,7 +253,7 @@ def main_status(words: Optional[List[str]] = None) -> int:
     options = parser.parse_args(words)
     options.journal, options.wants_rows = None, False
     if options.connect is None:
-        parser.error("--connect is needed: the port of a service that runs")
+        parser.error("--connect is needed: the port or the path of a service that runs")
     try:
         with opened(options, learns=False) as db:
             told = status_told(db)

@@ -8,6 +8,7 @@ from typing import Callable, List, Optional, Tuple
 
 from mi_client.database import Database
 from mi_client.errors import Ended
+from mi_client.listening import called
 from mi_client.opening import add_source, connected, opened, program_of, source_words, why
 from mi_client.schema import Schema
 from mi_client.web_http import Window
@@ -23,7 +24,7 @@ def source_of(options: argparse.Namespace) -> Tuple[Source, str]:
         # (a server of its own has its tables with its connection, so there is none to come back to)
         return Source(lambda: opened(options), schema or Schema.built_in(), None, False), options.journal or program_of(options)
     connect: Callable[[], Database] = lambda: connected(options, schema)
-    return Source(connect, schema, options.connect, True), f"port {options.connect}"
+    return Source(connect, schema, options.connect, True), called(options.connect)
 
 
 def parser_of() -> argparse.ArgumentParser:

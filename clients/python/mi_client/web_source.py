@@ -13,6 +13,7 @@ from mi_client import fitting, process
 from mi_client.commands import LOOK_UPS
 from mi_client.database import Database
 from mi_client.errors import Ended
+from mi_client.listening import Where
 from mi_client.schema import Schema
 from mi_client.service_lines import STATUS_LINE
 from mi_client.web_desk import Line, Stack
@@ -46,7 +47,7 @@ class Told(NamedTuple):
 
 
 class Source:
-    def __init__(self, connect: Callable[[], Database], schema: Optional[Schema], port: Optional[int], returns: bool) -> None:
+    def __init__(self, connect: Callable[[], Database], schema: Optional[Schema], port: Optional[Where], returns: bool) -> None:
         """`connect` gives a connection; it is asked again where one has ended, if the server `returns`. Where no schema is given the server is
         asked for it once; one that tells none has the built-in one."""
         self.schema, self.port, self.returns = schema or Schema.built_in(), port, returns

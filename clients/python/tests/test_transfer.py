@@ -253,7 +253,7 @@ class Ports(unittest.TestCase):
         for text in ("65536", "-1", "x", "127.0.0.1:8000"):
             ran = kit.ran("dump", f"--connect={text}")
             self.assertEqual((ran.returncode, ran.stderr.rpartition("error: ")[2]),
-                             (2, f"argument --connect: {text!r} is no port: a number from 0 to 65535 is wanted\n"))
+                             (2, f"argument --connect: {text!r} is no port: a number from 0 to 65535 is wanted, or a path with a / in it\n"))
 
     def test_port_0_starts_no_server(self) -> None:
         words = ["--connect", "0", "--program", kit.program(), f"{kit.folder(self)}/none"]

@@ -2,3 +2,4 @@ mod TurnLemmas
 mod OpeningLemmas
 mod WordsLemmas
 mod ServedLemmas
+mod EventLemmas

@@ -1,5 +1,7 @@
 -- To be read in this order, behind those of mi_clients.
 pub mod Turns
+pub mod Link
+pub mod Events
 pub mod JournalFile
 pub mod Device
 pub mod Words

@@ -1,6 +1,5 @@
 -- What the words of the command line ask for.
-use Rattle.std.specs.Prelude.{◌≡◌, ℕ, List, Bool, true, false, if◌then◌else◌, Option, Some, None, option_map, codes, bytes_eq, pos}
-use Rattle.std.specs.Str.Parse.{digits_value, without_leading_plus}
+use Rattle.std.specs.Prelude.{◌≡◌, ◌||◌, ℕ, List, Bool, true, false, if◌then◌else◌, Option, Some, None, is_some, option_map, codes, bytes_eq, pos}
 use Rattle.std.specs.String.{string_bytes}
 use Rattle.clap.specs.Words.{App, Row, with_rule, new_app, first_of, one_of}
 use Rattle.clap.specs.declared.builder.value_parser.ValueParser.{ValueParser}
@@ -8,6 +7,7 @@ use Rattle.clap.specs.declared.builder.value_parser.ValueParser.TheVariants as v
 use Rattle.mi_clients.specs.declared.silence.Limits.{Limits}
 use Rattle.mi_program.specs.Words.{option_rule, number_rule, IsNumber}
 use Rattle.mi_serving.specs.declared.words.Options.{Options}
+use Rattle.mi_serving.specs.declared.words.Places.{Places}
 use Rattle.mi_serving.specs.declared.words.JournalWords.{JournalWords}
 use Rattle.mi_serving.specs.declared.words.SyncMode.{SyncMode}
 use Rattle.mi_serving.specs.declared.words.TheConstants.{MOST_SECONDS}
@@ -42,10 +42,14 @@ seconds_parser = vp.Unsigned 1 MOST_SECONDS
 abbrev pub with_limits : App → App
 with_limits app = with_rule (with_rule app (number_rule (codes "hold-seconds") seconds_parser)) (number_rule (codes "idle-seconds") seconds_parser)
 
+-- options, and those that say where the service listens
+abbrev pub with_places : App → App
+with_places app = with_rule (with_rule app (number_rule (codes "listen") port_parser)) (option_rule (codes "unix"))
+
 -- the options that the service knows
 abbrev pub service_options : App
-service_options = with_limits (with_rule (with_rule (with_rule (with_rule (new_app (codes "mi_service")) (option_rule (codes "schema")))
-    (number_rule (codes "listen") port_parser)) (option_rule (codes "journal"))) (option_rule (codes "sync")))
+service_options = with_limits (with_rule (with_rule (with_places (with_rule (new_app (codes "mi_service")) (option_rule (codes "schema"))))
+    (option_rule (codes "journal"))) (option_rule (codes "sync")))
 
 -- when lines are made to stay by this word: with no word once a turn
 abbrev pub sync_of : List ℕ → Option SyncMode
@@ -63,6 +67,16 @@ IsJournal None (Some word) journal = ⊥
 IsJournal (Some file) word None = ⊥
 IsJournal (Some file) word (Some journal) = (string_bytes journal.file ≡ file) × (sync_by word ≡ Some journal.sync)
 
+-- the port that a word says, or none without a word
+abbrev pub IsPort : Option (List ℕ) → Option ℕ → Type 0
+IsPort word port = IsNumber 0 65535 word port
+
+-- `--listen` is the port, `--unix` the path, and one of them is there at least
+pub record ArePlaces (rows : List Row) (places : Places) : Type 0 where
+  pub port : IsPort (one_of (codes "listen") rows) places.port
+  pub unix : option_map string_bytes places.unix ≡ first_of (codes "unix") rows
+  pub some : (is_some places.port || is_some places.unix) ≡ true
+
 -- the seconds that a word says, or none without a word
 abbrev pub IsSeconds : Option (List ℕ) → Option ℕ → Type 0
 IsSeconds word seconds = IsNumber 1 MOST_SECONDS word seconds
@@ -75,6 +89,6 @@ pub record AreLimits (rows : List Row) (limits : Limits) : Type 0 where
 -- The options are the values that were matched.
 pub record AreValues (options : Options) (rows : List Row) : Type 0 where
   pub schema : option_map string_bytes options.schema ≡ first_of (codes "schema") rows
-  pub port : (text : List ℕ) × (one_of (codes "listen") rows ≡ Some text) × (options.port ≡ digits_value 10 (without_leading_plus text))
+  pub places : ArePlaces rows options.places
   pub journal : IsJournal (first_of (codes "journal") rows) (first_of (codes "sync") rows) options.journal
   pub limits : AreLimits rows options.limits

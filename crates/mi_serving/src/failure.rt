@@ -1,5 +1,5 @@
 //! Why the service ends: the line on standard error and the exit status.
-ghost use Rattle.std.specs.Prelude.{◌≡◌, ◌⊎◌, true};
+ghost use Rattle.std.specs.Prelude.{◌≡◌, ◌⊎◌, true, false};
 ghost use Rattle.mi_serving.specs.Recovery.{ends_replay, told_as};
 ghost use Rattle.mi_serving.specs.Status.{status_of};
 
@@ -26,7 +26,7 @@ pub enum Failure {
     Journal,
     /// Standard output can't be written to.
     Output,
-    /// The port can't be listened on.
+    /// The port, or the path, can't be listened on.
     Listen,
     /// The system doesn't tell which connections are ready.
     Poll,
@@ -116,16 +116,32 @@ pub struct Fault {
     pub failure: Failure,
     /// What the system said.
     pub error: Option<io::Error>,
+    /// Whether it is the path that can't be listened on.
+    pub is_of_path: bool,
 }
 
 impl Fault {
     /// A failure of which the system has said this.
     pub fn of(failure: Failure, error: io::Error) -> Fault
-        ensures { result.failure ≡ failure }
+        ensures failure { result.failure ≡ failure }
+        ensures other { result.is_of_path ≡ false }
     {
         Fault {
             failure,
             error: Some(error),
+            is_of_path: false,
+        }
+    }
+
+    /// The path can't be listened on, since the system has said this.
+    pub fn of_path(error: io::Error) -> Fault
+        ensures failure { result.failure ≡ Failure.Listen }
+        ensures path { result.is_of_path ≡ true }
+    {
+        Fault {
+            failure: Failure::Listen,
+            error: Some(error),
+            is_of_path: true,
         }
     }
 }
@@ -137,6 +153,7 @@ impl From<Failure> for Fault {
         Fault {
             failure,
             error: None,
+            is_of_path: false,
         }
     }
 }

@@ -1,4 +1,4 @@
-//! What the program does, in its order: the words are judged, the schema is read, the port is listened on, the journal is asked again,
+//! What the program does, in its order: the words are judged, the schema is read, the port and the path are listened on, the journal is asked again,
 //! and then connections are served.
 ghost use Rattle.std.specs.Prelude.{◌≡◌, [], Ok, true, false, is_some, option_map, IfOk, MatchOption};
 ghost use Rattle.std.specs.String.{string_bytes};
@@ -34,6 +34,7 @@ use mi_sessions::Sessions;
 use std::alloc::{AllocError, Global};
 use std::convert::AsStr;
 use std::fs::File;
+use std::io;
 use std::io::Write;
 use std::net::Net;
 use std::random::RandomSource;
@@ -90,9 +91,24 @@ fn ledger_of<P: JournalFiles, D: Sessions + Drop>(
     }
 }
 
+/// Writes where it listens: a line for the port, and one for the path.
+fn write_places<W: Write>(output: &mut W, port: Option<u16>, path: Option<&str>) -> io::Result<()> {
+    if let Some(port) = port {
+        writeln!(output, "listening 127.0.0.1:{port}")?;
+    }
+    if let Some(path) = path {
+        writeln!(output, "listening {path}")?;
+    }
+    output.flush()
+}
+
 /// Says where it listens.
-fn announce<W: Write>(output: &mut W, port: u16) -> Result<(), Failure> {
-    if writeln!(output, "listening 127.0.0.1:{port}").is_err() || output.flush().is_err() {
+fn announce<W: Write>(
+    output: &mut W,
+    port: Option<u16>,
+    path: Option<&str>,
+) -> Result<(), Failure> {
+    if write_places(output, port, path).is_err() {
         return Err(Failure::Output);
     }
     Ok(())
@@ -117,6 +133,7 @@ fn serve_hub<P: JournalFiles, D: Sessions + Drop, C: Clock, W: Write>(
     header: &str,
     journal: Option<&JournalWords>,
     door: &mut Door,
+    path: Option<&str>,
     patience: &mut Patience<'_, C>,
     schema: &SchemaLine,
     output: &mut W,
@@ -127,7 +144,7 @@ fn serve_hub<P: JournalFiles, D: Sessions + Drop, C: Clock, W: Write>(
 {
     let port = door.port()?;
     let mut ledger = ledger_of(alloc, files, hub, header, journal)?;
-    announce(output, port)?;
+    announce(output, port, path)?;
     let failure = serve(
         alloc,
         &mut ledger,
@@ -164,7 +181,7 @@ fn perform<R: Files + Net + AllocGlobal + RandomSource + Clock, P: JournalFiles,
         ended.failure) }
 {
     let Source { catalog, line } = catalog(rt, options.schema.as_deref())?;
-    let mut door = Door::open(rt, options.port)?;
+    let mut door = Door::open(rt, &options.places)?;
     let Ok(header) = header_of(rt.alloc(), &catalog) else {
         return Err(Fault::from(Failure::Memory));
     };
@@ -178,6 +195,7 @@ fn perform<R: Files + Net + AllocGlobal + RandomSource + Clock, P: JournalFiles,
         header.as_str(),
         journal,
         &mut door,
+        options.places.unix.as_deref(),
         &mut patience,
         &line,
         output,
@@ -192,7 +210,7 @@ fn perform<R: Files + Net + AllocGlobal + RandomSource + Clock, P: JournalFiles,
 /// | 3 | the schema or the journal can't be read or is refused | `schema: ` or `journal: ` and a word |
 /// | 4 | the journal, the listener or memory failed | `fault: ` and a word |
 ///
-/// Behind the word stand the file or the port, and what the system said, where it said something.
+/// Behind the word stand the file, the port or the path, and what the system said, where it said something.
 pub fn run<
     R: Files<File = File> + Net + AllocGlobal + RandomSource + Clock,
     S: AsStr,

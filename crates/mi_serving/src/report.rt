@@ -4,13 +4,13 @@ ghost use Rattle.mi_program.specs.Status.{status_of_words};
 ghost use Rattle.mi_serving.specs.Status.{status_of};
 
 use crate::failure::{Failure, Fault};
-use crate::words::Options;
+use crate::words::{Options, Places};
 use mi_program::WordsFault;
 use std::alloc::Global;
 use std::io::Write;
 use std::{fmt, io};
 
-/// What a failure is about: a file, or a port of 127.0.0.1.
+/// What a failure is about: a file, as that of a socket, or a port of 127.0.0.1.
 #[derive(Clone, Copy, Drop)]
 enum Place<'a> {
     File(&'a str),
@@ -26,9 +26,20 @@ impl<'a> fmt::Display for Place<'a> {
     }
 }
 
+/// What can't be listened on: the path where that is told, else the port, or the path where no port is asked for.
+fn listened_place<'a>(is_of_path: bool, places: &'a Places) -> Option<Place<'a>> {
+    match places.port {
+        Some(port) if !is_of_path => Some(Place::Port(port)),
+        _ => {
+            let path = places.unix.as_deref()?;
+            Some(Place::File(path))
+        }
+    }
+}
+
 /// What a failure is about, where the words name it.
-fn place_of<'a>(failure: &Failure, options: &'a Options) -> Option<Place<'a>> {
-    match failure {
+fn place_of<'a>(fault: &Fault, options: &'a Options) -> Option<Place<'a>> {
+    match &fault.failure {
         Failure::SchemaFile | Failure::Schema(_) => {
             let path = options.schema.as_deref()?;
             Some(Place::File(path))
@@ -41,7 +52,7 @@ fn place_of<'a>(failure: &Failure, options: &'a Options) -> Option<Place<'a>> {
             let journal = options.journal.as_ref()?;
             Some(Place::File(journal.file.as_str()))
         }
-        Failure::Listen => Some(Place::Port(options.port)),
+        Failure::Listen => listened_place(fault.is_of_path, &options.places),
         Failure::Output | Failure::Poll | Failure::Memory | Failure::Turns => None,
     }
 }
@@ -66,7 +77,7 @@ fn write_line<E: Write>(
 ) -> io::Result<()> {
     let failure = &fault.failure;
     write!(errors, "{failure}")?;
-    if let Some(place) = place_of(failure, options) {
+    if let Some(place) = place_of(fault, options) {
         write!(errors, ": {place}")?;
     }
     if let Some(error) = &fault.error {
@@ -100,7 +111,7 @@ pub(crate) fn refuse<E: Write>(fault: &WordsFault, errors: &mut E) -> u8
         WordsFault::Rules => {
             let _ = writeln!(
                 errors,
-                "usage: --listen is needed; --sync goes with --journal and is always, turn or never"
+                "usage: --listen or --unix is needed; --sync goes with --journal and is always, turn or never"
             );
             2
         }

@@ -2,6 +2,7 @@
 ghost use Rattle.std.specs.Prelude.{◌≡◌, ◌+◌, ◌^◌, ◌<◌, ◌≤◌, ◌⊎◌, List, [], length, Some, None, Err, true, IfOk, OnOk, OnErr};
 ghost use Rattle.mi_value.specs.declared.limits.TheConstants.{MAX_CONNECTIONS as most_connections};
 ghost use Rattle.mi_hub.specs.declared.fault.HubFault.{HubFault};
+ghost use Rattle.mi_replay.specs.Replayed.{replayer};
 ghost use Rattle.mi_ledger.specs.Ledger.{hub_of, log_of, IsSettled};
 ghost use Rattle.mi_clients.specs.Steps.{Step, Makes, GivesNone};
 ghost use Rattle.mi_clients.specs.Row.{ids, Attends, Joins, NoneIsOver, NoneIsWhole, SameStreams, Serves, AllOnlyAsk, StayersOnlyAsk, EachWoken, TellsWhatIs};
@@ -10,13 +11,13 @@ ghost use Rattle.mi_serving.specs.Turns.{Goes, AllUpTo, ends_serving};
 
 use crate::door::Door;
 use crate::failure::Failure;
+use crate::link::Link;
 use crate::patience::Patience;
 use mi_clients::{Admission, Client, Duplex, SchemaLine, admit, is_any_busy, serve_all};
 use mi_ledger::{Ledger, LedgerFault, REPLAYER};
 use mi_log::Log;
 use mi_sessions::Sessions;
 use mi_value::limits::MAX_CONNECTIONS;
-use mio::net::TcpStream;
 use std::alloc::Global;
 use std::time::{Clock, Duration};
 
@@ -33,12 +34,13 @@ fn accept_one<D: Sessions + Drop, L: Log + Drop>(
     alloc: Global,
     ledger: &mut Ledger<D, L>,
     door: &mut Door,
-    row: &mut Vec<Client<TcpStream>>,
+    row: &mut Vec<Client<Link>>,
     last: &mut u64,
 ) -> Result<Option<Admission>, LedgerFault>
     requires attends { Attends (ids row.old.items) (hub_of ledger.old).attached }
     requires settled { IsSettled L.appended L.synced ledger.old }
     requires known { AllUpTo last.old row.old.items }
+    requires own { replayer ≤ last.old }
     requires room { length row.old.items < most_connections }
     requires more { last.old + 1 < 2 ^ 64 }
     ensures comes { OnOk result ((steps : List Step) × GivesNone steps × Joins row.old.items row.new.items
@@ -46,7 +48,7 @@ fn accept_one<D: Sessions + Drop, L: Log + Drop>(
         × AllOnlyAsk steps (ids row.old.items)) }
     ensures known { OnOk result (AllUpTo last.new row.new.items) }
     ensures rises { last.old ≤ last.new }
-    ensures same { OnOk result (SameStreams ⟦<TcpStream as Duplex>⟧.handle last.old row.old.items row.new.items) }
+    ensures same { OnOk result (SameStreams ⟦<Link as Duplex>⟧.handle last.old row.old.items row.new.items) }
     ensures refused { IfOk result (λ came. (fault : HubFault) → came ≡ Some (Admission.Refused fault) → fault ≡ HubFault.Memory) }
     ensures attends { OnOk result (Attends (ids row.new.items) (hub_of ledger.new).attached) }
     ensures memory { OnErr result (result ≡ Err LedgerFault.Memory) }
@@ -68,18 +70,19 @@ fn accept_all<D: Sessions + Drop, L: Log + Drop>(
     alloc: Global,
     ledger: &mut Ledger<D, L>,
     door: &mut Door,
-    row: &mut Vec<Client<TcpStream>>,
+    row: &mut Vec<Client<Link>>,
     last: &mut u64,
 ) -> Result<(), LedgerFault>
     requires attends { Attends (ids row.old.items) (hub_of ledger.old).attached }
     requires settled { IsSettled L.appended L.synced ledger.old }
     requires known { AllUpTo last.old row.old.items }
+    requires own { replayer ≤ last.old }
     ensures comes { OnOk result ((steps : List Step) × GivesNone steps × Joins row.old.items row.new.items
         × Makes steps (hub_of ledger.old) (hub_of ledger.new) (L.appended (log_of ledger.old)) (L.appended (log_of ledger.new))
         × AllOnlyAsk steps (ids row.old.items)) }
     ensures known { OnOk result (AllUpTo last.new row.new.items) }
     ensures rises { last.old ≤ last.new }
-    ensures same { OnOk result (SameStreams ⟦<TcpStream as Duplex>⟧.handle last.old row.old.items row.new.items) }
+    ensures same { OnOk result (SameStreams ⟦<Link as Duplex>⟧.handle last.old row.old.items row.new.items) }
     ensures attends { OnOk result (Attends (ids row.new.items) (hub_of ledger.new).attached) }
     ensures memory { OnErr result (result ≡ Err LedgerFault.Memory) }
     ensures settled { OnOk result (IsSettled L.appended L.synced ledger.new) }
@@ -105,7 +108,7 @@ pub fn take_turn<D: Sessions + Drop, L: Log + Drop>(
     alloc: Global,
     ledger: &mut Ledger<D, L>,
     door: &mut Door,
-    row: &mut Vec<Client<TcpStream>>,
+    row: &mut Vec<Client<Link>>,
     last: &mut u64,
     each: bool,
     buffer: &mut [u8],
@@ -114,6 +117,7 @@ pub fn take_turn<D: Sessions + Drop, L: Log + Drop>(
     requires attends { Attends (ids row.old.items) (hub_of ledger.old).attached }
     requires settled { IsSettled L.appended L.synced ledger.old }
     requires known { AllUpTo last.old row.old.items }
+    requires own { replayer ≤ last.old }
     requires room { 0 < length buffer.old }
     ensures serves { OnOk result ((steps : List Step) × Serves (λ _. None) steps row.old.items row.new.items
         × Makes steps (hub_of ledger.old) (hub_of ledger.new) (L.appended (log_of ledger.old)) (L.appended (log_of ledger.new))
@@ -121,7 +125,7 @@ pub fn take_turn<D: Sessions + Drop, L: Log + Drop>(
         × TellsWhatIs (λ _. None) (line_of schema.now) steps (hub_of ledger.old) row.old.items) }
     ensures known { OnOk result (AllUpTo last.new row.new.items) }
     ensures rises { last.old ≤ last.new }
-    ensures same { OnOk result (SameStreams ⟦<TcpStream as Duplex>⟧.handle last.old row.old.items row.new.items) }
+    ensures same { OnOk result (SameStreams ⟦<Link as Duplex>⟧.handle last.old row.old.items row.new.items) }
     ensures whole { OnOk result (NoneIsWhole row.new.items) }
     ensures stay { OnOk result (NoneIsOver row.new.items) }
     ensures attends { OnOk result (Attends (ids row.new.items) (hub_of ledger.new).attached) }
@@ -135,7 +139,7 @@ pub fn take_turn<D: Sessions + Drop, L: Log + Drop>(
 /// Waits until something is ready, or for the longest time that is given, and tells the connections.
 fn wait(
     door: &mut Door,
-    row: &mut Vec<Client<TcpStream>>,
+    row: &mut Vec<Client<Link>>,
     longest: Option<Duration>,
 ) -> Result<(), Failure>
     ensures ids { ids row.new.items ≡ ids row.old.items }

@@ -1,11 +1,11 @@
 //! The words that the service is called with: which options it has, and what the words say by them.
-ghost use Rattle.std.specs.Prelude.{◌≡◌, false, true, map, option_map, IfOk};
+ghost use Rattle.std.specs.Prelude.{◌≡◌, false, true, map, option_map, codes, IfOk};
 ghost use Rattle.std.specs.String.{string_bytes};
 ghost use Rattle.clap.specs.Words.{App, app_of, rule_of, rows_of, found_of, matches_of, one_of, is_simple_and_free};
 ghost use Rattle.clap.specs.Built.{IsPlainArg};
 ghost use Rattle.mi_program.specs.Words.{option_rule, number_rule, HasOptions};
 ghost use Rattle.mi_serving.specs.Words as spec;
-ghost use Rattle.mi_serving.specs.Words.{service_options, with_limits, sync_by, IsJournal, IsSeconds, AreLimits, AreValues};
+ghost use Rattle.mi_serving.specs.Words.{service_options, with_limits, with_places, sync_by, IsJournal, IsPort, IsSeconds, AreLimits, ArePlaces, AreValues};
 
 use clap::builder::ValueParser;
 use clap::error::ErrorKind;
@@ -38,13 +38,22 @@ pub struct JournalWords {
     pub sync: SyncMode,
 }
 
+/// Where the service listens: on a port, at a path, or both.
+#[derive(Drop)]
+pub struct Places {
+    /// The port of 127.0.0.1, where one is asked for; 0 for any that is free.
+    pub port: Option<u16>,
+    /// The path of a Unix socket, where one is asked for.
+    pub unix: Option<String>,
+}
+
 /// What the service is asked to do.
 #[derive(Drop)]
 pub struct Options {
     /// The file that the schema is read from; without one it is the built-in schema.
     pub schema: Option<String>,
-    /// The port that is listened on; 0 for any that is free.
-    pub port: u16,
+    /// Where it listens.
+    pub places: Places,
     /// The journal, where one is kept.
     pub journal: Option<JournalWords>,
     /// How long connections may be silent.
@@ -114,6 +123,26 @@ fn limited<'a>(alloc: Global, command: Command<'a>) -> Result<Command<'a>, Alloc
     Ok(with_idle)
 }
 
+/// A command, and the options that say where the service listens.
+fn placed<'a>(alloc: Global, command: Command<'a>) -> Result<Command<'a>, AllocError>
+    ensures { IfOk result (λ c. (app : App) → HasOptions command.entry app → HasOptions c (with_places app)) }
+{
+    let with_listen = command.arg(number(
+        alloc,
+        "listen",
+        "PORT",
+        port_parser(),
+        "Serves connections on this port of 127.0.0.1, on any that is free where it is 0",
+    ))?;
+    let with_unix = with_listen.arg(option(
+        alloc,
+        "unix",
+        "PATH",
+        "Serves connections on a Unix socket at this path; its file has the rights that the umask leaves",
+    ))?;
+    Ok(with_unix)
+}
+
 /// The options that the service knows.
 fn command<'a>(alloc: Global) -> Result<Command<'a>, AllocError>
     ensures { IfOk result (λ c. HasOptions c service_options) }
@@ -124,14 +153,8 @@ fn command<'a>(alloc: Global) -> Result<Command<'a>, AllocError>
         "FILE",
         "Reads the schema from this TOML file; without it the table `accounts` is served",
     ))?;
-    let with_listen = with_schema.arg(number(
-        alloc,
-        "listen",
-        "PORT",
-        port_parser(),
-        "Serves connections on this port of 127.0.0.1, on any that is free where it is 0",
-    ))?;
-    let with_journal = with_listen.arg(option(
+    let with_places = placed(alloc, with_schema)?;
+    let with_journal = with_places.arg(option(
         alloc,
         "journal",
         "FILE",
@@ -225,6 +248,29 @@ fn journal_words(
     }
 }
 
+/// The port, where `--listen` stands in the words. The fault is `Rules`.
+fn port(matches: &ArgMatches<'_>) -> Result<Option<u16>, WordsFault>
+    ensures { IfOk result (IsPort (one_of (codes "listen") (rows_of (found_of matches.now)))) }
+{
+    match matches.get_one::<u16>("listen") {
+        Some(port) => Ok(Some(port)),
+        None if !matches.contains_id("listen") => Ok(None),
+        None => Err(WordsFault::Rules),
+    }
+}
+
+/// Where the service listens, by the options that were matched. The fault is `Memory`, or `Rules` where it listens nowhere.
+fn places_of(alloc: Global, matches: &ArgMatches<'_>) -> Result<Places, WordsFault>
+    ensures { IfOk result (ArePlaces (rows_of (found_of matches.now))) }
+{
+    let port = port(matches)?;
+    let unix = owned(alloc, matches.get_str("unix"))?;
+    if port.is_none() && unix.is_none() {
+        return Err(WordsFault::Rules);
+    }
+    Ok(Places { port, unix })
+}
+
 /// The seconds of an option, where it stands in the words. The fault is `Rules`.
 fn seconds(matches: &ArgMatches<'_>, name: &str) -> Result<Option<u64>, WordsFault>
     ensures { IfOk result (IsSeconds (one_of name.now (rows_of (found_of matches.now)))) }
@@ -250,14 +296,12 @@ fn values(alloc: Global, matches: &ArgMatches<'_>) -> Result<Options, WordsFault
     ensures { IfOk result (λ options. AreValues options (rows_of (found_of matches.now))) }
 {
     let schema = owned(alloc, matches.get_str("schema"))?;
-    let Some(port) = matches.get_one::<u16>("listen") else {
-        return Err(WordsFault::Rules);
-    };
+    let places = places_of(alloc, matches)?;
     let journal = journal_words(alloc, matches.get_str("journal"), matches.get_str("sync"))?;
     let limits = limits(matches)?;
     Ok(Options {
         schema,
-        port,
+        places,
         journal,
         limits,
     })
@@ -265,8 +309,8 @@ fn values(alloc: Global, matches: &ArgMatches<'_>) -> Result<Options, WordsFault
 
 /// The options that words say, the first of which is the program's name.
 ///
-/// `Parse` where they are refused or ask for help, `Rules` where `--listen` is missing, or `--sync` stands without `--journal` or names no
-/// way, `Memory` where a growth was refused.
+/// `Parse` where they are refused or ask for help, `Rules` where both `--listen` and `--unix` are missing, or `--sync` stands without
+/// `--journal` or names no way, `Memory` where a growth was refused.
 pub fn read_words<S: AsStr>(alloc: Global, words: &[S]) -> Result<Options, WordsFault>
     ensures { IfOk result (λ options. AreValues options (matches_of service_options (map S.text words.now))) }
 {

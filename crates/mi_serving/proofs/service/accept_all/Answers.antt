@@ -1,6 +1,6 @@
 -- One connection more.
 use Rattle.std.proofs.Common.{◌++◌, [], arith}
-use Rattle.mio.specs.Net.{stream_fd}
+use Rattle.mi_serving.specs.Link.{link_fd}
 use Rattle.mi_clients.proofs.StreamLemmas.{streams_none, streams_then}
 use Rattle.std.proofs.KnownBytes.{Keeps-refl}
 use Rattle.mi_ledger.specs.Ledger.{hub_of}
@@ -14,7 +14,7 @@ places-init g c = record {
   attends = c.requires.attends;
   known = c.requires.known;
   rises = omega arith;
-  same = streams_none stream_fd c.args.last.now c.args.row.now.items;
+  same = streams_none link_fd c.args.last.now c.args.row.now.items;
   settled = c.requires.settled;
   steps = [];
   none = nothing_given;
@@ -30,7 +30,7 @@ places-preserved g c =
       attends = c.in_ok-accept_one.ensures.attends;
       known = c.in_ok-accept_one.ensures.known;
       rises = omega (arith, before.rises, c.in_ok-accept_one.ensures.rises);
-      same = streams_then stream_fd c.args.last.now c.places.last c.args.row.now.items c.places.row.items c.accept_one.new.row.items before.rises
+      same = streams_then link_fd c.args.last.now c.places.last c.args.row.now.items c.places.row.items c.accept_one.new.row.items before.rises
           before.same c.in_ok-accept_one.ensures.same;
       settled = c.in_ok-accept_one.ensures.settled;
       steps = before.steps ++ one.0;
@@ -64,3 +64,6 @@ returns-clause-rises g c = c.places.invariant.rises
 
 pub returns-clause-same : goal.returns-clause-same
 returns-clause-same g c = c.places.invariant.same
+
+pub accept_one-requires-clause-own : goal.accept_one-requires-clause-own
+accept_one-requires-clause-own g c = omega (arith, c.requires.own, c.places.invariant.rises)

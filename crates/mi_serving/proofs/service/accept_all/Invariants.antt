@@ -1,5 +1,5 @@
 use Rattle.std.proofs.Common.{List, ◌≤◌}
-use Rattle.mio.specs.Net.{stream_fd}
+use Rattle.mi_serving.specs.Link.{link_fd}
 use Rattle.mi_ledger.specs.Ledger.{hub_of, log_of, IsSettled}
 use Rattle.mi_clients.specs.Steps.{Step, Makes, GivesNone}
 use Rattle.mi_clients.specs.Row.{ids, Attends, Joins, AllOnlyAsk, SameStreams}
@@ -12,7 +12,7 @@ invariant-places g l = record {
   attends : Attends (ids l.row.items) (hub_of l.ledger).attached;
   known : AllUpTo l.last l.row.items;
   rises : l.fn.last ≤ l.last;
-  same : SameStreams stream_fd l.fn.last l.fn.row.items l.row.items;
+  same : SameStreams link_fd l.fn.last l.fn.row.items l.row.items;
   settled : IsSettled g.L.Log.appended g.L.Log.synced l.ledger;
   steps : List Step;
   none : GivesNone steps;

@@ -1,5 +1,5 @@
 -- A turn more.
-use Rattle.std.proofs.Common.{sym, subst}
+use Rattle.std.proofs.Common.{sym, subst, arith}
 use Rattle.std.proofs.KnownBytes.{Keeps-refl}
 use Rattle.mi_ledger.specs.Ledger.{hub_of}
 use Rattle.mi_clients.specs.Row.{ids, Attends}
@@ -12,6 +12,7 @@ turns-init g c = record {
   attends = subst (λ items. Attends (ids items) (hub_of c.args.ledger.now).attached) (sym c.in-Ok.ensures.items)
       (record { there = c.requires.none; differ = tt });
   known = subst (λ items. AllUpTo _ items) (sym c.in-Ok.ensures.items) (up_to_none _);
+  own = omega arith;
   settled = c.requires.settled;
   goes = goes_none _ _ _ (Keeps-refl _);
 }
@@ -20,6 +21,7 @@ pub turns-preserved : goal.turns-preserved
 turns-preserved g c = record {
   attends = c.in_default-take_turn.ensures.attends;
   known = c.in_default-take_turn.ensures.known;
+  own = omega (arith, c.turns.invariant.own, c.in_default-take_turn.ensures.rises);
   settled = c.in_default-take_turn.ensures.settled;
   goes = let turn = c.in_default-take_turn.ensures.serves in
       goes_then _ (hub_of c.turns.ledger) _ _ _ _ c.turns.invariant.goes (turn.0, turn.2);

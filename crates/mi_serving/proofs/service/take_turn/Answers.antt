@@ -6,7 +6,7 @@ use Rattle.mi_clients.proofs.StepLemmas.{makes_then}
 use Rattle.mi_clients.proofs.ServedLemmas.{serves_joined, stayers_ask}
 use Rattle.mi_clients.specs.ServiceLines.{line_of}
 use Rattle.mi_clients.proofs.TellLemmas.{is_told_joined}
-use Rattle.mio.specs.Net.{stream_fd}
+use Rattle.mi_serving.specs.Link.{link_fd}
 use Rattle.mi_clients.proofs.StreamLemmas.{streams_then, streams_stay}
 use Rattle.mi_serving.proofs.TurnLemmas.{up_to_stay}
 use Rattle.mi_serving.proofs.service.take_turn.Goals as goal
@@ -26,11 +26,11 @@ returns-clause-serves g c =
 pub returns-clause-known : goal.returns-clause-known
 returns-clause-known g c =
     on_ok_weaker c.serve_all.result
-    (λ same. up_to_stay stream_fd c.accept_all.new.last c.accept_all.new.row.items c.serve_all.new.row.items c.in_ok-accept_all.ensures.known same)
+    (λ same. up_to_stay link_fd c.accept_all.new.last c.accept_all.new.row.items c.serve_all.new.row.items c.in_ok-accept_all.ensures.known same)
     c.serve_all.ensures.same
 
 pub returns-clause-same : goal.returns-clause-same
 returns-clause-same g c =
-    on_ok_weaker c.serve_all.result (λ same. streams_then stream_fd c.args.last.now c.accept_all.new.last c.args.row.now.items c.accept_all.new.row.items
+    on_ok_weaker c.serve_all.result (λ same. streams_then link_fd c.args.last.now c.accept_all.new.last c.args.row.now.items c.accept_all.new.row.items
     c.serve_all.new.row.items c.in_ok-accept_all.ensures.rises c.in_ok-accept_all.ensures.same
-    (streams_stay stream_fd c.accept_all.new.last c.accept_all.new.row.items c.serve_all.new.row.items same)) c.serve_all.ensures.same
+    (streams_stay link_fd c.accept_all.new.last c.accept_all.new.row.items c.serve_all.new.row.items same)) c.serve_all.ensures.same
