@@ -1,5 +1,5 @@
 -- What a connection is to be sent, and what becomes of that while some steps are made.
-use Rattle.std.specs.Prelude.{◌≡◌, ◌⊎◌, ◌≤◌, ◌<◌, ◌==◌, ◌||◌, ℕ, ℤ, Bool, true, List, [], ◌∷◌, ◌++◌, length, IsTrue, IsFalse, Option, IfSome, if◌then◌else◌}
+use Rattle.std.specs.Prelude.{◌≡◌, ◌⊎◌, ◌≤◌, ◌<◌, ◌==◌, ◌||◌, ℕ, ℤ, Bool, true, List, [], ◌∷◌, ◌++◌, length, IsTrue, IsFalse, Option, IfSome, IsSome, if◌then◌else◌}
 use Rattle.std.specs.Io.KnownBytes.{Appends, Consumes, IsAtEnd}
 use Rattle.mi_ledger.specs.HeldReplies.{bytes_of}
 use Rattle.mi_clients.specs.Output.{unsent, HoldsNothing}
@@ -91,9 +91,10 @@ AsksAll steps old new =
 abbrev pub WantsBytes : {S : Type 0} → Client S → Type 0
 WantsBytes c = (c.phase ≡ Open) × IsTrue c.may_read × IsFalse c.has_lines × HasRoom c
 
--- something of it can be done at once: its lines asked, its stream read, or some of what was handed out written to it
+-- something of it can be done at once: its lines asked, its stream read, some of what was handed out written to it, or another one ended that
+-- it has asked to end
 abbrev pub IsBusy : {S : Type 0} → Client S → Type 0
-IsBusy c = MayAsk c ⊎ (WantsBytes c ⊎ (IsTrue c.may_write × ¬ (unsent c.output ≡ [])))
+IsBusy c = MayAsk c ⊎ (WantsBytes c ⊎ ((IsTrue c.may_write × ¬ (unsent c.output ≡ [])) ⊎ IsSome c.ends))
 
 -- These steps of a connection are none, or in the last of them it asks a line while what it was owed, and the replies of the steps in front
 -- of that, had room.

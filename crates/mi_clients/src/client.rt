@@ -159,7 +159,10 @@ impl<S> Client<S> {
     pub(crate) fn is_busy(&self) -> bool
         ensures { IsTrue result ↔ IsBusy self.now }
     {
-        self.may_ask() || self.wants_bytes() || self.may_write && !self.output.waiting().is_empty()
+        self.may_ask()
+            || self.wants_bytes()
+            || self.may_write && !self.output.waiting().is_empty()
+            || self.ends.is_some()
     }
 
     /// Whether nothing of its replies is unsent.

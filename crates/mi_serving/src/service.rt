@@ -13,7 +13,7 @@ use crate::door::Door;
 use crate::failure::Failure;
 use crate::link::Link;
 use crate::patience::Patience;
-use mi_clients::{Admission, Client, Duplex, SchemaLine, admit, is_any_busy, serve_all};
+use mi_clients::{Admission, Client, Duplex, SchemaLine, admit, end_asked, is_any_busy, serve_all};
 use mi_ledger::{Ledger, LedgerFault, REPLAYER};
 use mi_log::Log;
 use mi_sessions::Sessions;
@@ -154,7 +154,7 @@ fn wait(
 
 /// Serves connections that come through a door until something fails, and says what: `Poll`, `Memory`, `Journal` or `Turns`. With `each` a
 /// line's reply waits for a sync of its own, else for one that all lines of a turn have together. Who is silent for longer than the patience
-/// lasts is let go. `schema` is told to whoever asks for it.
+/// lasts, or was asked to end, is let go. `schema` is told to whoever asks for it.
 pub fn serve<D: Sessions + Drop, L: Log + Drop, C: Clock>(
     alloc: Global,
     ledger: &mut Ledger<D, L>,
@@ -180,6 +180,7 @@ pub fn serve<D: Sessions + Drop, L: Log + Drop, C: Clock>(
             return failure;
         }
         patience.give_up(ledger, &mut row);
+        end_asked(&mut row);
         if let Err(fault) = take_turn(
             alloc,
             ledger,

@@ -1,5 +1,5 @@
 -- A turn more.
-use Rattle.std.proofs.Common.{sym, subst, arith}
+use Rattle.std.proofs.Common.{sym, ◌∙◌, subst, arith}
 use Rattle.std.proofs.KnownBytes.{Keeps-refl}
 use Rattle.mi_ledger.specs.Ledger.{hub_of}
 use Rattle.mi_clients.specs.Row.{ids, Attends}
@@ -29,5 +29,6 @@ turns-preserved g c = record {
 
 pub take_turn-requires-clause-known : goal.take_turn-requires-clause-known
 take_turn-requires-clause-known g c =
-    up_to_ids c.turns.last c.wait.new.row.items c.give_up.new.row.items
-    (up_to_woken c.turns.last c.turns.row.items c.wait.new.row.items c.turns.invariant.known c.wait.ensures.woken) c.give_up.ensures.ids
+    up_to_ids c.turns.last c.wait.new.row.items c.end_asked.new.row.items
+    (up_to_woken c.turns.last c.turns.row.items c.wait.new.row.items c.turns.invariant.known c.wait.ensures.woken)
+    (c.end_asked.ensures.ids ∙ c.give_up.ensures.ids)
