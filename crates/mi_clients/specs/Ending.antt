@@ -1,5 +1,5 @@
 -- Connections that others have asked to end. Connection 3 asks "{\"service\":\"end\",\"connection\":2}⏎": that is noted of it, and then 2 is given up.
-use Rattle.std.specs.Prelude.{◌≡◌, ◌⊎◌, ℕ, List, [], ◌∷◌, Option, Some, None}
+use Rattle.std.specs.Prelude.{◌≡◌, ◌⊎◌, ℕ, List, [], ◌∷◌, Some, None}
 use Rattle.std.specs.List.{All, AllZip}
 use Rattle.mi_clients.specs.Silence.{IsGivenUp}
 use Rattle.mi_clients.specs.declared.client.Client.{Client}

@@ -1,10 +1,9 @@
 -- What writes at places leave of a file with room; the file with room cites them.
 use Rattle.std.proofs.Common.{◌≡◌, ◌≤◌, ◌+◌, ◌-◌, max, min, ℕ, zero, suc, List, [], ◌∷◌, ◌++◌, length, take, drop, Bool, true, false, not, ◌==◌, ◌&&◌}
-use Rattle.std.proofs.Common.{Option, Some, None, option_map, replicate, refl, sym, ap, subst, ◌∙◌, arith}
-use Rattle.std.proofs.lemmas.List.{length-append, length-take-le, length-drop, take-append-drop, take-append-le, drop-append-le}
-use Rattle.std.proofs.Math.Seq.{take-append-add, take-append_seam, drop-append-add, drop-append_seam, take-length}
+use Rattle.std.proofs.Common.{Option, Some, None, replicate, refl, sym, ap, ◌∙◌, arith}
+use Rattle.std.proofs.lemmas.List.{length-append, length-take-le, length-drop, take-append-drop, drop-append-le}
+use Rattle.std.proofs.Math.Seq.{drop-append-add, drop-append_seam, take-length}
 use Rattle.std.specs.Prelude.{IfSome}
-use Rattle.std.specs.Io.KnownBytes.{Appends}
 use Rattle.mi_log.specs.Placed.{placed, IsPlaced}
 use Rattle.mi_log.specs.Room.{front_of, ends_no_line, IsRoomy}
 

@@ -1,8 +1,8 @@
 -- One more is ended.
-use Rattle.std.proofs.Common.{◌≡◌, ◌⊎◌, inl, inr, ℕ, refl, sym, ap, ◌∙◌, subst, arith}
+use Rattle.std.proofs.Common.{◌≡◌, inl, inr, refl, sym, ◌∙◌, subst, arith}
 use Rattle.mi_clients.specs.Row.{ids}
 use Rattle.mi_clients.specs.Ending.{HasAsked, IsBroken}
-use Rattle.mi_clients.proofs.EndingLemmas.{asked_count, takes_ids, takes_one, ended_count, takes_asked, takes_from, takes_first_asked, takes_broken, takes_before, none_asked}
+use Rattle.mi_clients.proofs.EndingLemmas.{takes_ids, takes_one, ended_count, takes_asked, takes_from, takes_first_asked, takes_broken, takes_before, none_asked}
 use Rattle.mi_clients.proofs.EndingLemmas.{ended_asked, ended_from, ended_broken, ended_self, ended_before, before_same}
 use Rattle.mi_clients.proofs.ending.end_asked.Goals as goal
 

@@ -1,6 +1,6 @@
 -- One more is ended.
 use Rattle.std.proofs.Common.{rules, ◌≡◌, ◌<◌, ◌≤◌, length, arith}
-use Rattle.mi_clients.specs.Ending.{IsEnded, EachEnded}
+use Rattle.mi_clients.specs.Ending.{IsEnded}
 use Rattle.mi_clients.proofs.RowLemmas.{done_set, whole_row}
 use Rattle.mi_clients.proofs.EndingLemmas.{ended_all, ended_ids}
 use Rattle.mi_clients.proofs.ending.end_one.Goals as goal

@@ -1,6 +1,6 @@
 -- The first of which something is noted.
-use Rattle.std.proofs.Common.{◌≡◌, ◌<◌, ◌≤◌, ◌+◌, ◌∙◌, rules, sym, ap, subst, length, true, slice_set, arith}
-use Rattle.std.specs.Prelude.{slice_index_or, is_some}
+use Rattle.std.proofs.Common.{◌≡◌, ◌<◌, ◌+◌, ◌∙◌, rules, sym, ap, subst, length, true, slice_set, arith}
+use Rattle.std.specs.Prelude.{is_some}
 use Rattle.mi_clients.specs.Ending.{forgotten, TakesEnd}
 use Rattle.mi_clients.proofs.EndingLemmas.{NoneTo, none_more, none_all, none_noted, takes_first, same_place, found_end}
 use Rattle.mi_clients.proofs.ending.next_end.Goals as goal

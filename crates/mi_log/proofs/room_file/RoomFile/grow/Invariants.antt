@@ -1,4 +1,4 @@
-use Rattle.std.proofs.Common.{◌≡◌, ◌≤◌, ◌-◌, ◌+◌, true, ℕ}
+use Rattle.std.proofs.Common.{◌≡◌, ◌≤◌, ◌-◌, true}
 use Rattle.mi_log.specs.Room.{front_of, ends_no_line}
 use Rattle.mi_log.proofs.room_file.RoomFile.grow.Given as goal
 

@@ -1,4 +1,4 @@
-use Rattle.std.proofs.Common.{ap, subst, sym, ◌+◌, ◌∙◌}
+use Rattle.std.proofs.Common.{subst, sym, ◌+◌}
 use Rattle.mi_log.specs.Room.{IsRoomy}
 use Rattle.mi_log.proofs.RoomLemmas.{roomy_behind}
 use Rattle.mi_log.proofs.room_file.RoomFileDevice.write.Goals as goal
