@@ -10,6 +10,7 @@ use Rattle.mi_ledger.specs.HeldReplies.{bytes_of}
 use Rattle.mi_ledger.specs.Journals.{IsWholeLine}
 use Rattle.mi_ledger.specs.Ledger.{holder_conn}
 use Rattle.mi_model.specs.Database.{Database}
+use Rattle.mi_log.specs.declared.log.LogState.{LogState}
 use Rattle.mi_clients.specs.Output.{unsent}
 use Rattle.mi_clients.specs.ServiceLines.{is_service, asks_status, asks_schema, ended_in, done_line, form_line, told_to}
 use Rattle.mi_clients.specs.Status.{listed, connection_text, database_text, status_line, memory_line}
@@ -67,8 +68,8 @@ told_some status schema line p q = by_three (asks_status line) (asks_schema line
     by_three false false true = bytes_some _ _
     by_three false false false = bytes_some _ _
 
-pub status_some : {S : Type 0} (row : List (Client S)) (s : HubState) → ¬ (status_line row s ≡ [])
-status_some row s = bytes_some _ _
+pub status_some : {S : Type 0} (row : List (Client S)) (s : HubState) (j : LogState) → ¬ (status_line row s j ≡ [])
+status_some row s j = bytes_some _ _
 
 pub memory_some : ¬ (memory_line ≡ [])
 memory_some = bytes_some _ _
@@ -78,16 +79,16 @@ schema_some [] some e = absurd (omega arith)
 schema_some (x ∷ xs) some e = bytes_some x xs e
 
 -- the parts of a status, one behind another
-pub status_joined : {S : Type 0} (row : List (Client S)) (s : HubState) (h : Option ℕ) (d : Database) (old a b new : List ℕ)
+pub status_joined : {S : Type 0} (row : List (Client S)) (s : HubState) (j : LogState) (h : Option ℕ) (d : Database) (old a b new : List ℕ)
     → h ≡ holder_conn s.held.holder → d ≡ s.held.database → a ≡ old ++ codes "{\"connections\":["
-    → b ≡ a ++ listed (connection_text h) 0 row → new ≡ b ++ database_text h d → new ≡ old ++ status_line row s
-status_joined row s h d old a b new eh ed ea eb en =
+    → b ≡ a ++ listed (connection_text h) 0 row → new ≡ b ++ database_text h j d → new ≡ old ++ status_line row s j
+status_joined row s j h d old a b new eh ed ea eb en =
     let k = codes "{\"connections\":[" in
     let cs = listed (connection_text h) 0 row in
-    let db = database_text h d in
+    let db = database_text h j d in
     en ∙ ap (λ t. t ++ db) (eb ∙ ap (λ t. t ++ cs) ea) ∙ append_assoc (old ++ k) cs db ∙ append_assoc old k (cs ++ db)
-    ∙ ap (λ x. old ++ (k ++ (listed (connection_text x) 0 row ++ database_text x d))) eh
-    ∙ ap (λ x. old ++ (k ++ (listed (connection_text (holder_conn s.held.holder)) 0 row ++ database_text (holder_conn s.held.holder) x))) ed
+    ∙ ap (λ x. old ++ (k ++ (listed (connection_text x) 0 row ++ database_text x j d))) eh
+    ∙ ap (λ x. old ++ (k ++ (listed (connection_text (holder_conn s.held.holder)) 0 row ++ database_text (holder_conn s.held.holder) j x))) ed
 
 -- ---- steps in which nothing is told
 

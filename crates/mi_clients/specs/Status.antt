@@ -1,11 +1,14 @@
 -- The line that tells the status of a service: its connections, who of them holds sessions, how many sessions are open, and how many rows
 -- each table has. With connection 2 alone, which holds the one session over an empty table:
--- {"connections":[{"holds":true,"number":2,"unsent":0}],"depth":1,"holder":2,"ok":true,"tables":[{"name":"accounts","size":0}],"version":"0.1.0"}
+-- {"connections":[{"holds":true,"number":2,"unsent":0}],"depth":1,"holder":2,"journal":{"bytes":180,"full":false},"ok":true,
+-- "tables":[{"name":"accounts","size":0}],"version":"0.1.0"}
 use Rattle.std.specs.Prelude.{◌≡◌, ◌⊎◌, ℕ, ◌+◌, List, [], ◌∷◌, ◌++◌, length, Bool, true, false, ◌==◌, if◌then◌else◌, Option, Some, None, codes, decimal}
+use Rattle.std.specs.Option.{option_map_or}
 use Rattle.mi_catalog.specs.Shape.{Shape}
 use Rattle.mi_model.specs.Database.{Database, table_of, depth}
 use Rattle.mi_model.specs.Table.{size}
 use Rattle.mi_hub.specs.Run.{HubState}
+use Rattle.mi_log.specs.declared.log.LogState.{LogState}
 use Rattle.mi_ledger.specs.Ledger.{holder_conn, is_conn}
 use Rattle.mi_clients.specs.Client.{owed}
 use Rattle.mi_clients.specs.declared.client.Client.{Client}
@@ -37,17 +40,21 @@ holder_text (Some conn) = decimal conn
 abbrev pub table_text : Database → ℕ → Shape → List ℕ
 table_text d n s = codes "{\"name\":\"" ++ (s.table_name ++ (codes "\",\"size\":" ++ (decimal (size (table_of d n)) ++ codes "}")))
 
--- what is said of a database, some of whose sessions this connection may hold
-abbrev pub database_text : Option ℕ → Database → List ℕ
-database_text holder d =
-    codes "],\"depth\":" ++ (decimal (depth d) ++ (codes ",\"holder\":" ++ (holder_text holder ++ (codes ",\"ok\":true,\"tables\":["
-    ++ (listed (table_text d) 0 d.catalog.tables ++ codes "],\"version\":\"0.1.0\"}\n")))))
+-- a journal, where one is kept: how many bytes it has, and whether it lacks room
+abbrev pub journal_text : LogState → List ℕ
+journal_text j = option_map_or (λ n. codes "{\"bytes\":" ++ (decimal n ++ (codes ",\"full\":" ++ (flag_text j.is_full ++ codes "}")))) j.bytes (codes "null")
 
--- the status of a service with these connections over this hub
-abbrev pub status_line : {S : Type 0} → List (Client S) → HubState → List ℕ
-status_line row s =
+-- what is said of a database, some of whose sessions this connection may hold, and of its journal
+abbrev pub database_text : Option ℕ → LogState → Database → List ℕ
+database_text holder j d =
+    codes "],\"depth\":" ++ (decimal (depth d) ++ (codes ",\"holder\":" ++ (holder_text holder ++ (codes ",\"journal\":" ++ (journal_text j
+    ++ (codes ",\"ok\":true,\"tables\":[" ++ (listed (table_text d) 0 d.catalog.tables ++ codes "],\"version\":\"0.1.0\"}\n")))))))
+
+-- the status of a service with these connections over this hub, and of its journal
+abbrev pub status_line : {S : Type 0} → List (Client S) → HubState → LogState → List ℕ
+status_line row s j =
     codes "{\"connections\":[" ++ (listed (connection_text (holder_conn s.held.holder)) 0 row
-    ++ database_text (holder_conn s.held.holder) s.held.database)
+    ++ database_text (holder_conn s.held.holder) j s.held.database)
 
 -- what is told where memory for a status is refused
 abbrev pub memory_line : List ℕ
@@ -55,4 +62,4 @@ memory_line = codes "{\"error\":\"memory\",\"ok\":false}\n"
 
 -- a line tells that status, or that memory for it is refused
 abbrev pub IsStatus : {S : Type 0} → List (Client S) → HubState → List ℕ → Type 0
-IsStatus row s line = (line ≡ status_line row s) ⊎ (line ≡ memory_line)
+IsStatus row s line = ((j : LogState) × (line ≡ status_line row s j)) ⊎ (line ≡ memory_line)

@@ -8,6 +8,7 @@ ghost use Rattle.mi_clients.specs.Status as spec;
 
 use crate::client::Client;
 use mi_hub::Hub;
+use mi_log::LogState;
 use mi_sessions::Sessions;
 use std::alloc::{AllocError, Global};
 
@@ -120,19 +121,36 @@ fn add_tables<D: Sessions>(alloc: Global, text: &mut String, database: &D) -> Re
     Ok(())
 }
 
-/// Adds what a database and its sessions are.
+/// Adds what a journal is, where one is kept: how many bytes it has, and whether it lacks room.
+fn add_journal(alloc: Global, text: &mut String, journal: LogState) -> Result<(), AllocError>
+    ensures { OnOk result (string_bytes text.new ≡ string_bytes text.old ++ spec.journal_text journal) }
+{
+    let Some(bytes) = journal.bytes else {
+        return text.push_str("null");
+    };
+    text.push_str("{\"bytes\":")?;
+    add_number(alloc, text, bytes)?;
+    text.push_str(",\"full\":")?;
+    text.push_str(flag_word(journal.is_full))?;
+    text.push_str("}")
+}
+
+/// Adds what a database and its sessions are, and its journal.
 fn add_database<D: Sessions>(
     alloc: Global,
     text: &mut String,
     database: &D,
+    journal: LogState,
     holder: Option<u64>,
 ) -> Result<(), AllocError>
-    ensures { OnOk result (string_bytes text.new ≡ string_bytes text.old ++ spec.database_text holder (D.state database.now)) }
+    ensures { OnOk result (string_bytes text.new ≡ string_bytes text.old ++ spec.database_text holder journal (D.state database.now)) }
 {
     text.push_str("],\"depth\":")?;
     add_number(alloc, text, database.depth())?;
     text.push_str(",\"holder\":")?;
     add_holder(alloc, text, holder)?;
+    text.push_str(",\"journal\":")?;
+    add_journal(alloc, text, journal)?;
     text.push_str(",\"ok\":true,\"tables\":[")?;
     add_tables(alloc, text, database)?;
     text.push_str("],\"version\":\"0.1.0\"}\n")
@@ -143,25 +161,27 @@ fn add_status<D: Sessions + Drop, S>(
     alloc: Global,
     text: &mut String,
     hub: &Hub<D>,
+    journal: LogState,
     row: &[Client<S>],
 ) -> Result<(), AllocError>
-    ensures { OnOk result (string_bytes text.new ≡ string_bytes text.old ++ spec.status_line row.now hub.now) }
+    ensures { OnOk result (string_bytes text.new ≡ string_bytes text.old ++ spec.status_line row.now hub.now journal) }
 {
     let holder = hub.holder();
     text.push_str("{\"connections\":[")?;
     add_connections(alloc, text, holder, row)?;
-    add_database(alloc, text, hub.database(), holder)
+    add_database(alloc, text, hub.database(), journal, holder)
 }
 
 /// The line that tells the status of a service.
 pub(crate) fn status_line<D: Sessions + Drop, S>(
     alloc: Global,
     hub: &Hub<D>,
+    journal: LogState,
     row: &[Client<S>],
 ) -> Result<String, AllocError>
-    ensures { IfOk result (λ line. string_bytes line ≡ spec.status_line row.now hub.now) }
+    ensures { IfOk result (λ line. string_bytes line ≡ spec.status_line row.now hub.now journal) }
 {
     let mut text = String::new(alloc);
-    add_status(alloc, &mut text, hub, row)?;
+    add_status(alloc, &mut text, hub, journal, row)?;
     Ok(text)
 }

@@ -8,6 +8,7 @@ ghost use Rattle.mi_clients.specs.Output.{unsent};
 ghost use Rattle.mi_clients.specs.Row.{ids, Attends, EachServed, EachTakes};
 ghost use Rattle.mi_clients.specs.ServiceLines.{line_of};
 ghost use Rattle.mi_clients.specs.Status.{IsStatus, status_line};
+ghost use Rattle.mi_log.specs.declared.log.LogState.{LogState};
 ghost use Rattle.mi_clients.specs.Steps.{Step, Makes, AreTells, AllTell, TellsSo, given_to, asked_by};
 ghost use Rattle.mi_clients.specs.declared.client.Phase.TheVariants as phases;
 
@@ -123,11 +124,12 @@ fn status_if_asked<D: Sessions + Drop, L: Log + Drop, S>(
     ledger: &Ledger<D, L>,
     row: &[Client<S>],
 ) -> Option<String>
-    ensures { IfSome result (λ line. string_bytes line ≡ status_line row.now (hub_of ledger.now)) }
+    ensures { IfSome result (λ line. (journal : LogState) × (journal.is_full ≡ L.lacks_room (log_of ledger.now))
+        × (string_bytes line ≡ status_line row.now (hub_of ledger.now) journal)) }
 {
     for client in row {
         if client.service_line().is_some() {
-            return match status_line(alloc, ledger.hub(), row) {
+            return match status_line(alloc, ledger.hub(), ledger.log().state(), row) {
                 Ok(line) => Some(line),
                 Err(_error) => None,
             };

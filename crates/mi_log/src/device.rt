@@ -3,7 +3,7 @@ use std::io;
 
 /// Bytes that are written one behind another, and made to stay. Room for them can be made before they are written.
 pub trait Device {
-    ghost use Rattle.std.specs.Prelude.{◌≡◌, ℕ, List, Option, Bool, true, false, None, not, OnOk, OnErr};
+    ghost use Rattle.std.specs.Prelude.{◌≡◌, ℕ, List, Option, Bool, true, false, None, not, length, IfSome, OnOk, OnErr};
     ghost use Rattle.std.specs.Io.{WritesAtMost};
     ghost use Rattle.std.specs.Io.KnownBytes.{WriteAppends, Keeps};
 
@@ -26,6 +26,14 @@ pub trait Device {
         ensures contents { contents self.new ≡ contents self.old }
         ensures stays { stays self.new ≡ stays self.old }
         ensures makes_stay { makes_stay self.new ≡ makes_stay self.old };
+
+    /// Whether room was last asked for, and wasn't there.
+    fn is_full(&self) -> bool
+        ensures { result ≡ lacks_room self.now };
+
+    /// How many bytes were written to it, where it counts them.
+    fn written(&self) -> Option<u64>
+        ensures { IfSome result (λ count. IfSome (contents self.now) (λ bytes. count ≡ length bytes)) };
 
     /// Writes a front of the bytes, and answers how many they are.
     fn write(&mut self, bytes: &[u8]) -> io::Result<usize>

@@ -4,7 +4,7 @@ ghost use Rattle.std.specs.Io.KnownBytes.{Appends, Keeps};
 ghost use Rattle.mi_log.specs.Kept.{AppendsFront};
 
 use crate::device::Device;
-use crate::log::{Log, LogFault};
+use crate::log::{Log, LogFault, LogState};
 use std::io;
 use std::io::{Error, ErrorKind};
 
@@ -94,6 +94,13 @@ impl<D: Device> Log for DeviceLog<D> {
 
     fn make_room(&mut self, bytes: u64) -> bool {
         self.error.is_none() && self.device.make_room(bytes)
+    }
+
+    fn state(&self) -> LogState {
+        LogState {
+            bytes: self.device.written(),
+            is_full: self.error.is_some() || self.device.is_full(),
+        }
     }
 
     fn append(&mut self, bytes: &[u8]) -> Result<(), LogFault> {

@@ -15,7 +15,7 @@ pub use device::Device;
 pub use device_log::DeviceLog;
 pub use header::{Heading, header_line, judge_heading};
 pub use lines::LogLines;
-pub use log::{Log, LogFault};
+pub use log::{Log, LogFault, LogState};
 pub use memory::MemoryDevice;
 pub use placed::PlacedFile;
 pub use room_file::RoomFile;

@@ -4,12 +4,21 @@
 #[derive(Clone, Copy, Debug, Drop)]
 pub struct LogFault;
 
+/// How far a log has come.
+#[derive(Clone, Copy, Debug, Drop)]
+pub struct LogState {
+    /// How many bytes it has, where it keeps some.
+    pub bytes: Option<u64>,
+    /// Whether room was last asked for, and wasn't there.
+    pub is_full: bool,
+}
+
 /// Bytes that are appended one behind another, and made to stay.
 ///
 /// What has failed isn't used again: once a call has failed, each further one answers an error and changes nothing. So nothing is appended
 /// behind a gap, and no sync is believed behind one that failed.
 pub trait Log {
-    ghost use Rattle.std.specs.Prelude.{◌≡◌, ◌<◌, ℕ, List, Option, Bool, true, not, is_ok, length, OnOk, OnErr, IsErr};
+    ghost use Rattle.std.specs.Prelude.{◌≡◌, ◌<◌, ℕ, List, Option, Bool, true, not, is_ok, length, IfSome, OnOk, OnErr, IsErr};
     ghost use Rattle.std.specs.Io.KnownBytes.{Appends, Keeps};
     ghost use Rattle.mi_log.specs.Kept.{AppendsFront};
 
@@ -36,6 +45,11 @@ pub trait Log {
         ensures synced { synced self.new ≡ synced self.old }
         ensures makes_stay { makes_stay self.new ≡ makes_stay self.old }
         ensures failed { has_failed self.new ≡ has_failed self.old };
+
+    /// How far it has come.
+    fn state(&self) -> LogState
+        ensures full { result.is_full ≡ lacks_room self.now }
+        ensures bytes { IfSome result.bytes (λ count. IfSome (appended self.now) (λ bytes. count ≡ length bytes)) };
 
     /// Appends some bytes. After an error a front of them stands there, and not all.
     fn append(&mut self, bytes: &[u8]) -> Result<(), LogFault>

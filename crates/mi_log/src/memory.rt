@@ -91,6 +91,14 @@ impl Device for MemoryDevice {
         !self.lacks
     }
 
+    fn is_full(&self) -> bool {
+        self.lacks
+    }
+
+    fn written(&self) -> Option<u64> {
+        Some(self.bytes.len() as u64)
+    }
+
     fn write(&mut self, bytes: &[u8]) -> io::Result<usize> {
         if self.calls == 0 {
             return Err(Error::from(ErrorKind::Other));

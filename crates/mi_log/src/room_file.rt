@@ -118,6 +118,16 @@ impl<F: PlacedFile> Device for RoomFile<F> {
         !self.lacks
     }
 
+    fn is_full(&self) -> bool {
+        self.lacks
+    }
+
+    fn written(&self) -> Option<u64>
+        ensures told { IfSome result (λ count. IfSome (front_of self.now.end (F.contents self.now.file)) (λ bytes. count ≡ length bytes)) }
+    {
+        Some(self.end)
+    }
+
     /// The file has what it took, behind what was written before.
     fn write(&mut self, bytes: &[u8]) -> io::Result<usize>
         ensures bound { WritesAtMost result bytes.now }

@@ -40,7 +40,7 @@ impl<F> JournalDevice<F> {
 }
 
 impl<F: Device> Device for JournalDevice<F> {
-    ghost use Rattle.std.specs.Prelude.{◌≡◌, None, not, true};
+    ghost use Rattle.std.specs.Prelude.{◌≡◌, None, not, true, length, IfSome};
     ghost use Rattle.std.specs.Io.{WritesAtMost};
     ghost use Rattle.std.specs.Io.KnownBytes.{WriteAppends, Keeps};
     ghost use Rattle.mi_serving.specs.Device.{file_of, keeping_of, written_to, told_of, is_staying, lacks_room};
@@ -81,6 +81,25 @@ impl<F: Device> Device for JournalDevice<F> {
         match &mut self.file {
             Some(file) => file.make_room(bytes),
             None => true,
+        }
+    }
+
+    fn is_full(&self) -> bool
+        ensures { result ≡ lacks_room F.lacks_room self.now }
+    {
+        match &self.file {
+            Some(file) => file.is_full(),
+            None => false,
+        }
+    }
+
+    fn written(&self) -> Option<u64>
+        ensures counted { IfSome result (λ count. IfSome (told_of F.contents self.now) (λ bytes. count ≡ length bytes)) }
+        ensures none { file_of self.now ≡ None → result ≡ None }
+    {
+        match &self.file {
+            Some(file) => file.written(),
+            None => None,
         }
     }
 

@@ -85,6 +85,14 @@ impl Device for MemoryFile {
         true
     }
 
+    fn is_full(&self) -> bool {
+        false
+    }
+
+    fn written(&self) -> Option<u64> {
+        None
+    }
+
     fn write(&mut self, bytes: &[u8]) -> io::Result<usize> {
         match self.bytes.extend_from_slice(bytes) {
             Ok(()) => Ok(bytes.len()),
