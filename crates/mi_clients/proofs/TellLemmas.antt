@@ -1,6 +1,7 @@
 -- What the service tells, one step behind another, and over a row.
-use Rattle.std.proofs.Common.{◌≡◌, ◌⊎◌, inl, inr, ℕ, ℤ, ◌<◌, List, [], ◌∷◌, ◌++◌, length, codes, nat_eq, cond, Bool, true, false, Option, is_some, refl, sym, ap, ◌∙◌, subst, append-nil, append_assoc, arith}
-use Rattle.std.specs.Prelude.{IfSome}
+use Rattle.std.proofs.Common.{◌≡◌, ◌⊎◌, inl, inr, ℕ, ℤ, ◌<◌, List, [], ◌∷◌, ◌++◌, length, codes, nat_eq, cond, Bool, true, false, Option, is_some, Result, Ok, Err, refl, sym, ap, ◌∙◌, subst, append-nil, append_assoc, arith}
+use Rattle.std.specs.Prelude.{IfOk, IfSome}
+use Rattle.std.specs.Result.{result_ok}
 use Rattle.std.specs.List.{All}
 use Rattle.std.specs.Io.KnownBytes.{Consumes, IsAtEnd}
 use Rattle.mi_hub.specs.Ended.{ended}
@@ -77,6 +78,27 @@ memory_some = bytes_some _ _
 pub schema_some : (bytes : List ℕ) → 0 < length bytes → ¬ (bytes ≡ [])
 schema_some [] some e = absurd (omega arith)
 schema_some (x ∷ xs) some e = bytes_some x xs e
+
+-- texts one behind another
+pub six_joined : (o a b c d e f p q r s t n : List ℕ) → p ≡ o ++ a → q ≡ p ++ b → r ≡ q ++ c → s ≡ r ++ d → t ≡ s ++ e → n ≡ t ++ f
+    → n ≡ o ++ (a ++ (b ++ (c ++ (d ++ (e ++ f)))))
+six_joined o a b c d e f p q r s t n ep eq er es et en =
+    let two : q ≡ o ++ (a ++ b) = eq ∙ ap (λ x. x ++ b) ep ∙ append_assoc o a b in
+    let three : r ≡ o ++ (a ++ (b ++ c)) = er ∙ ap (λ x. x ++ c) two ∙ append_assoc o (a ++ b) c ∙ ap (λ x. o ++ x) (append_assoc a b c) in
+    let right : (x y : List ℕ) → (a ++ (b ++ (c ++ x))) ++ y ≡ a ++ (b ++ (c ++ (x ++ y))) =
+    λ x y. append_assoc a (b ++ (c ++ x)) y ∙ ap (λ z. a ++ z) (append_assoc b (c ++ x) y ∙ ap (λ z. b ++ z) (append_assoc c x y)) in
+    let four : s ≡ o ++ (a ++ (b ++ (c ++ d))) =
+    es ∙ ap (λ x. x ++ d) three ∙ append_assoc o (a ++ (b ++ c)) d
+    ∙ ap (λ x. o ++ x) (append_assoc a (b ++ c) d ∙ ap (λ z. a ++ z) (append_assoc b c d)) in
+    let five : t ≡ o ++ (a ++ (b ++ (c ++ (d ++ e)))) =
+    et ∙ ap (λ x. x ++ e) four ∙ append_assoc o (a ++ (b ++ (c ++ d))) e ∙ ap (λ x. o ++ x) (right d e) in
+    en ∙ ap (λ x. x ++ f) five ∙ append_assoc o (a ++ (b ++ (c ++ (d ++ e)))) f
+    ∙ ap (λ x. o ++ x) (right (d ++ e) f ∙ ap (λ z. a ++ (b ++ (c ++ z))) (append_assoc d e f))
+
+-- what an answer that is Ok is, is some
+pub told_some_of : {X E : Type 0} (P Q : X → Type 0) (r : Result X E) → IfOk r P → ((x : X) → P x → Q x) → IfSome (result_ok r) Q
+told_some_of P Q (Ok x) p f = f x p
+told_some_of P Q (Err e) p f = tt
 
 -- the parts of a status, one behind another
 pub status_joined : {S : Type 0} (row : List (Client S)) (s : HubState) (j : LogState) (h : Option ℕ) (d : Database) (old a b new : List ℕ)

@@ -44,11 +44,15 @@ table_text d n s = codes "{\"name\":\"" ++ (s.table_name ++ (codes "\",\"size\":
 abbrev pub journal_text : LogState → List ℕ
 journal_text j = option_map_or (λ n. codes "{\"bytes\":" ++ (decimal n ++ (codes ",\"full\":" ++ (flag_text j.is_full ++ codes "}")))) j.bytes (codes "null")
 
+-- how many sessions of a database are open, who holds some, and its journal
+abbrev pub sessions_text : Option ℕ → LogState → Database → List ℕ
+sessions_text holder j d =
+    codes "],\"depth\":" ++ (decimal (depth d) ++ (codes ",\"holder\":" ++ (holder_text holder ++ (codes ",\"journal\":" ++ journal_text j))))
+
 -- what is said of a database, some of whose sessions this connection may hold, and of its journal
 abbrev pub database_text : Option ℕ → LogState → Database → List ℕ
 database_text holder j d =
-    codes "],\"depth\":" ++ (decimal (depth d) ++ (codes ",\"holder\":" ++ (holder_text holder ++ (codes ",\"journal\":" ++ (journal_text j
-    ++ (codes ",\"ok\":true,\"tables\":[" ++ (listed (table_text d) 0 d.catalog.tables ++ codes "],\"version\":\"0.1.0\"}\n")))))))
+    sessions_text holder j d ++ (codes ",\"ok\":true,\"tables\":[" ++ (listed (table_text d) 0 d.catalog.tables ++ codes "],\"version\":\"0.1.0\"}\n"))
 
 -- the status of a service with these connections over this hub, and of its journal
 abbrev pub status_line : {S : Type 0} → List (Client S) → HubState → LogState → List ℕ

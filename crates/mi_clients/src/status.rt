@@ -135,7 +135,25 @@ fn add_journal(alloc: Global, text: &mut String, journal: LogState) -> Result<()
     text.push_str("}")
 }
 
-/// Adds what a database and its sessions are, and its journal.
+/// Adds how many sessions of a database are open, who holds some, and its journal.
+fn add_sessions<D: Sessions>(
+    alloc: Global,
+    text: &mut String,
+    database: &D,
+    journal: LogState,
+    holder: Option<u64>,
+) -> Result<(), AllocError>
+    ensures { OnOk result (string_bytes text.new ≡ string_bytes text.old ++ spec.sessions_text holder journal (D.state database.now)) }
+{
+    text.push_str("],\"depth\":")?;
+    add_number(alloc, text, database.depth())?;
+    text.push_str(",\"holder\":")?;
+    add_holder(alloc, text, holder)?;
+    text.push_str(",\"journal\":")?;
+    add_journal(alloc, text, journal)
+}
+
+/// Adds what a database, its sessions and its journal are.
 fn add_database<D: Sessions>(
     alloc: Global,
     text: &mut String,
@@ -145,12 +163,7 @@ fn add_database<D: Sessions>(
 ) -> Result<(), AllocError>
     ensures { OnOk result (string_bytes text.new ≡ string_bytes text.old ++ spec.database_text holder journal (D.state database.now)) }
 {
-    text.push_str("],\"depth\":")?;
-    add_number(alloc, text, database.depth())?;
-    text.push_str(",\"holder\":")?;
-    add_holder(alloc, text, holder)?;
-    text.push_str(",\"journal\":")?;
-    add_journal(alloc, text, journal)?;
+    add_sessions(alloc, text, database, journal, holder)?;
     text.push_str(",\"ok\":true,\"tables\":[")?;
     add_tables(alloc, text, database)?;
     text.push_str("],\"version\":\"0.1.0\"}\n")

@@ -127,15 +127,10 @@ fn status_if_asked<D: Sessions + Drop, L: Log + Drop, S>(
     ensures { IfSome result (λ line. (journal : LogState) × (journal.is_full ≡ L.lacks_room (log_of ledger.now))
         × (string_bytes line ≡ status_line row.now (hub_of ledger.now) journal)) }
 {
-    for client in row {
-        if client.service_line().is_some() {
-            return match status_line(alloc, ledger.hub(), ledger.log().state(), row) {
-                Ok(line) => Some(line),
-                Err(_error) => None,
-            };
-        }
+    if !row.iter().any(|client| client.service_line().is_some()) {
+        return None;
     }
-    None
+    status_line(alloc, ledger.hub(), ledger.log().state(), row).ok()
 }
 
 /// Tells each connection of a row what it asks of the service: the status of these connections and this hub, the schema, or that its form is

@@ -140,7 +140,7 @@ fn the_status_of_two(rt: HostRuntime) -> Result<(), Fail> {
     )?;
     let want =
         b"{\"connections\":[{\"holds\":true,\"number\":2,\"unsent\":25},{\"holds\":false,\"number\":3,\"unsent\":0}],\
-\"depth\":1,\"holder\":2,\"ok\":true,\"tables\":[{\"name\":\"accounts\",\"size\":0}],\"version\":\"0.1.0\"}\n";
+\"depth\":1,\"holder\":2,\"journal\":{\"bytes\":16,\"full\":false},\"ok\":true,\"tables\":[{\"name\":\"accounts\",\"size\":0}],\"version\":\"0.1.0\"}\n";
     assert!(rt; out.as_slice() == want.as_slice());
     Ok(())
 }
