@@ -196,7 +196,7 @@ class Service:
         connections = [{"holds": it.number == holder, "number": it.number, "unsent": len(it.out) + len(it.held)} for it in self.clients.values()]
         tables = [{"name": it, "size": json.loads(self.reference.answer(0, json.dumps({"cmd": "size", "table": it}).encode()))["size"]} for it in self.tables]
         depth = json.loads(self.reference.answer(0, b'{"cmd":"revision"}'))["depth"]
-        return compact({"connections": connections, "depth": depth, "holder": holder, "ok": True, "tables": tables, "version": "0.1.0"})
+        return compact({"connections": connections, "depth": depth, "holder": holder, "journal": None, "ok": True, "tables": tables, "version": "0.1.0"})
 
     def ask(self, client):
         """Lines of a connection, as long as its replies have room."""

@@ -27,6 +27,10 @@ PAUSE = 0.0005
 on has to go on asking, or it would hold the others up."""
 
 
+FULL = ", and its disk is full: changes are refused"
+"""What is said of a journal that lacks room."""
+
+
 class Sample(NamedTuple):
     when: float
     sizes: List[Tuple[str, int]]
@@ -41,6 +45,10 @@ class Sample(NamedTuple):
     """How many connections a service has, where it tells."""
     unsent: Optional[int] = None
     """How many bytes of replies they haven't taken."""
+    journal: Optional[int] = None
+    """How many bytes a service's journal has, where it keeps one."""
+    is_full: Optional[bool] = None
+    """Whether that lacks room, so that changes are refused."""
 
 
 class Watcher:
@@ -69,7 +77,9 @@ class Watcher:
         holder = "this connection" if now.held else "nobody" if told["holder"] is None else "another connection"
         connections = told["connections"]
         unsent = sum(it["unsent"] for it in connections)
-        return Sample(time.monotonic(), sizes, now.revision, now.depth, holder, self.turns, usage, len(connections), unsent)
+        journal = told.get("journal") or {}
+        return Sample(time.monotonic(), sizes, now.revision, now.depth, holder, self.turns, usage, len(connections), unsent,
+                      journal.get("bytes"), journal.get("full"))
 
     def sizes(self) -> List[Tuple[str, int]]:
         names = [it.name for it in self.db.schema.tables] if self.db.schema else ["(first)"]
@@ -125,6 +135,7 @@ def screen(now: Sample, before: Sample) -> str:
         f"turns     {amount(rate(now.turns, before.turns, took), '')}/s",
         f"sessions  {now.depth} open, revision {now.revision}; held by {now.holder}",
         *([] if now.connections is None else [f"clients   {now.connections} connections, {amount(now.unsent)} unsent"]),
+        *([] if now.journal is None else [f"journal   {amount(now.journal)}{FULL if now.is_full else ''}"]),
         "",
         table(rows, ["table", "rows", "rows/s"]),
     ])
@@ -145,6 +156,8 @@ def prometheus(it: Sample) -> str:
     add("held_by_another", "gauge", "1 where another connection holds sessions.", ("", int(it.holder == "another connection")))
     add("connections", "gauge", "Connections of the service.", ("", it.connections))
     add("unsent_bytes", "gauge", "Bytes of replies that connections haven't taken.", ("", it.unsent))
+    add("journal_bytes", "gauge", "Bytes of the service's journal.", ("", it.journal))
+    add("journal_full", "gauge", "1 where the journal's disk lacks room, and changes are refused.", ("", None if it.is_full is None else int(it.is_full)))
     add("resident_memory_bytes", "gauge", "Memory of the process.", ("", it.usage.memory))
     add("read_bytes_total", "counter", "Bytes that the server has read, of connections since this began to look.", ("", it.usage.read))
     add("written_bytes_total", "counter", "Bytes that the server has written, likewise.", ("", it.usage.written))
@@ -236,8 +249,10 @@ def shown_status(told: Dict[str, Any]) -> str:
     """A status as people read it."""
     connections = [{"connection": it["number"], "holds sessions": "yes" if it["holds"] else "", "unsent": it["unsent"]} for it in told["connections"]]
     holder = "nobody" if told["holder"] is None else f"connection {told['holder']}"
+    journal = told.get("journal")
     return "\n".join([
         f"mi_service {told['version']}: {told['depth']} sessions open, held by {holder}",
+        *([f"journal: {amount(journal['bytes'])}{FULL if journal['full'] else ''}"] if journal else []),
         "",
         table(connections, ["connection", "holds sessions", "unsent"]),
         "",

@@ -5,6 +5,7 @@ import json
 import os
 import subprocess
 import sys
+import time
 import unittest
 
 import kit
@@ -119,6 +120,31 @@ class Services(unittest.TestCase):
             self.assertIsNone(service_lines.status(db)["holder"])
         with open(self.journal, "rb") as file:
             self.assertNotIn(b"service", file.read())
+
+    def test_a_journal_that_is_told(self):
+        with self.started() as server, server.connect(10) as db:
+            db.insert(ANN)
+            told = service_lines.status(db)["journal"]
+            with open(self.journal, "rb") as file:
+                text = file.read()
+            self.assertEqual(told, {"bytes": text.rindex(b"\n") + 1, "full": False})
+            self.assertIn(f"\nweltiyo_journal_bytes {told['bytes']}\n", kit.ran("metrics", "--connect", str(server.port)).stdout)
+        with Server(service=SERVICE) as server, server.connect(10) as db:
+            self.assertIsNone(service_lines.status(db)["journal"])
+
+    def test_a_connection_that_is_ended(self):
+        """Its sessions are undone, and who asked is served on."""
+        with self.started() as server, server.connect(10) as db, server.connect(10) as other:
+            other.begin()
+            other.insert(ANN)
+            holder = service_lines.status(db)["holder"]
+            self.assertEqual(db.ask_lines([f'{{"service":"end","connection":{holder}}}']), ['{"ok":true}'])
+            while service_lines.status(db)["holder"] is not None:
+                time.sleep(0.01)
+            self.assertEqual((db.revision().depth, db.size()), (0, 0))
+            with self.assertRaises(Ended):
+                other.size()
+            self.assertEqual(db.ask_lines(['{"service":"end","connection":x}']), ['{"error":"form","ok":false}'])
 
     def test_the_schema_is_told(self):
         for path in (None, f"{TOP}/examples/shop.toml"):

@@ -1,6 +1,6 @@
 -- The line that tells the status of a service: its connections, who of them holds sessions, how many sessions are open, and how many rows
 -- each table has. With connection 2 alone, which holds the one session over an empty table:
--- {"connections":[{"holds":true,"number":2,"unsent":0}],"depth":1,"holder":2,"journal":{"bytes":180,"full":false},"ok":true,
+-- {"connections":[{"holds":true,"number":2,"unsent":0}],"depth":1,"holder":2,"journal":{"bytes":119,"full":false},"ok":true,
 -- "tables":[{"name":"accounts","size":0}],"version":"0.1.0"}
 use Rattle.std.specs.Prelude.{◌≡◌, ◌⊎◌, ℕ, ◌+◌, List, [], ◌∷◌, ◌++◌, length, Bool, true, false, ◌==◌, if◌then◌else◌, Option, Some, None, codes, decimal}
 use Rattle.std.specs.Option.{option_map_or}
