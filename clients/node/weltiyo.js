@@ -48,6 +48,7 @@ const MEANINGS = {
   depth: "1,024 sessions are open",
   session: "no session is open",
   memory: "memory was refused, and nothing has changed",
+  journal: "the service's journal has no room for the line, and nothing has changed",
   leader: "this member of a ledger follows another one, and takes no changes; the reply names the leader, where it is known",
 };
 
