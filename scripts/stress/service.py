@@ -64,7 +64,7 @@ def prepared(largest_file):
         if largest_file is not None:
             # (a write beyond it fails then, as one to a full disk does, in place of ending the process)
             signal.signal(signal.SIGXFSZ, signal.SIG_IGN)
-            resource.setrlimit(resource.RLIMIT_FSIZE, (largest_file, largest_file))
+            resource.setrlimit(resource.RLIMIT_FSIZE, (largest_file, resource.RLIM_INFINITY))
 
     return prepare
 
