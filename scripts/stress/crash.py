@@ -22,7 +22,6 @@ sent, or is the undo of a holder that went away; each reply is the reference's; 
 out/crash."""
 import os
 import random
-import resource
 import shutil
 import signal
 import socket
@@ -202,7 +201,7 @@ class Disk:
 
     def set(self, running):
         """It is that of a service that runs."""
-        resource.prlimit(running.process.pid, resource.RLIMIT_FSIZE, (self.size, resource.RLIM_INFINITY))
+        service.limit_files(running.process.pid, self.size)
 
 
 class Filling(Load):
@@ -258,7 +257,7 @@ class Lessening(Load):
 
     def step(self):
         if self.replies > 60:
-            resource.prlimit(self.running.process.pid, resource.RLIMIT_FSIZE, (500, resource.RLIM_INFINITY))
+            service.limit_files(self.running.process.pid, 500)
         super().step()
 
 
@@ -269,7 +268,7 @@ def full(path, options, folder):
     came = comes_and_goes(path, options, folder)
     for n in range(1 if options.short else 6):
         kept = Kept(path, tempfile.mkdtemp(dir=folder), f"{options.seed}/less/{n}", walk=FullWalk)
-        acknowledged += full_once(kept, "a file that may be written no more", load=Lessening, largest_file=resource.RLIM_INFINITY)
+        acknowledged += full_once(kept, "a file that may be written no more", load=Lessening, largest_file=service.NO_LIMIT)
         count += 1
     for n in range(2 if options.short else 12) if library() else []:
         kept = Kept(path, tempfile.mkdtemp(dir=folder), f"{options.seed}/sync/{n}")
