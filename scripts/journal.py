@@ -5,10 +5,12 @@
                                                                 change, and the schema the header's
     journal.py stat FILE                                        lines by command, sessions, sizes
     journal.py compact FILE [--to NEW]                          a shorter journal of the same database, in a new file that is then renamed
+    journal.py copy FILE NEW                                    what it has up to its last newline, also of one that is in use
 
 A journal's first line is its header, {"journal":1,"revision":R,"schema":"HASH"}: the format, the first revision and the hash of the
 schema. It is no command, so `mi_server < FILE` refuses it and then does the other lines, as one connection. Of each holder that went
-away there is an undo for each session that it held. What stands behind the last newline is torn, and no line.
+away there is an undo for each session that it held. What stands behind the last newline is no line: a torn one, and zeros, which are room
+that the service writes over. Of a file that is in use only what stands up to the newline that is the last one at the beginning is read.
 
 compact drops whole blocks that were undone, from the start to the undo: an undo restores everything, counters too. It follows squash,
 commit, undo_all and push. A commit inside such a block has ended sessions below it, so it stays; a push stays where the sessions below
@@ -38,8 +40,11 @@ from reference import CHANGES, LONGEST_LINE, MOST_SESSIONS, STEPS, Refusal, form
 
 sys.path.insert(0, f"{os.path.dirname(os.path.dirname(os.path.realpath(__file__)))}/clients/python")
 
+from mi_client.journals import end_of  # noqa: E402
+
 FORMAT = 1
 DIGITS = re.compile("[0-9a-f]+")
+NO_JSON = ["no JSON", "zeros, as in a copy that was made while lines were written, or behind a stop of the machine"]
 SESSIONS = ("start", "undo", "squash", "commit", "undo_all", "push")
 # How the replies to lines that a journal has begin, but for that to a modify which lost its record.
 CHANGED = tuple(b'{"id":|{"ok":true}|{"erased":|{"ok":true,"revision":|{"committed":|{"ok":true,"undone":|{"ok":true,"pushed":'.split(b"|"))
@@ -100,28 +105,29 @@ def command(number, text):
     try:
         return form(read(bare))
     except Refusal as refusal:
-        raise Damaged(number, "no JSON" if refusal.reply["error"] == "json" else "no command") from None
+        raise Damaged(number, NO_JSON[b"\0" in text] if refusal.reply["error"] == "json" else "no command") from None
 
 
 class Journal:
-    """A journal that is read once, by `lines`. Behind that, `torn` is how many bytes stand behind the last newline."""
+    """A journal that is read once, by `lines`. Its last newline ends at `end`, where `torn` bytes of a torn line stand, and `room` zeros."""
 
     def __init__(self, file, what="reading"):
-        self.file, self.size, self.torn = file, os.fstat(file.fileno()).st_size, 0
-        self.progress = Progress(what, self.size)
-        self.first = file.readline()
-        if not self.first.endswith(b"\n"):
+        self.file, self.size, self.end = file, os.fstat(file.fileno()).st_size, end_of(file.fileno())
+        rest = os.pread(file.fileno(), max(0, self.size - self.end), self.end).rpartition(b"\n")[2]
+        self.torn = len(rest.rstrip(b"\0"))
+        self.room = len(rest) - self.torn
+        self.progress = Progress(what, self.end)
+        self.first = file.readline() if self.end else b""
+        if not self.first:
             raise Damaged(1, "no whole header")
         self.revision, self.schema = header(self.first[:-1])
 
     def lines(self):
-        at = len(self.first)
-        for number, text in enumerate(self.file, 2):
-            if not text.endswith(b"\n"):
-                self.torn = len(text)
-                return
+        at, number = len(self.first), 2
+        while at < self.end:
+            text = self.file.readline()
             yield Line(number, at, at + len(text), *command(number, text[:-1]))
-            at += len(text)
+            at, number = at + len(text), number + 1
             if number % 256 == 0:
                 self.progress.at(at)
 
@@ -212,8 +218,10 @@ def blocks_of(journal):
     return blocks, counts
 
 
-def torn_note(journal):
-    return f"; the last {journal.torn} bytes are torn, and no line" if journal.torn else ""
+def end_note(journal):
+    """What stands behind the last newline."""
+    torn = f"; the last {journal.torn} bytes{' in front of room' if journal.room else ''} are torn, and no line" if journal.torn else ""
+    return f"{torn}; room: {journal.room} bytes" if journal.room else torn
 
 
 def may_be_kept(line):
@@ -230,7 +238,7 @@ def check(path, replay, schema):
     if replay:
         check_schema(path, journal.schema, schema)
     asked = "" if replay else "; its lines weren't asked (--replay PROGRAM asks them)"
-    print(f"{path}: {count} lines, schema {journal.schema}, ok as a file{torn_note(journal)}{asked}", flush=True)
+    print(f"{path}: {count} lines, schema {journal.schema}, ok as a file{end_note(journal)}{asked}", flush=True)
     if replay:
         replay_check(path, replay, schema, count + 1)
 
@@ -283,9 +291,9 @@ def stat(path):
     with open(path, "rb") as file:
         journal = Journal(file)
         blocks, counts = blocks_of(journal)
-    lines, size = sum(counts.values()), journal.size - len(journal.first) - journal.torn
+    lines, size = sum(counts.values()), journal.end - len(journal.first)
     needless = sum(end - start for start, end in blocks.dropped)
-    print(f"{path}: {lines} lines of {size} bytes, {size / max(lines, 1):.1f} each{torn_note(journal)}")
+    print(f"{path}: {lines} lines of {size} bytes, {size / max(lines, 1):.1f} each{end_note(journal)}")
     for name, count in counts.most_common():
         print(f"  {count:>10} {name}" + ("" if name in CHANGES or name in SESSIONS else ", which changes nothing"))
     print(f"  sessions: {counts['start']} started, " + ", ".join(f"{blocks.ended[it]} {it}" for it in ("undone", "squashed", "committed")))
@@ -354,12 +362,11 @@ def compact(path, new):
             locked.enter_context(claimed(new))
         journal = Journal(file)
         blocks, _ = blocks_of(journal)
-        end = journal.size - journal.torn
         with tempfile.NamedTemporaryFile(dir=folder, prefix=os.path.basename(new) + ".", delete=False) as target:
             try:
                 lock(target)
                 os.fchmod(target.fileno(), os.fstat(file.fileno()).st_mode & 0o7777)
-                write_without(file, target, blocks.dropped, end)
+                write_without(file, target, blocks.dropped, journal.end)
                 if is_there:
                     os.rename(target.name, new)
                 else:
@@ -370,7 +377,21 @@ def compact(path, new):
                 os.unlink(target.name)
                 raise
             sync_folder(folder)
-    print(f"{new}: {os.path.getsize(new)} bytes, of {journal.size}{torn_note(journal)}")
+    print(f"{new}: {os.path.getsize(new)} bytes, of {journal.size}{end_note(journal)}")
+
+
+def copy(path, new):
+    """What a file has up to its last newline goes to a new one, which has its mode; it is neither locked nor changed."""
+    with open(path, "rb") as file, open(new, "xb", opener=lambda name, how: os.open(name, how, 0o600)) as target:
+        try:
+            end = Journal(file).end
+            os.fchmod(target.fileno(), os.fstat(file.fileno()).st_mode & 0o7777)
+            write_without(file, target, [], end)
+        except BaseException:
+            os.unlink(new)
+            raise
+    sync_folder(os.path.dirname(os.path.realpath(new)))
+    print(f"{new}: {end} bytes")
 
 
 def words():
@@ -384,6 +405,9 @@ def words():
     compacting = steps.add_parser("compact", help="a shorter journal of the same database")
     compacting.add_argument("file")
     compacting.add_argument("--to", metavar="NEW", help="its name, where the old one is to stay")
+    copying = steps.add_parser("copy", help="what it has up to its last newline, also of one that is in use")
+    copying.add_argument("file")
+    copying.add_argument("new", help="a name that no file has yet")
     return parser
 
 
@@ -404,6 +428,8 @@ def main(given):
             check(args.file, args.replay, args.schema)
         elif args.step == "stat":
             stat(args.file)
+        elif args.step == "copy":
+            copy(args.file, args.new)
         else:
             compact(args.file, args.to)
         sys.stdout.flush()

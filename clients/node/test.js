@@ -332,6 +332,32 @@ test("a session that is refused", async () => {
   });
 });
 
+test("a squash that is refused", async () => {
+  const asked = [];
+  const server = net.createServer((stream) => {
+    let rest = "";
+    stream.on("data", (data) => {
+      const lines = (rest + data).split("\n");
+      rest = lines.pop();
+      for (const line of lines) {
+        const { cmd } = JSON.parse(line);
+        asked.push(cmd);
+        stream.write(`${JSON.stringify(cmd === "squash" ? { error: "journal", ok: false } : { id: 0, ok: true, revision: 1 })}\n`);
+      }
+    });
+  });
+  await new Promise((resolve) => server.listen(0, "127.0.0.1", resolve));
+  const db = await Database.connect(server.address().port);
+  asked.length = 0;
+  await assert.rejects(db.session(() => db.insert(account("ann"))), refused("journal"));
+  await assert.rejects(db.atomically(added(1)), refused("journal", { change: undefined }));
+  assert.equal(await db.insert(account("bob")), 0);
+  const steps = ["start", "insert", "squash", "undo"];
+  assert.deepEqual(asked, [...steps, ...steps, "insert"]);
+  await db.close();
+  server.close();
+});
+
 test("calls that aren't waited for are sent ahead, and answered in their order", () =>
   withDatabase(
     async (db) => {

@@ -48,6 +48,7 @@ const MEANINGS = {
   depth: "1,024 sessions are open",
   session: "no session is open",
   memory: "memory was refused, and nothing has changed",
+  journal: "the service's journal has no room for the line, and nothing has changed",
   leader: "this member of a ledger follows another one, and takes no changes; the reply names the leader, where it is known",
 };
 
@@ -565,7 +566,7 @@ class Database {
   }
 
   /** A session for a block, which gets its number. Where the block throws all of it is undone, and the error goes on; else it is squashed,
-   * with the sessions that the block left open above it. Answers what the block does.
+   * with the sessions that the block left open above it, or undone where that is refused (as `journal`). Answers what the block does.
    *
    * What is called in the block, and in what that calls, falls into the session (Node's `AsyncLocalStorage` tells). Blocks in it nest, and
    * come one after another. Other calls and blocks of this connection wait until it has ended; so a block must not wait for one of them. */
@@ -589,7 +590,12 @@ class Database {
       throw error;
     }
     await mine.end();
-    await this._endSession(mine, number, "squash");
+    try {
+      await this._endSession(mine, number, "squash");
+    } catch (error) {
+      if (error instanceof Refused) await this._endSession(mine, number, "undo");
+      throw error;
+    }
     return answer;
   }
 
@@ -605,7 +611,7 @@ class Database {
   }
 
   /** Does all of some changes or none, as `[calls.modify(0, { add: { balance: -5 } }), calls.erase(1)]`, and answers what each would. Where one
-   * is refused all are undone, and its refusal is thrown: `change` is its place. They are sent ahead in a session of their own, so all of them
+   * is refused all are undone, and its refusal is thrown: `change` is its place, if it isn't what ends the session. They are sent ahead in a session of their own, so all of them
    * cost two waits. Other calls and blocks of this connection wait until it has ended.
    *
    * Where the connection ends meanwhile the server undoes what isn't squashed. It is ended here, and `Ended` thrown, in the rare case that the
@@ -646,7 +652,17 @@ class Database {
       throw new Refused(started, undefined, { cmd: "start" });
     }
     if (first < lines.length && replies.every((it) => it.ok)) replies.push(...(await ask(lines.slice(first))));
-    await this._askAtOnce(replies.every((it) => it.ok) ? "squash" : "undo");
+    if (!replies.every((it) => it.ok)) {
+      await this._askAtOnce("undo");
+      return replies;
+    }
+    try {
+      await this._askAtOnce("squash");
+    } catch (error) {
+      // (a service whose journal has no room for it takes an undo)
+      if (error instanceof Refused) await this._askAtOnce("undo");
+      throw error;
+    }
     return replies;
   }
 

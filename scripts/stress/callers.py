@@ -9,6 +9,7 @@ import socket
 import struct
 import time
 
+from journal import end_of
 from stress.fuzz import Lines
 from stress.journal_walk import Said, mark, may_change
 from reference import CHANGES, LONGEST_LINE, STEPS, Index, Schema, is_foreign
@@ -218,9 +219,9 @@ class Load:
         self.replied, self.replies = time.monotonic(), 0
 
     def length(self):
-        """How long the journal is."""
+        """How long the journal is, without its room."""
         with open(self.journal, "rb") as file:
-            return file.seek(0, 2)
+            return end_of(file.fileno())
 
     def made(self, stream, said, speech):
         """The caller of a connection."""

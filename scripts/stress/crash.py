@@ -9,9 +9,11 @@ sent, or is the undo of a holder that went away; each reply is the reference's; 
 
     rounds   the service is killed at random moments, now and then while it starts; one journal goes through ten rounds
     power    the same on a disk that forgets, at the kill, what wasn't synced, and keeps a random front of it (needs a C compiler)
-    torn     a short journal is cut at each byte; one that has not its whole header is begun anew
+    torn     a short journal is cut at each byte, with room behind that or none; one that has not its whole header is begun anew
     deep     a client that holds 1,024 sessions goes away, or is there when the service is killed
-    full     the journal's disk is full at some byte, or a sync fails (needs a C compiler): status 4, `fault: journal` and the file
+    full     the journal's disk is full, has room for a little, and is full again, while the service is loaded and killed: it goes on, and refuses
+             nothing but changes, as `journal`; no line that is refused so is kept. Where the file may be written no more, or where a write or sync
+             fails (needs a C compiler), it ends: status 4, `fault: journal` and the file
     damaged  a line is damaged, or the journal is another schema's or in use: status 3 and the line, and the file stays as it is
     moved    the journal is moved away in front of each call of the system that a start makes: none of its lines is lost (needs a C compiler)
     tools    `mi_server` (--server) that is asked a journal as its input has the same tables; so has the service behind `journal.py compact`
@@ -32,9 +34,9 @@ import time
 from stress import parts
 import program
 from stress import service
-from stress.callers import TABLES
+from stress.callers import TABLES, Load
 from stress.fuzz import ACCOUNTS
-from stress.journal_walk import Differs, Said, fork
+from stress.journal_walk import NO_ROOM, Differs, FullWalk, Said, fork
 from stress.kept import Kept, forgetting, library, line, looks
 from reference import MOST_SESSIONS, Reference
 from stress.service import Ended
@@ -45,6 +47,9 @@ SYNCS = ["turn", "turn", "always", "turn", "never"]
 """Of the rounds, in which a kill forgets nothing that was written."""
 A_JOURNAL = 10
 """Rounds that a journal goes through."""
+FULL_ROUNDS, SHORT_FULL_ROUNDS = 40, 5
+KEPT_ROOM = 65_536
+"""Bytes of room that a service keeps for undoing, in front of which it refuses changes."""
 LOAD, REPLIES = 0.3, 300
 """Seconds of load and replies before a kill, each at most: a round ends at a random one of the first, and of the second."""
 
@@ -95,7 +100,7 @@ def power(path, options, folder):
 
 
 def short_journal(path, folder):
-    """The bytes of a short journal whose holder was there at the end."""
+    """The bytes of a short journal whose holder was there at the end, without room."""
     kept = Kept(path, folder, "torn")
     with kept.started() as running, running.connect() as stream:
         rows = ['{"k":1,"s":"a","f":true}', '{"k":1,"s":"\u00e4\\n","f":false}', '{"k":0,"s":"c","f":true}']
@@ -104,7 +109,7 @@ def short_journal(path, folder):
         service.asked(stream, b"".join(map(line, said)))
         running.kill()
     with open(kept.journal, "rb") as file:
-        return file.read()
+        return file.read().rpartition(b"\n")[0] + b"\n"
 
 
 def known_after(whole):
@@ -120,10 +125,10 @@ def torn(path, options, folder):
     bytes_ = short_journal(path, folder)
     header = bytes_.index(b"\n") + 1
     lengths = range(0, len(bytes_) + 1, 17 if options.short else 1)
-    for length in sorted({*lengths, header - 1, header, len(bytes_)}):
-        kept = Kept(path, folder, "torn")
+    for n, length in enumerate(sorted({*lengths, header - 1, header, len(bytes_)})):
+        kept, room = Kept(path, folder, "torn"), b"\0" * [0, 9, 150_000][n % 3]
         with open(kept.journal, "wb") as file:
-            file.write(bytes_[:length])
+            file.write(bytes_[:length] + (room if length >= header else b""))
         end = bytes_.rfind(b"\n", 0, length) + 1
         reference = known_after(bytes_[:end])
         held = reference.held
@@ -138,7 +143,7 @@ def torn(path, options, folder):
             raise Differs(f"cut at byte {length}: {ended}") from None
         with open(kept.journal, "rb") as file:
             found = file.read()
-        want = reference.feed(1, b"".join(lines) + add)
+        want, found = reference.feed(1, b"".join(lines) + add), found[:found.rfind(b"\n") + 1]
         if got != want:
             raise Differs(f"cut at byte {length}: wanted {want!r}, got {got!r}")
         kept_now = (bytes_[:end] or bytes_[:header]) + b'{"cmd":"undo"}\n' * held + add
@@ -179,23 +184,100 @@ def full_at_once(kept, size):
         kept.look(running)
 
 
+class Disk:
+    """One that has room for a file up to `size` bytes: a limit of files' sizes, behind which a write fails as on a full disk."""
+
+    def __init__(self, file, size):
+        self.file, self.size, self.times = file, size, 0
+
+    def takes(self, more):
+        """It has room for so many bytes more, or for more than what is there."""
+        self.size = max(self.size, os.path.getsize(self.file)) + more
+        self.times += 1
+
+    def full(self):
+        """It has no byte more than what is there."""
+        self.size = os.path.getsize(self.file)
+
+    def set(self, running):
+        """It is that of a service that runs."""
+        service.limit_files(running.process.pid, self.size)
+
+
+class Filling(Load):
+    """Callers of a service whose disk is full most of the time; now and then it has room for some lines."""
+
+    def __init__(self, disk, *how):
+        super().__init__(*how)
+        self.disk, self.next_room = disk, 0
+
+    def step(self):
+        if time.monotonic() > self.next_room:
+            self.next_room = time.monotonic() + self.pick.uniform(0.05, 0.3)
+            self.disk.takes(self.pick.choice([0, 100, 400, 1_500]))
+            self.disk.set(self.running)
+        super().step()
+
+
+def comes_and_goes(path, options, folder):
+    """Rounds on a disk that is full and has room by turns. What they saw."""
+    pick, refused, done = random.Random(f"{options.seed}/full"), 0, 0
+    rounds_ = options.rounds or (SHORT_FULL_ROUNDS if options.short else FULL_ROUNDS)
+    kept = Kept(path, tempfile.mkdtemp(dir=folder), f"{options.seed}/full", walk=FullWalk)
+    with kept.started() as running:
+        running.kill()
+    disk = Disk(kept.journal, KEPT_ROOM)
+    for n in range(rounds_):
+        # (so that the tables can be looked at)
+        disk.takes(2_000)
+        said = []
+
+        def load(*how):
+            said.append(Filling(disk, *how))
+            return said[0]
+
+        ended, why = kept.round(pick.uniform(0.2, 2 * LOAD), pick.randint(0, REPLIES), load=load, largest_file=disk.size)
+        if ended is not None:
+            raise Differs(f"on a disk that is full at times, in round {n}, the service ended with status {ended}: {why}")
+        replies = [it for one in said[0].all for it in one.replies]
+        refused, done = refused + replies.count(NO_ROOM), done + len(replies) - replies.count(NO_ROOM)
+        disk.full()
+        with kept.started(largest_file=disk.size) as running:
+            kept.follow([kept.look(running, changes=False)])
+            running.kill()
+    with kept.started() as running:
+        kept.follow([kept.look(running)])
+    if not refused or not done:
+        raise Differs(f"a disk that is full at times: {refused} lines were refused, and {done} weren't")
+    return f"{rounds_} rounds on a disk that came to have room {disk.times} times: {refused} changes refused, {done} lines answered"
+
+
+class Lessening(Load):
+    """Callers of a service whose file may suddenly be written no more."""
+
+    def step(self):
+        if self.replies > 60:
+            service.limit_files(self.running.process.pid, 500)
+        super().step()
+
+
 def full(path, options, folder):
-    began, pick, acknowledged, counts = time.monotonic(), random.Random(options.seed), 0, [0, 0]
+    began, pick, acknowledged, count = time.monotonic(), random.Random(options.seed), 0, 0
     for size in (20, 50):
         full_at_once(Kept(path, tempfile.mkdtemp(dir=folder), "full"), size)
-    for n in range(2 if options.short else 12):
-        size = pick.randint(1_500, 8_000)
-        kept = Kept(path, tempfile.mkdtemp(dir=folder), f"{options.seed}/full/{n}")
-        acknowledged += full_once(kept, f"a file of at most {size} bytes", largest_file=size)
-        counts[0] += 1
+    came = comes_and_goes(path, options, folder)
+    for n in range(1 if options.short else 6):
+        kept = Kept(path, tempfile.mkdtemp(dir=folder), f"{options.seed}/less/{n}", walk=FullWalk)
+        acknowledged += full_once(kept, "a file that may be written no more", load=Lessening, largest_file=service.NO_LIMIT)
+        count += 1
     for n in range(2 if options.short else 12) if library() else []:
         kept = Kept(path, tempfile.mkdtemp(dir=folder), f"{options.seed}/sync/{n}")
         which = {"SYNC": pick.randint(5, 60)} if n % 2 else {"WRITE": pick.randint(30, 120)}
         acknowledged += full_once(kept, f"failing {which}", env=forgetting(kept.folder, n + 1, **which))
-        counts[1] += 1
+        count += 1
     took = time.monotonic() - began
-    failed = f"{counts[1]} writes or syncs that failed" if library() else "writes and syncs that fail are left out: they need a C compiler"
-    return f"{counts[0]} full disks, {failed}; status 4 each, {acknowledged} acknowledged lines are there; {took:.0f} s"
+    failed = "" if library() else " (those of a disk alone are left out: they need a C compiler)"
+    return f"{came}; {count} writes or syncs that failed{failed}: status 4 each, {acknowledged} acknowledged lines are there; {took:.0f} s"
 
 
 def refused(kept, bytes_, wanted, is_there=False):
@@ -290,10 +372,10 @@ def moved(path, options, folder):
 
 
 def replayed_by(server, kept, path):
-    """What a `mi_server` answers to the lines for looking, behind a journal as its standard input."""
+    """What a `mi_server` answers to the lines for looking, behind a journal's lines as its standard input."""
     lines = looks(1)
     with open(path, "rb") as file:
-        whole = file.read()
+        whole = file.read().rpartition(b"\n")[0] + b"\n"
     ran = subprocess.run([server, "--schema", kept.schema], input=whole + b"".join(lines), capture_output=True, timeout=300)
     if ran.returncode or ran.stderr:
         raise Differs(f"mi_server ended with {ran.returncode}: {ran.stderr!r}")
@@ -323,7 +405,7 @@ def tools(path, options, folder):
         got = replayed_by(server, kept, it)
         if got != want:
             raise Differs(f"mi_server that was asked {os.path.basename(it)} shows other tables: wanted {want!r}, got {got!r}")
-    sizes = [os.path.getsize(it) for it in (kept.journal, shorter)]
+    sizes = len(kept.known), os.path.getsize(shorter)
     shutil.move(shorter, kept.journal)
     with kept.started() as running, running.connect() as stream:
         got = service.asked(stream, b"".join(looks(1)))

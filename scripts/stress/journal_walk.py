@@ -14,6 +14,9 @@ BITS = 16, 12
 """Of a mark: the number of the connection, and that of the line."""
 UNDO = b'{"cmd":"undo"}'
 BUSY = b'{"error":"busy","ok":false}\n'
+NO_ROOM = b'{"error":"journal","ok":false}\n'
+SHORT_UNDO = 64
+"""Bytes of the longest line of an undo for which room is kept, with its newline."""
 
 
 class Differs(Exception):
@@ -41,6 +44,12 @@ def may_change(text):
         return len(text) <= LONGEST_LINE and form(read(text))[0] in CHANGES | STEPS
     except Refusal:
         return False
+
+
+def waits_for_room(text, depth):
+    """Whether a line is refused where its journal has no room, when so many sessions are open."""
+    is_undo = depth > 0 and len(text) < SHORT_UNDO and may_change(text) and form(read(text))[0] in ("undo", "undo_all")
+    return may_change(text) and not is_undo
 
 
 def fork(reference):
@@ -182,3 +191,12 @@ class Walk:
             return self.reference.answer_ended(connection, text) == reply
         trial = fork(self.reference)
         return trial.answer_ended(connection, text) == reply and state(trial) == state(self.reference)
+
+
+class FullWalk(Walk):
+    """A journal on a disk that is full at times: then lines that wait for room are refused, and nothing of them is done."""
+
+    def fits(self, connection, text, reply):
+        if reply == NO_ROOM:
+            return waits_for_room(text, len(self.reference.old))
+        return super().fits(connection, text, reply)

@@ -9,8 +9,8 @@ import time
 import program
 from stress import service
 from stress.callers import TABLES, Load, counted
-from stress.journal_walk import Differs, Said, Walk, fork, mark
-from stress.service import Service
+from stress.journal_walk import Differs, Said, Walk, fork, mark, may_change
+from stress.service import Ended, Service
 
 
 LONGEST = 10
@@ -39,10 +39,10 @@ def looks(number):
 class Kept:
     """A journal over several lives of a service, and the reference that goes along."""
 
-    def __init__(self, path, folder, seed, tables=TABLES):
+    def __init__(self, path, folder, seed, tables=TABLES, walk=Walk):
         self.path, self.folder, self.journal, self.seed = path, folder, f"{folder}/journal", seed
         self.schema = service.written_schema(folder, tables)
-        self.walk, self.known, self.next, self.torn = Walk(tables), b"", 1, 0
+        self.walk, self.known, self.next, self.torn = walk(tables), b"", 1, 0
         self.sent = self.answered = 0
 
     def started(self, **how):
@@ -55,7 +55,7 @@ class Kept:
         if not found.startswith(self.known):
             raise Differs("the journal has changed where it was whole before")
         end = found.rfind(b"\n") + 1
-        more, self.torn = found[len(self.known):end], len(found) - end
+        more, self.torn = found[len(self.known):end], len(found[end:].rstrip(b"\0"))
         lines = more.split(b"\n")[:-1]
         if not self.known and lines:
             self.walk.size = len(lines.pop(0)) + 1
@@ -70,34 +70,38 @@ class Kept:
         self.sent, self.answered = self.sent + sent, self.answered + answered
         return len(lines)
 
-    def look(self, running):
-        """A started service has the journal's tables, and nobody holds sessions. Its sessions for looking are a connection's."""
+    def look(self, running, changes=True):
+        """A started service has the journal's tables, and nobody holds sessions. Its sessions for looking are a connection's; without `changes`
+        it begins none."""
         self.follow([])
         if self.walk.reference.held:
             raise Differs("sessions are held in the journal of a service that was started again")
         said = Said(self.next)
         self.next += 1
-        said.lines = [it[:-1] for it in looks(said.number)]
+        said.lines = [it[:-1] for it in looks(said.number) if changes or not may_change(it[:-1])]
         want = fork(self.walk.reference).feed(said.number, b"\n".join(said.lines) + b"\n")
-        with running.connect() as stream:
-            got = service.asked(stream, b"\n".join(said.lines) + b"\n")
+        try:
+            with running.connect() as stream:
+                got = service.asked(stream, b"\n".join(said.lines) + b"\n")
+        except (EOFError, ConnectionError):
+            raise Ended(*running.ended()) from None
         if got != want:
             pairs = zip(said.lines, want.split(b"\n"), got.split(b"\n"))
             raise Differs("after the start, {!r}: wanted {!r}, got {!r}".format(*next(it for it in pairs if it[1] != it[2])))
         said.replies, said.has_left = got.splitlines(keepends=True), True
         return said
 
-    def round(self, seconds, replies=0, how=signal.SIGKILL, **start):
+    def round(self, seconds, replies=0, how=signal.SIGKILL, load=Load, **start):
         """One life: it is started, looked at, loaded for so long and for so many replies, and ended. Its status where it ended by itself, and
         what it said."""
         with self.started(**start) as running:
             looked = self.look(running)
-            with Load(running, self.journal, f"{self.seed}/{self.next}", self.next) as load:
-                ended = load.go_on(seconds, replies, LONGEST)
-                self.next = load.next
+            with load(running, self.journal, f"{self.seed}/{self.next}", self.next) as loaded:
+                ended = loaded.go_on(seconds, replies, LONGEST)
+                self.next = loaded.next
                 running.kill(how)
-                load.drain()
-            self.follow([looked, *load.all])
+                loaded.drain()
+            self.follow([looked, *loaded.all])
             return ended, running.ended()[1]
 
     def die_early(self, seconds, **start):

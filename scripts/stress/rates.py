@@ -22,6 +22,7 @@ import threading
 import time
 
 import program
+from journal import end_of
 from stress import service
 from stress.service import Service, seconds_of
 
@@ -172,7 +173,8 @@ def replay_part(options, folder):
     count = options.lines or (3_200 if options.short else 1_000_000)
     journal, first = f"{folder}/replayed", filling(records)
     took, used = service_once(options.program, first, made("changes", count, records), journal=journal, sync="turn")
-    size, lines = os.path.getsize(journal), count // STREAMS * STREAMS + records
+    with open(journal, "rb") as file:
+        size, lines = end_of(file.fileno()), count // STREAMS * STREAMS + records
     began = time.monotonic()
     with Service(options.program, journal=journal, wait=600) as running:
         again, used_again = time.monotonic() - began, running.seconds()

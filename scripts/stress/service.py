@@ -21,6 +21,8 @@ WAIT = 300
 """Seconds that anything may take here that isn't a long replay."""
 MOST = 64
 """Connections that are served at once."""
+NO_LIMIT = resource.getrlimit(resource.RLIMIT_FSIZE)[1]
+"""How long a file may be at most here, in bytes, where it isn't limited further."""
 SANITIZER = {"ASAN_OPTIONS": "quarantine_size_mb=0:thread_local_quarantine_size_kb=0:verify_asan_link_order=0"}
 """For a program that was compiled without proofs, whose allocator is the sanitizer's: it keeps nothing that was freed, and takes libraries
 that are loaded before it."""
@@ -56,6 +58,11 @@ class Ended(Exception):
         self.status, self.said = status, said
 
 
+def limit_files(process, size):
+    """No file that a process writes grows beyond so many bytes from now on."""
+    resource.prlimit(process, resource.RLIMIT_FSIZE, (size, NO_LIMIT))
+
+
 def prepared(largest_file):
     """What is done in the child before it is the service: it ends with the script, and no file of it grows beyond a size."""
 
@@ -64,7 +71,7 @@ def prepared(largest_file):
         if largest_file is not None:
             # (a write beyond it fails then, as one to a full disk does, in place of ending the process)
             signal.signal(signal.SIGXFSZ, signal.SIG_IGN)
-            resource.setrlimit(resource.RLIMIT_FSIZE, (largest_file, largest_file))
+            limit_files(os.getpid(), largest_file)
 
     return prepare
 

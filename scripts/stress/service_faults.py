@@ -4,11 +4,11 @@
 
 Two clients ask N random lines, a line at a time, of a service with a journal; sessions are held, undone and pushed. A first run counts the
 calls by name. Then each call of each name is refused once, in a run of its own, with each error that the name may have (a write may also take
-half of its bytes). What must hold of each run: each reply is the reference's, or `memory`, and then the line changed nothing; the service goes
-on, or ends with a status and line that docs/OPERATING.md has; a client whose connection breaks has its sessions undone; each acknowledged line is
-in the journal, in its order, and nothing is there that wasn't sent; and the service that is started again, with nothing refused, has the tables
-of `reference.py` that was asked the journal, with no session held (`journal_walk.py`). `memory` is answered only where a request for memory was
-refused. A run may make fewer calls than the first, and not reach the one that is to be refused: then it is run once more, and if that one
+half of its bytes). What must hold of each run: each reply is the reference's, or `memory`, or `journal`, and then the line changed nothing; the
+service goes on, or ends with a status and line that docs/OPERATING.md has; a client whose connection breaks has its sessions undone; each
+acknowledged line is in the journal, in its order, and nothing is there that wasn't sent; and the service that is started again, with nothing
+refused, has the tables of `reference.py` that was asked the journal, with no session held (`journal_walk.py`). `memory` is answered only where a
+request for memory was refused, and `journal` where a write to the journal was. A run may make fewer calls than the first, and not reach the one that is to be refused: then it is run once more, and if that one
 doesn't either, it is counted as not reached, and as no run.
 
 `refuse_calls.c` says what counts as a call; it needs a C compiler, and the proved program. --every N refuses each N-th call alone, --call those
@@ -30,9 +30,10 @@ import time
 from concurrent.futures import ThreadPoolExecutor
 
 import program
+from journal import end_of
 from stress import service
 from stress.callers import ID, TABLES, Speech
-from stress.journal_walk import Differs, Said, Walk
+from stress.journal_walk import Differs, FullWalk, Said, Walk
 from stress.kept import Kept, library
 from stress.service import Ended
 
@@ -76,7 +77,8 @@ class Talk:
             self.come()
 
     def come(self):
-        said = Said(self.kept.next, os.path.getsize(self.kept.journal))
+        with open(self.kept.journal, "rb") as file:
+            said = Said(self.kept.next, end_of(file.fileno()))
         self.kept.next += 1
         try:
             self.streams[said.number] = self.running.connect()
@@ -143,6 +145,8 @@ def life(path, options, folder, env):
     kept = Kept(path, folder, f"{options.seed}/faults")
     if env.get("REFUSE_CALL") == "memory":
         kept.walk = MemoryWalk(TABLES)
+    if env.get("REFUSE_CALL") == "pwrite":
+        kept.walk = FullWalk(TABLES)
     ended, all_said = "went on", []
     try:
         with kept.started(env=env) as running:

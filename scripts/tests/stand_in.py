@@ -8,7 +8,9 @@ fault, which the scripts are to find:
     hoards   what isn't read is kept without a bound              crossed   at times a reply goes to another connection
     foreign  the journal of another schema is taken               quiet     a full disk is no fault
     added    a line that nobody sent is in the journal at times   lacks     memory is lacking at times, though there is some
-    dies     it ends by itself, a while after its connections"""
+    dies     it ends by itself, a while after its connections     ends      a full disk ends it
+    taken    a line that is refused for room is done and kept     stuck     look-ups are refused for room too
+    bound    undoing waits for room too                           unkept    lines that wait for room are done and aren't kept"""
 import argparse
 import fcntl
 import json
@@ -23,12 +25,14 @@ sys.path[:0] = [f"{TOP}/scripts", f"{TOP}/clients/python"]
 
 import mi_client.meaning  # noqa: E402
 import mi_client.schema  # noqa: E402
-from reference import Index, Reference, Schema, form, is_foreign, read  # noqa: E402
+from reference import CHANGES, LONGEST_LINE, STEPS, Index, Reference, Refusal, Schema, form, is_foreign, read  # noqa: E402
 
 PLANT = os.environ.get("PLANT", "")
 BOUND = 65_536
 MOST = 64
 UNDO = b'{"cmd":"undo"}\n'
+ROOM, PIECE, KEPT_ROOM = 1 << 20, 16_384, 65_536
+NO_ROOM = b'{"error":"journal","ok":false}\n'
 MEMORY = b'{"error":"memory","ok":false}\n'
 DONE = b'{"ok":true}\n'
 CHANGED = (b'{"id":', b'{"ok":true}', b'{"erased":', b'{"ok":true,"revision":', b'{"committed":', b'{"ok":true,"undone":', b'{"ok":true,"pushed":')
@@ -62,20 +66,22 @@ def is_kept(text, reply):
 
 
 class Journal:
-    """The file: lines are appended, and made to stay."""
+    """The file: lines are written over the room behind those that are there, and made to stay."""
 
     def __init__(self, path, reference, wanted, sync):
         self.path, self.sync, self.handle, self.waits = path, sync, None, False
         if not path:
             return
         try:
-            self.handle = os.open(path, os.O_RDWR | os.O_CREAT | os.O_APPEND, 0o600)
+            self.handle = os.open(path, os.O_RDWR | os.O_CREAT, 0o600)
             fcntl.flock(self.handle, fcntl.LOCK_EX | fcntl.LOCK_NB)
         except BlockingIOError:
             stop(3, f"journal: locked: {path}")
         except OSError as error:
             stop(3, f"journal: file: {path}: {error.strerror} ({error.errno})")
         whole = os.pread(self.handle, os.fstat(self.handle).st_size, 0)
+        self.room = len(whole)
+        whole = whole.rstrip(b"\0") if PLANT == "torn" else whole
         end = len(whole) if PLANT == "torn" else whole.rfind(b"\n") + 1
         lines = whole[:end].split(b"\n")[:-1] if PLANT != "torn" else [it for it in whole.split(b"\n") if it]
         if lines and lines[0] != wanted and not (PLANT == "foreign" and lines[0].startswith(b'{"journal"')):
@@ -84,7 +90,7 @@ class Journal:
             reply = reference.answer_ended(1, text)
             if not changed(reply) and PLANT != "torn":
                 stop(3, f"journal: line {number}: {path}")
-        os.ftruncate(self.handle, end)
+        self.end = end
         if not lines:
             self.append(wanted + b"\n")
         self.gone(reference, 1)
@@ -96,9 +102,23 @@ class Journal:
         self.waits = True
         try:
             while text:
-                text = text[os.write(self.handle, text):]
+                count = os.pwrite(self.handle, text, self.end)
+                text, self.end = text[count:], self.end + count
+            self.room = max(self.room, self.end)
         except OSError as error:
             PLANT == "quiet" or stop(4, f"fault: journal: {self.path}: {error.strerror} ({error.errno})")
+
+    def has_room(self, count):
+        """Whether so many bytes can be appended for certain: room for them is made where there is none."""
+        if self.handle is None:
+            return True
+        most = self.end + count + (ROOM if self.room < self.end + count else 0)
+        try:
+            while self.room < most:
+                self.room += os.pwrite(self.handle, bytes(PIECE), self.room)
+        except OSError as error:
+            PLANT != "ends" or stop(4, f"fault: journal: {self.path}: {error.strerror} ({error.errno})")
+        return self.room >= self.end + count
 
     def gone(self, reference, connection):
         """A connection has gone away; what it held is undone."""
@@ -116,6 +136,16 @@ class Journal:
         except OSError as error:
             PLANT == "quiet" or stop(4, f"fault: journal: {self.path}: {error.strerror} ({error.errno})")
         self.waits = False
+
+
+def waits_for_room(text, depth):
+    """Whether a line may have to wait for room: it is a change, but for a short undo of an open session."""
+    try:
+        name = form(read(text))[0] if len(text) <= LONGEST_LINE else ""
+    except Refusal:
+        name = ""
+    is_undo = name in ("undo", "undo_all") and depth and len(text) < 64 and PLANT != "bound"
+    return name in CHANGES | STEPS and not is_undo or PLANT == "stuck"
 
 
 def compact(reply):
@@ -210,8 +240,11 @@ class Service:
                 stop(1, "it died")
             lacks = PLANT == "lacks" and self.asked % 20 == 0
             own = text.startswith(b'{"service":"')
-            reply = MEMORY if lacks else self.told(text) if own else self.reference.answer_ended(client.number, text)
-            keep = not own and is_kept(text, reply) and holder in (None, client.number)
+            lacks_room = not own and not self.journal.has_room(len(text) + 1 + KEPT_ROOM) and waits_for_room(text, len(self.reference.old))
+            is_done = not lacks_room or PLANT in ("taken", "unkept")
+            reply = MEMORY if lacks else self.told(text) if own else self.reference.answer_ended(client.number, text) if is_done else NO_ROOM
+            keep = not own and is_kept(text, reply) and holder in (None, client.number) and not (lacks_room and PLANT == "unkept")
+            reply = NO_ROOM if lacks_room and PLANT == "taken" else reply
             client.held += reply
             if PLANT == "crossed" and self.asked % 97 == 0:
                 for it in self.clients.values():

@@ -178,6 +178,15 @@ class Compact(Files):
         self.assertNotEqual(os.stat(self.path).st_ino, old)
         self.assertEqual(sorted(os.listdir(self.folder)), ["j", "new"])
 
+    def test_room_is_left_out(self):
+        a, room = insert("a"), b"\0" * 3_000
+        for torn in (b"", b'{"cmd'):
+            self.write([START, UNDO, a], torn=torn + room)
+            status, said = self.ran("compact", self.path)
+            self.assertEqual((status, self.text()), (0, first_line() + a + b"\n"), said)
+            self.assertIn("; room: 3000 bytes\n", said)
+        self.assertNotIn("room", self.ran("compact", self.path)[1])
+
     def test_one_that_is_in_use_stays(self):
         self.write([START, UNDO])
         with open(self.path, "rb") as file:
@@ -293,10 +302,37 @@ class Check(Files):
             torn = f"; the last {length} bytes are torn, and no line" if length else ""
             self.assertEqual((status, said), (0, f"{self.path}: 1 lines, schema {HASH}, ok as a file{torn}{NOT_ASKED}\n"))
 
+    def test_room(self):
+        for torn, room, note in [
+            (b"", 1, "; room: 1 bytes"),
+            (b"", 2_500_000, "; room: 2500000 bytes"),
+            (b'{"cmd', 70_000, "; the last 5 bytes in front of room are torn, and no line; room: 70000 bytes"),
+            (b"\0\0abc", 2, "; the last 5 bytes in front of room are torn, and no line; room: 2 bytes"),
+        ]:
+            self.write([START], torn=torn + b"\0" * room)
+            self.assertEqual(self.ran("check", self.path), (0, f"{self.path}: 1 lines, schema {HASH}, ok as a file{note}{NOT_ASKED}\n"))
+            self.assertEqual(self.ran("stat", self.path)[1].splitlines()[0], f"{self.path}: 1 lines of 16 bytes, 16.0 each{note}")
+
+    def test_room_that_is_written_over_meanwhile(self):
+        """What is read is what was there at the beginning."""
+        self.write([START], torn=b"\0" * 5_000)
+        end_of = journal.end_of
+
+        def late(handle):
+            end = end_of(handle)
+            with open(self.path, "r+b") as file:
+                file.seek(end + 2_000)
+                file.write(insert("late") + b"\n")
+            return end
+
+        with unittest.mock.patch("journal.end_of", late):
+            self.assertIn("1 lines, ", self.ran("check", self.path)[1])
+
     def test_damaged_lines(self):
         for bad, why in [
             (b"", "no JSON"),
-            (b"\x00" * 40, "no JSON"),
+            (b"\x00" * 40, journal.NO_JSON[1]),
+            (b"\x00" + START, journal.NO_JSON[1]),
             (b'{"cmd":"undo"', "no JSON"),
             (b'{"cmd":"fly"}', "no command"),
             (b'{"cmd":"undo","id":1}', "no command"),
@@ -384,6 +420,30 @@ class Check(Files):
         self.assertEqual(said.getvalue(), "reading: 2 of 8 MB, 25 %\n")
 
 
+class Copy(Files):
+    def test_what_is_there(self):
+        new = f"{self.folder}/new"
+        for torn in (b"", b'{"cmd', b"\0" * 90_000, b'{"cmd' + b"\0" * 90_000):
+            self.write([START, insert("a")], torn=torn)
+            os.chmod(self.path, 0o640)
+            with open(self.path, "rb") as file:
+                fcntl.flock(file, fcntl.LOCK_EX)
+                want = first_line() + START + b"\n" + insert("a") + b"\n"
+                self.assertEqual(self.ran("copy", self.path, new), (0, f"{new}: {len(want)} bytes\n"))
+            self.assertEqual((self.text(new), os.stat(new).st_mode & 0o777), (want, 0o640))
+            self.assertEqual(self.text(), want + torn)
+            self.assertEqual(self.ran("copy", self.path, new)[0], 4)
+            self.assertEqual(self.text(new), want)
+            os.unlink(new)
+
+    def test_no_journal(self):
+        with open(self.path, "wb") as file:
+            file.write(b"\0" * 100)
+        self.assertEqual(self.ran("copy", self.path, f"{self.folder}/new"), (3, f"{self.path}: line 1: no whole header\n"))
+        self.assertEqual(self.ran("copy", f"{self.folder}/none", f"{self.folder}/new")[0], 4)
+        self.assertEqual(os.listdir(self.folder), ["j"])
+
+
 class Stat(Files):
     def test_counts(self):
         self.write([START, START, insert("a"), SQUASH, UNDO, insert("b"), START, START, commit(1), line("size")], torn=b"{")
@@ -466,7 +526,7 @@ class OverTheService(Files):
         env = {"LD_PRELOAD": library, "REPLACE_FILE": self.path, "REPLACE_BY": new}
         self.assertEqual(self.asked(insert("b"), env=env), [b'{"id":1,"ok":true}\n'])
         self.assertFalse(os.path.exists(new))
-        self.assertEqual(self.text().splitlines()[1:], [insert("a"), insert("b")])
+        self.assertEqual(self.text().split(b"\n")[1:-1], [insert("a"), insert("b")])
         self.assertEqual(self.asked(line("size")), [b'{"ok":true,"size":2}\n'])
 
 

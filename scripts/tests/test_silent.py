@@ -165,7 +165,8 @@ class Silent(unittest.TestCase):
             self.assertEqual(service.asked(other, insert(b"cid")), inserted(1))
             running.kill()
             with open(journal, "rb") as file:
-                self.assertEqual(file.readlines()[1:], [insert(b"ann"), START, insert(b"bob"), START, UNDONE, UNDONE, insert(b"cid")])
+                whole = file.read().rpartition(b"\n")[0] + b"\n"
+            self.assertEqual(whole.splitlines(True)[1:], [insert(b"ann"), START, insert(b"bob"), START, UNDONE, UNDONE, insert(b"cid")])
             again = self.connected(self.started(journal=journal))
             self.assertEqual(service.asked(again, SIZE), size(2))
             self.assertIn(b'"owner":"cid"', service.asked(again, b'{"cmd":"get","id":1}\n'))

@@ -17,7 +17,7 @@ from mi_client.atomic import Together
 from mi_client.calls import Request
 from mi_client.database import AnySchema, schema_of
 from mi_client.dialect import ASKS_SCHEMA, Dialect, sent_by
-from mi_client.errors import Ended
+from mi_client.errors import Ended, Refused
 from mi_client.listening import Where, acknowledging
 from mi_client.old_forms import Openness
 from mi_client.pipeline import WINDOW
@@ -301,7 +301,7 @@ class AsyncDatabase(AwaitedWalks):
     @contextlib.asynccontextmanager
     async def session(self) -> AsyncIterator[int]:
         """A session for a block, which gets its number: undone where the block raises, else squashed, as far as the connection
-        still holds it. The tasks that the block makes ask within it, and open blocks in it one after another; others that
+        still holds it, or undone where that is refused (as `journal`). The tasks that the block makes ask within it, and open blocks in it one after another; others that
         share the connection wait until it has ended. Where it is cancelled while it begins or ends, or ends before one that
         began later, as a generator's can, the connection ends too, so that the server undoes it."""
         await self._turn()
@@ -359,8 +359,11 @@ class AsyncDatabase(AwaitedWalks):
             while now.held > 0 and now.revision >= number:
                 await self._step(block, end())
                 now = await self._step(block, calls.revision())
-        except BaseException:
-            self._break_off("a session was interrupted where it ends")
+        except BaseException as error:
+            if isinstance(error, Refused) and end is calls.squash:
+                await self._end_session(block, number, steps, calls.undo)
+            else:
+                self._break_off("a session was interrupted where it ends")
             raise
 
     async def _step(self, block: object, request: Request[T]) -> T:

@@ -32,6 +32,7 @@ class Together:
         self._lines = [dialect.line(it) for it in self._changes]
         self._start = calls.begin()
         self._started: bytes = b""
+        self._unsquashed: bytes = b""
         self._replies: List[bytes] = []
 
     def steps(self, at_once: int = PIECE) -> Steps:
@@ -47,9 +48,14 @@ class Together:
             return
         if self._lines[first:] and not any(map(self._is_refused, self._replies)):
             self._replies += yield self._lines[first:]
-        end = calls.undo() if any(map(self._is_refused, self._replies)) else calls.squash()
-        ended = yield [end.line()]
-        self._dialect.read(end, ended[0])
+        if not any(map(self._is_refused, self._replies)):
+            ended, = yield [calls.squash().line()]
+            if not self._is_refused(ended):
+                return
+            # (a service whose journal has no room for it takes an undo)
+            self._unsquashed = ended
+        ended, = yield [calls.undo().line()]
+        self._dialect.read(calls.undo(), ended)
 
     def results(self) -> List[Any]:
         """What each change answers. Raises Refused for the first that was refused."""
@@ -61,6 +67,8 @@ class Together:
                 if "lost" in said:
                     said["lost"] = False  # (it is back)
                 raise self._dialect.refusal(change.members, said, n)
+        if self._unsquashed:
+            self._dialect.read(calls.squash(), self._unsquashed)
         return [self._dialect.read(change, reply) for change, reply in zip(self._changes, self._replies)]
 
     def _first_piece(self) -> int:

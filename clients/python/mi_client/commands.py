@@ -86,6 +86,8 @@ REFUSALS = {
     "depth": ("1,024 sessions are open", "squash, undo or commit some"),
     "session": ("no session is open", "`start` opens one"),
     "memory": ("memory was refused, and nothing has changed", "undo, erase, or give the server more"),
+    "journal": ("the service's journal has no room for the line, and nothing has changed",
+                "the journal's disk is full: make room there; look-ups and the undo of open sessions go on"),
     "leader": ("this member of a ledger follows another one, and takes no changes; the reply names the leader, where it is known",
                "ask that one; `connect_leader` of the Python client finds it"),
 }

@@ -87,8 +87,8 @@ class Calls:
     @contextlib.contextmanager
     def session(self) -> Iterator[int]:
         """A session for a block, which gets its number. Where the block raises, all of it is undone, and the exception goes
-        on; else it is squashed, with the sessions that the block left open above it. What the block itself committed or pushed
-        stays as it is. Other threads that share the connection wait until the block has ended, so that what they do is never
+        on; else it is squashed, with the sessions that the block left open above it, or undone where that is refused (as `journal`). What the
+        block itself committed or pushed stays as it is. Other threads that share the connection wait until the block has ended, so that what they do is never
         undone with it. Where the block is interrupted while it begins or ends, or ends before one that began later, as a generator's
         can, the connection ends, so that the server undoes what it holds: what came later would be undone with it."""
         mine, is_settled = object(), False
@@ -108,7 +108,12 @@ class Calls:
                         self._end_session(mine, number, steps, calls.undo)
                     is_settled = True
                     raise
-                self._end_session(mine, number, steps, calls.squash)
+                try:
+                    self._end_session(mine, number, steps, calls.squash)
+                except Refused:
+                    self._end_session(mine, number, steps, calls.undo)
+                    is_settled = True
+                    raise
                 is_settled = True
             finally:
                 if not is_settled:
@@ -131,7 +136,8 @@ class Calls:
 
     def atomically(self, changes: Iterable[Request[Any]]) -> List[Any]:
         """Does all of some changes or none, as `[calls.modify(0, add={"balance": -5}), calls.erase(1)]` of `mi_client.calls`, and answers what
-        each would; look-ups may stand among them. Where one is refused all are undone, and its refusal is raised: `change` is its place.
+        each would; look-ups may stand among them. Where one is refused all are undone, and its refusal is raised: `change` is its place, or
+        None where what ends the session is refused.
 
         They are sent ahead in a session of their own, so all of them cost two waits. Where that is interrupted the connection ends, and the
         server undoes what isn't squashed. It ends too, with Ended, in the rare case that the session is refused and a change isn't."""

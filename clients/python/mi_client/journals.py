@@ -1,9 +1,11 @@
 """A service's journal, asked of a server as the service does at its start. The file is read alone: it is neither locked nor changed, so the
-service may go on with it meanwhile."""
+service may go on with it meanwhile. Behind its last newline stands what is no line: a torn one, and room, which are zeros that the service
+writes over."""
 from __future__ import annotations
 
 import hashlib
 import json
+import os
 from typing import Any, Dict, Iterator, Optional
 
 from mi_client.database import Database
@@ -11,6 +13,7 @@ from mi_client.meaning import hash_of
 from mi_replica.lines import belongs
 
 FORMAT = 1
+PIECE = 1 << 20
 
 
 class Damaged(ValueError):
@@ -55,16 +58,32 @@ def bytes_hash(file: Optional[str]) -> str:
     return hashlib.sha256(data).hexdigest()[:16]
 
 
+def end_of(handle: int) -> int:
+    """Where the last newline of a journal's file ends, from its end on. What stands before that stays as it is while the service goes on; who
+    reads on behind it may find room in front of what was written meanwhile."""
+    at = os.fstat(handle).st_size
+    while at:
+        start = max(0, at - PIECE)
+        newline = os.pread(handle, at - start, start).rfind(b"\n")
+        if newline >= 0:
+            return start + newline + 1
+        at = start
+    return 0
+
+
 def lines_of(path: str) -> Iterator[bytes]:
-    """The whole lines behind the header, with their newlines. What stands behind the last newline is torn, and no line."""
+    """The lines behind the header, with their newlines, as many as there are at the beginning."""
     with open(path, "rb") as file:
-        header_of(file.readline(), path)
-        for number, line in enumerate(file, 2):
-            if not line.endswith(b"\n"):
-                return
+        end = end_of(file.fileno())
+        first = file.readline()
+        header_of(first, path)
+        at, number = len(first), 2
+        while at < end:
+            line = file.readline()
             if not line.rstrip(b"\r\n"):
                 raise Damaged(f"{path}:{number}: an empty line")
             yield line
+            at, number = at + len(line), number + 1
 
 
 def replay(db: Database, path: str) -> None:

@@ -108,6 +108,17 @@ class Costs(unittest.TestCase):
         with self.assertRaises(Ended):
             db.atomically([calls.modify(0, set={"owner": "ann"}, rollback=False)])
 
+    def test_a_squash_that_is_refused(self) -> None:
+        """As `journal`: what was done is undone, and the connection goes on."""
+        db = wire.opened(refusing("squash", "journal"))
+        with self.assertRaisesRegex(Refused, "^journal: the service's journal has no room"), db.session():
+            db.erase(0)
+        self.assertEqual((self.told(db)[0], db.is_open), (["start", "erase", "squash", "undo"], True))
+        db = wire.opened(refusing("squash", "journal"))
+        with self.assertRaisesRegex(Refused, "^journal") as caught:
+            db.atomically(inserts(2))
+        self.assertEqual((self.told(db)[0], db.is_open, caught.exception.change), (["start insert insert", "squash", "undo"], True, None))
+
     def test_what_is_wrong_ahead_of_the_first_line(self) -> None:
         def breaks() -> Iterator[Any]:
             yield calls.insert(ANN)

@@ -1,5 +1,6 @@
 """Changes that are done all or not at all, and sessions, of tasks that share a connection: what is written, what is undone, and cancellation."""
 import asyncio
+import json
 import unittest
 from typing import Any, Awaitable, Callable, List
 
@@ -37,6 +38,32 @@ class Together(unittest.TestCase):
                 await asyncio.wait_for(work(db), 60)
 
         asyncio.run(run())
+
+    def test_a_squash_that_is_refused(self) -> None:
+        """As `journal`: what was done is undone, and the connection goes on."""
+        asked: List[str] = []
+
+        async def serve(reader: asyncio.StreamReader, writer: asyncio.StreamWriter) -> None:
+            while line := await reader.readline():
+                asked.append(json.loads(line)["cmd"])
+                said = {"error": "journal", "ok": False} if asked[-1] == "squash" else {"id": 0, "ok": True, "revision": 1}
+                writer.write(json.dumps(said).encode() + b"\n")
+            writer.close()
+
+        async def run() -> None:
+            server = await asyncio.start_server(serve, "127.0.0.1", 0)
+            async with await AsyncDatabase.connect(server.sockets[0].getsockname()[1], timeout=20) as db:
+                asked.clear()
+                with self.assertRaisesRegex(Refused, "^journal: the service's journal has no room"):
+                    async with db.session():
+                        await db.insert(ANN)
+                with self.assertRaisesRegex(Refused, "^journal") as caught:
+                    await db.atomically(inserts(1))
+                self.assertIsNone(caught.exception.change)
+                self.assertEqual((asked, await db.insert(BOB)), (["start", "insert", "squash", "undo"] * 2 + ["insert"], 0))
+            server.close()
+
+        asyncio.run(asyncio.wait_for(run(), 60))
 
     def test_what_is_written(self) -> None:
         async def work(db: AsyncDatabase) -> None:

@@ -97,10 +97,11 @@ class Sources(unittest.TestCase):
 
     def test_a_journal(self) -> None:
         insert = [json.dumps({"cmd": "insert", "row": it}) for it in (ANN, BOB)]
-        path = self.journal(insert[0], '{"cmd":"start"}', insert[1], end='{"cmd":"erase","id":0}')
-        before = self.read(path)
-        ran = kit.ran("dump", "--journal", path)
-        self.assertEqual((ran.returncode, ran.stderr), (0, "1 rows written\n"))
+        for end in ('{"cmd":"erase","id":0}' + "\0" * 70_000, "\0" * 1_100_000, '{"cmd":"erase","id":0}'):
+            path = self.journal(insert[0], '{"cmd":"start"}', insert[1], end=end)
+            before = self.read(path)
+            ran = kit.ran("dump", "--journal", path)
+            self.assertEqual((ran.returncode, ran.stderr), (0, "1 rows written\n"))
         self.assertEqual([json.loads(it) for it in ran.stdout.splitlines()], [{"id": 0, "row": ANN, "table": "accounts"}])
         self.assertEqual(self.read(path), before)
         self.assertIn('weltiyo_rows{table="accounts"} 1', kit.ran("metrics", "--journal", path).stdout)
@@ -218,6 +219,7 @@ index = [{ name = "h", kind = "hashed", key = ["x"] }]
             db.undo()
             db.insert(BOB)
             self.assertEqual(kit.ran("dump", "--journal", path).stderr, "2 rows written\n")
+        self.assertTrue(self.read(path).endswith("\0" * 65_536))
 
     def test_another_schema(self) -> None:
         """It is told as that, whatever of it the server lacks, and the file stays."""
