@@ -1,3 +1,4 @@
+-- What std reads there is the number.
 use Rattle.std.proofs.Common.{◌∙◌, sym, ap, ◌∷◌, [], nat_eq}
 use Rattle.std.specs.List.{starts_with}
 use Rattle.mi_clients.specs.ServiceLines.{number_in}

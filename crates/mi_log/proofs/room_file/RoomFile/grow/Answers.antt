@@ -1,3 +1,4 @@
+-- Zeros behind the end of a file are room.
 use Rattle.mi_log.proofs.RoomLemmas.{roomy_grown}
 use Rattle.mi_log.proofs.room_file.RoomFile.grow.Goals as goal
 

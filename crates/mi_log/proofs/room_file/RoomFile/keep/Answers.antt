@@ -1,3 +1,4 @@
+-- What stands behind a shorter front is room.
 use Rattle.std.proofs.Common.{subst, sym}
 use Rattle.mi_log.specs.Room.{IsRoomy}
 use Rattle.mi_log.proofs.RoomLemmas.{roomy_kept}

@@ -1,3 +1,4 @@
+-- A write behind what was written leaves a file with room.
 use Rattle.std.proofs.Common.{subst, sym, ◌+◌}
 use Rattle.mi_log.specs.Room.{IsRoomy}
 use Rattle.mi_log.proofs.RoomLemmas.{roomy_behind}
