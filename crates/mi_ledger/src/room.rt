@@ -4,14 +4,14 @@ ghost use Rattle.mi_ledger.specs.Room as spec;
 
 use mi_request::{LineReader, Request};
 use mi_value::Refusal;
-use mi_value::limits::MAX_LINE;
+use mi_value::limits::{MAX_LINE, MAX_SESSIONS};
 use std::alloc::{AllocError, Global};
 
 /// Bytes of the longest line of an undo for which room is kept, with its newline.
 pub const SHORT_UNDO: usize = 64;
 
 /// Bytes of room that are kept for undoing the most sessions, each by a line.
-pub(crate) const KEPT_ROOM: u64 = 65_536;
+pub(crate) const KEPT_ROOM: u64 = (SHORT_UNDO * MAX_SESSIONS) as u64;
 
 /// Whether a request undoes sessions, where so many are open.
 fn undoes_some(request: &Request<'_>, depth: u64) -> bool

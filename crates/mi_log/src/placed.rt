@@ -5,15 +5,12 @@ use std::os::unix::fs::FileExt;
 
 /// A file whose bytes are written at places, and made to stay.
 pub trait PlacedFile {
-    ghost use Rattle.std.specs.Prelude.{◌≡◌, ◌≤◌, ℕ, List, Option, Bool, false, None, not, is_ok, length, IfSome};
+    ghost use Rattle.std.specs.Prelude.{◌≡◌, ◌≤◌, ℕ, List, Option, None, length, IfSome};
     ghost use Rattle.std.specs.Io.{WritesAtMost};
     ghost use Rattle.mi_log.specs.Placed.{WritesAt};
 
     /// Its bytes, where it tells.
     ghost contents: { Self → Option (List ℕ) } = { λ _. None };
-
-    /// Whether the last write gave an error, or took nothing.
-    ghost has_refused: { Self → Bool } = { λ _. false };
 
     /// Writes a front of these bytes over those from the place `at` on, and behind the end of the file what goes beyond it, and answers how
     /// many they are.
