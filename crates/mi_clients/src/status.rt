@@ -3,11 +3,11 @@ ghost use Rattle.std.specs.Prelude.{◌≡◌, ◌++◌, decimal, IfOk, OnOk};
 ghost use Rattle.std.specs.String.{string_bytes};
 ghost use Rattle.mi_catalog.specs.Shape.{schema_at};
 ghost use Rattle.mi_catalog.specs.Fitting.{HasTable};
-ghost use Rattle.mi_ledger.specs.Ledger.{is_conn};
 ghost use Rattle.mi_clients.specs.Status as spec;
 
 use crate::client::Client;
 use mi_hub::Hub;
+use mi_ledger::is_holder;
 use mi_log::LogState;
 use mi_sessions::Sessions;
 use std::alloc::{AllocError, Global};
@@ -28,16 +28,6 @@ fn add_comma(text: &mut String, place: usize) -> Result<(), AllocError>
         return Ok(());
     }
     text.push_str(",")
-}
-
-/// Whether a connection is the holder.
-fn is_holder(holder: Option<u64>, conn: u64) -> bool
-    ensures { result ≡ is_conn holder conn }
-{
-    match holder {
-        Some(other) => other == conn,
-        None => false,
-    }
 }
 
 /// The word of a flag.

@@ -44,7 +44,7 @@ pub struct Ledger<D: Sessions + Drop, L: Log + Drop> {
 }
 
 /// Whether a connection is the holder.
-fn is_holder(holder: Option<u64>, conn: u64) -> bool
+pub fn is_holder(holder: Option<u64>, conn: u64) -> bool
     ensures { result ≡ is_conn holder conn }
 {
     match holder {

@@ -9,7 +9,7 @@ mod replies;
 mod room;
 
 pub use fault::LedgerFault;
-pub use ledger::{Admitted, Ledger};
+pub use ledger::{Admitted, Ledger, is_holder};
 pub use replaying::{LineFault, REPLAYER, ReplayFault, replay, replay_line};
 pub use replies::HeldReplies;
 pub use room::SHORT_UNDO;
