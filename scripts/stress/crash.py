@@ -20,6 +20,7 @@ sent, or is the undo of a holder that went away; each reply is the reference's; 
 
 --short takes some seconds: fewer rounds, and some of the bytes. Where something differs, the status is 1, and the journal is left below
 out/crash."""
+import contextlib
 import os
 import random
 import shutil
@@ -31,6 +32,7 @@ import sys
 import tempfile
 import time
 
+from journal import end_of
 from stress import parts
 import program
 from stress import service
@@ -48,6 +50,8 @@ SYNCS = ["turn", "turn", "always", "turn", "never"]
 A_JOURNAL = 10
 """Rounds that a journal goes through."""
 FULL_ROUNDS, SHORT_FULL_ROUNDS = 40, 5
+LOOKING = 2_000
+"""Bytes that the lines for looking need at most."""
 KEPT_ROOM = 65_536
 """Bytes of room that a service keeps for undoing, in front of which it refuses changes."""
 LOAD, REPLIES = 0.3, 300
@@ -184,16 +188,15 @@ def full_at_once(kept, size):
         kept.look(running)
 
 
-class Disk:
-    """One that has room for a file up to `size` bytes: a limit of files' sizes, behind which a write fails as on a full disk."""
+class Limit:
+    """In the place of a disk a limit of files' sizes, behind which a write fails as on a full disk."""
 
-    def __init__(self, file, size):
-        self.file, self.size, self.times = file, size, 0
+    def __init__(self, folder):
+        self.file, self.size = f"{folder}/journal", 0
 
-    def takes(self, more):
-        """It has room for so many bytes more, or for more than what is there."""
+    def takes(self, more, at_once=False):
+        """It has room for so many bytes more."""
         self.size = max(self.size, os.path.getsize(self.file)) + more
-        self.times += 1
 
     def full(self):
         """It has no byte more than what is there."""
@@ -202,6 +205,38 @@ class Disk:
     def set(self, running):
         """It is that of a service that runs."""
         service.limit_files(running.process.pid, self.size)
+
+    def close(self):
+        """Nothing of it is left."""
+
+
+class SmallDisk:
+    """A file system in memory, which root makes. Its space is taken by another file, but for some pages."""
+
+    PAGE = 4096
+
+    def __init__(self, folder):
+        self.folder, self.others, self.size, self.owed = folder, f"{folder}/others", None, 0
+        if subprocess.run(["mount", "-t", "tmpfs", "-o", "size=2m", "tmpfs", folder], stderr=subprocess.DEVNULL).returncode:
+            raise PermissionError("a file system of its own needs root")
+
+    def takes(self, more, at_once=False):
+        """It has room for so many bytes more, once they are a page; or for a page that begins, at once."""
+        self.owed += more + at_once * (self.PAGE - 1)
+        pages, self.owed = divmod(self.owed, self.PAGE)
+        os.truncate(self.others, max(0, os.path.getsize(self.others) - pages * self.PAGE))
+
+    def full(self):
+        """The other file takes what is left."""
+        with contextlib.suppress(OSError), open(self.others, "ab", buffering=0) as file:
+            while file.write(bytes(self.PAGE)):
+                pass
+
+    def set(self, running):
+        """It is that of a service that runs."""
+
+    def close(self):
+        subprocess.run(["umount", self.folder], check=True)
 
 
 class Filling(Load):
@@ -219,24 +254,35 @@ class Filling(Load):
         super().step()
 
 
-def comes_and_goes(path, options, folder):
-    """Rounds on a disk that is full and has room by turns. What they saw."""
+def room_of(path):
+    """How many bytes a journal has behind its last newline."""
+    with open(path, "rb") as file:
+        return os.fstat(file.fileno()).st_size - end_of(file.fileno())
+
+
+def takes_looking(disk, journal):
+    """A disk has room so that the tables can be looked at. (Undoing takes of what is kept for it.)"""
+    lacks = LOOKING + KEPT_ROOM - room_of(journal)
+    if lacks > 0:
+        disk.takes(lacks, at_once=True)
+
+
+def comes_and_goes(path, options, home, disk):
+    """Rounds on a disk that is full and has room by turns. How many lines were refused, and how many weren't."""
     pick, refused, done = random.Random(f"{options.seed}/full"), 0, 0
-    rounds_ = options.rounds or (SHORT_FULL_ROUNDS if options.short else FULL_ROUNDS)
-    kept = Kept(path, tempfile.mkdtemp(dir=folder), f"{options.seed}/full", walk=FullWalk)
+    kept = Kept(path, home, f"{options.seed}/full", walk=FullWalk)
     with kept.started() as running:
         running.kill()
-    disk = Disk(kept.journal, KEPT_ROOM)
-    for n in range(rounds_):
-        # (so that the tables can be looked at)
-        disk.takes(2_000)
+    disk.full()
+    for n in range(options.rounds or (SHORT_FULL_ROUNDS if options.short else FULL_ROUNDS)):
+        takes_looking(disk, kept.journal)
         said = []
 
         def load(*how):
             said.append(Filling(disk, *how))
             return said[0]
 
-        ended, why = kept.round(pick.uniform(0.2, 2 * LOAD), pick.randint(0, REPLIES), load=load, largest_file=disk.size)
+        ended, why = kept.round(pick.uniform(0.2, 2 * LOAD), pick.randint(REPLIES, 2 * REPLIES), load=load, largest_file=disk.size)
         if ended is not None:
             raise Differs(f"on a disk that is full at times, in round {n}, the service ended with status {ended}: {why}")
         replies = [it for one in said[0].all for it in one.replies]
@@ -245,11 +291,31 @@ def comes_and_goes(path, options, folder):
         with kept.started(largest_file=disk.size) as running:
             kept.follow([kept.look(running, changes=False)])
             running.kill()
+    takes_looking(disk, kept.journal)
     with kept.started() as running:
         kept.follow([kept.look(running)])
-    if not refused or not done:
-        raise Differs(f"a disk that is full at times: {refused} lines were refused, and {done} weren't")
-    return f"{rounds_} rounds on a disk that came to have room {disk.times} times: {refused} changes refused, {done} lines answered"
+    return refused, done
+
+
+def on_full_disks(path, options, folder):
+    """The same on each kind of disk. What they saw."""
+    seen, refused = [], 0
+    for kind, what in ((Limit, "under a limit"), (SmallDisk, "on a small disk")):
+        home = tempfile.mkdtemp(dir=folder)
+        try:
+            disk = kind(home)
+        except OSError as why:
+            seen.append(f"{what}: left out, {why}")
+            continue
+        try:
+            more, done = comes_and_goes(path, options, home, disk)
+        finally:
+            disk.close()
+        refused += more
+        seen.append(f"{what}: {more} changes refused, {done} lines done")
+    if not refused:
+        raise Differs(f"on disks that are full at times no line was refused: {'; '.join(seen)}")
+    return "; ".join(seen)
 
 
 class Lessening(Load):
@@ -265,7 +331,7 @@ def full(path, options, folder):
     began, pick, acknowledged, count = time.monotonic(), random.Random(options.seed), 0, 0
     for size in (20, 50):
         full_at_once(Kept(path, tempfile.mkdtemp(dir=folder), "full"), size)
-    came = comes_and_goes(path, options, folder)
+    came = on_full_disks(path, options, folder)
     for n in range(1 if options.short else 6):
         kept = Kept(path, tempfile.mkdtemp(dir=folder), f"{options.seed}/less/{n}", walk=FullWalk)
         acknowledged += full_once(kept, "a file that may be written no more", load=Lessening, largest_file=service.NO_LIMIT)

@@ -300,10 +300,10 @@ class AsyncDatabase(AwaitedWalks):
 
     @contextlib.asynccontextmanager
     async def session(self) -> AsyncIterator[int]:
-        """A session for a block, which gets its number: undone where the block raises, else squashed, as far as the connection
-        still holds it, or undone where that is refused (as `journal`). The tasks that the block makes ask within it, and open blocks in it one after another; others that
-        share the connection wait until it has ended. Where it is cancelled while it begins or ends, or ends before one that
-        began later, as a generator's can, the connection ends too, so that the server undoes it."""
+        """A session for a block, which gets its number: undone where the block raises, else squashed, as far as the connection still holds it, or
+        undone where that is refused (as `journal`). The tasks that the block makes ask within it, and open blocks in it one after another; others
+        that share the connection wait until it has ended. Where it is cancelled while it begins or ends, or ends before one that began later, as a
+        generator's can, the connection ends too, so that the server undoes it."""
         await self._turn()
         mine = object()
         self._blocks.append(mine)
@@ -355,15 +355,11 @@ class AsyncDatabase(AwaitedWalks):
             if self._dialect.session_steps == steps:
                 await self._step(block, end())
                 return
-            now = await self._step(block, calls.revision())
-            while now.held > 0 and now.revision >= number:
+            while (now := await self._step(block, calls.revision())).held > 0 and now.revision >= number:
                 await self._step(block, end())
-                now = await self._step(block, calls.revision())
         except BaseException as error:
-            if isinstance(error, Refused) and end is calls.squash:
-                await self._end_session(block, number, steps, calls.undo)
-            else:
-                self._break_off("a session was interrupted where it ends")
+            is_to_undo = isinstance(error, Refused) and end is calls.squash
+            await self._end_session(block, number, steps, calls.undo) if is_to_undo else self._break_off("a session was interrupted where it ends")
             raise
 
     async def _step(self, block: object, request: Request[T]) -> T:
