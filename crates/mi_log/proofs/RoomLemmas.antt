@@ -1,40 +1,39 @@
 -- What writes at places leave of a file with room; the file with room cites them.
-use Rattle.std.proofs.Common.{◌≡◌, ◌≤◌, ◌+◌, ◌-◌, max, min, ℕ, zero, suc, List, [], ◌∷◌, ◌++◌, length, take, drop, Bool, true, false, not, ◌==◌, ◌&&◌}
+use Rattle.std.proofs.Common.{◌≡◌, ◌≤◌, ◌+◌, ◌-◌, max, ℕ, zero, suc, List, [], ◌∷◌, ◌++◌, length, take, drop, Bool, true, false, ◌==◌, ◌&&◌}
 use Rattle.std.proofs.Common.{Option, Some, None, replicate, refl, sym, ap, ◌∙◌, arith}
 use Rattle.std.proofs.lemmas.List.{length-append, length-take-le, length-drop, take-append-drop, drop-append-le}
-use Rattle.std.proofs.Math.Seq.{drop-append-add, drop-append_seam, take-length}
-use Rattle.std.specs.Prelude.{IfSome}
-use Rattle.mi_log.specs.Placed.{placed, IsPlaced}
-use Rattle.mi_log.specs.Room.{front_of, ends_no_line, IsRoomy}
+use Rattle.std.proofs.Math.Seq.{drop-append-add, drop-append_seam, drop-length, take-length}
+use Rattle.mi_log.specs.Placed.{placed, IsPlaced, IsCutTo}
+use Rattle.mi_log.specs.Room.{are_zeros, IsRoomy}
 
--- two texts in which no line ends
-none_ends : (xs ys : List ℕ) → ends_no_line xs ≡ true → ends_no_line ys ≡ true → ends_no_line (xs ++ ys) ≡ true
-none_ends [] ys p q = q
-none_ends (x ∷ xs) ys p q = by_head (not (x == 10)) refl p (λ h. none_ends xs ys h q)
+-- two texts of zeros
+both_zeros : (xs ys : List ℕ) → are_zeros xs ≡ true → are_zeros ys ≡ true → are_zeros (xs ++ ys) ≡ true
+both_zeros [] ys p q = q
+both_zeros (x ∷ xs) ys p q = by_head (x == 0) refl p (λ h. both_zeros xs ys h q)
   where
-    by_head : (b : Bool) → not (x == 10) ≡ b → (not (x == 10) && ends_no_line xs) ≡ true
-        → (ends_no_line xs ≡ true → ends_no_line (xs ++ ys) ≡ true) → (not (x == 10) && ends_no_line (xs ++ ys)) ≡ true
-    by_head true is h more = ap (λ b. b && ends_no_line (xs ++ ys)) is ∙ more (sym (ap (λ b. b && ends_no_line xs) is) ∙ h)
+    by_head : (b : Bool) → (x == 0) ≡ b → ((x == 0) && are_zeros xs) ≡ true
+        → (are_zeros xs ≡ true → are_zeros (xs ++ ys) ≡ true) → ((x == 0) && are_zeros (xs ++ ys)) ≡ true
+    by_head true is h more = ap (λ b. b && are_zeros (xs ++ ys)) is ∙ more (sym (ap (λ b. b && are_zeros xs) is) ∙ h)
     by_head false is h more = absurd (cc)
 
--- each part of a text in which no line ends
-parts_end_none : (xs ys : List ℕ) → ends_no_line (xs ++ ys) ≡ true → (ends_no_line xs ≡ true) × (ends_no_line ys ≡ true)
-parts_end_none [] ys p = (refl, p)
-parts_end_none (x ∷ xs) ys p = by_head (not (x == 10)) refl p (λ h. parts_end_none xs ys h)
+-- each part of a text of zeros
+parts_are_zeros : (xs ys : List ℕ) → are_zeros (xs ++ ys) ≡ true → (are_zeros xs ≡ true) × (are_zeros ys ≡ true)
+parts_are_zeros [] ys p = (refl, p)
+parts_are_zeros (x ∷ xs) ys p = by_head (x == 0) refl p (λ h. parts_are_zeros xs ys h)
   where
-    by_head : (b : Bool) → not (x == 10) ≡ b → (not (x == 10) && ends_no_line (xs ++ ys)) ≡ true
-        → (ends_no_line (xs ++ ys) ≡ true → (ends_no_line xs ≡ true) × (ends_no_line ys ≡ true))
-        → ((not (x == 10) && ends_no_line xs) ≡ true) × (ends_no_line ys ≡ true)
+    by_head : (b : Bool) → (x == 0) ≡ b → ((x == 0) && are_zeros (xs ++ ys)) ≡ true
+        → (are_zeros (xs ++ ys) ≡ true → (are_zeros xs ≡ true) × (are_zeros ys ≡ true))
+        → (((x == 0) && are_zeros xs) ≡ true) × (are_zeros ys ≡ true)
     by_head true is h more =
-        let both = more (sym (ap (λ b. b && ends_no_line (xs ++ ys)) is) ∙ h) in
-        (ap (λ b. b && ends_no_line xs) is ∙ both.0, both.1)
+        let both = more (sym (ap (λ b. b && are_zeros (xs ++ ys)) is) ∙ h) in
+        (ap (λ b. b && are_zeros xs) is ∙ both.0, both.1)
     by_head false is h more = absurd (cc)
 
-pub none_ends_in_front : (n : ℕ) (xs : List ℕ) → ends_no_line xs ≡ true → ends_no_line (take n xs) ≡ true
-none_ends_in_front n xs p = (parts_end_none (take n xs) (drop n xs) (ap ends_no_line (take-append-drop n xs) ∙ p)).0
+pub zeros_in_front : (n : ℕ) (xs : List ℕ) → are_zeros xs ≡ true → are_zeros (take n xs) ≡ true
+zeros_in_front n xs p = (parts_are_zeros (take n xs) (drop n xs) (ap are_zeros (take-append-drop n xs) ∙ p)).0
 
-none_ends_behind : (n : ℕ) (xs : List ℕ) → ends_no_line xs ≡ true → ends_no_line (drop n xs) ≡ true
-none_ends_behind n xs p = (parts_end_none (take n xs) (drop n xs) (ap ends_no_line (take-append-drop n xs) ∙ p)).1
+zeros_behind : (n : ℕ) (xs : List ℕ) → are_zeros xs ≡ true → are_zeros (drop n xs) ≡ true
+zeros_behind n xs p = (parts_are_zeros (take n xs) (drop n xs) (ap are_zeros (take-append-drop n xs) ∙ p)).1
 
 -- a rest of a rest
 drop_more : (n m : ℕ) (xs : List ℕ) → n ≤ length xs → drop (n + m) xs ≡ drop m (drop n xs)
@@ -84,28 +83,8 @@ roomy_behind (Some all) new end size n bytes h k w = (
       let len : length (placed end bytes all n) ≡ max (length all) (end + n) = length_placed end n bytes all within k in
       let sized : max size (end + n) ≡ length (placed end bytes all n) = omega (arith, known.0, len) in (
         sized ∙ ap length same,
-        ap (λ l. ends_no_line (drop (end + n) l)) (sym same) ∙ ap ends_no_line (rest_placed end n bytes all within k)
-            ∙ ap ends_no_line (drop_more end n all within) ∙ none_ends_behind n (drop end all) known.1,
-      ),
-)
-
--- what stands behind a shorter front is room, where no line ends in it
-pub roomy_kept : (old : Option (List ℕ)) (end size n : ℕ) → IsRoomy old end size
-    → IfSome (front_of end old) (λ bytes. (n ≤ length bytes) × (ends_no_line (drop n bytes) ≡ true)) → IsRoomy old (min end n) size
-roomy_kept None end size n h k = (omega (arith, h.0), λ x is. absurd (none_some x is))
-roomy_kept (Some all) end size n h k = (
-  omega (arith, h.0),
-  λ x is.
-      let same : all ≡ x = some_same all x is in
-      let known = h.1 all refl in
-      let within : end ≤ length all = omega (arith, h.0, known.0) in
-      let front : n ≤ end = omega (arith, k.0, length-take-le end all within) in
-      let short : min end n ≡ n = omega (arith, front) in
-      let split : drop n all ≡ drop n (take end all) ++ drop end all =
-      ap (drop n) (sym (take-append-drop end all)) ∙ drop-append-le n (take end all) (drop end all) k.0 in (
-        known.0 ∙ ap length same,
-        ap (λ m. ends_no_line (drop m x)) short ∙ ap (λ l. ends_no_line (drop n l)) (sym same) ∙ ap ends_no_line split
-            ∙ none_ends (drop n (take end all)) (drop end all) k.1 known.1,
+        ap (λ l. are_zeros (drop (end + n) l)) (sym same) ∙ ap are_zeros (rest_placed end n bytes all within k)
+            ∙ ap are_zeros (drop_more end n all within) ∙ zeros_behind n (drop end all) known.1,
       ),
 )
 
@@ -113,9 +92,9 @@ roomy_kept (Some all) end size n h k = (
 grown : (n : ℕ) (zeros all : List ℕ) → placed (length all) zeros all n ≡ all ++ (take n zeros ++ drop (length all + n) all)
 grown n zeros all = ap (λ l. l ++ (take n zeros ++ drop (length all + n) all)) (take-length all)
 
--- a write behind the end of a file leaves room, where no line ends in it
+-- a write behind the end of a file leaves room
 pub roomy_grown : (old new : Option (List ℕ)) (end size n : ℕ) (zeros : List ℕ) → IsRoomy old end size → n ≤ length zeros
-    → ends_no_line zeros ≡ true → IsPlaced size zeros n old new → IsRoomy new end (size + n)
+    → are_zeros zeros ≡ true → IsPlaced size zeros n old new → IsRoomy new end (size + n)
 roomy_grown None new end size n zeros h k z w = (omega (arith, h.0), λ x is. absurd (none_some x (sym w ∙ is)))
 roomy_grown (Some all) new end size n zeros h k z w = (
   omega (arith, h.0),
@@ -131,13 +110,27 @@ roomy_grown (Some all) new end size n zeros h k z w = (
       let behind : drop end (all ++ rest) ≡ drop end all ++ rest = drop-append-le end all rest within in
       let more : ℕ = (length all - end) + n in
       let far : length all + n ≡ end + more = omega (arith, within) in
-      let later : ends_no_line (drop (length all + n) all) ≡ true =
-      ap (λ m. ends_no_line (drop m all)) far ∙ ap ends_no_line (drop_more end more all within) ∙ none_ends_behind more (drop end all) known.1 in
-      let none : ends_no_line rest ≡ true = none_ends (take n zeros) (drop (length all + n) all) (none_ends_in_front n zeros z) later in
-      (sized ∙ ap length same, ap (λ l. ends_no_line (drop end l)) (sym same ∙ parts) ∙ ap ends_no_line behind ∙ none_ends (drop end all) rest known.1 none),
+      let later : are_zeros (drop (length all + n) all) ≡ true =
+      ap (λ m. are_zeros (drop m all)) far ∙ ap are_zeros (drop_more end more all within) ∙ zeros_behind more (drop end all) known.1 in
+      let none : are_zeros rest ≡ true = both_zeros (take n zeros) (drop (length all + n) all) (zeros_in_front n zeros z) later in
+      (sized ∙ ap length same, ap (λ l. are_zeros (drop end l)) (sym same ∙ parts) ∙ ap are_zeros behind ∙ both_zeros (drop end all) rest known.1 none),
 )
 
--- zeros end no line
-pub zeros_end_none : (n : ℕ) → ends_no_line (replicate n 0) ≡ true
-zeros_end_none zero = refl
-zeros_end_none (suc n) = zeros_end_none n
+-- zeros are zeros
+pub zeros_are : (n : ℕ) → are_zeros (replicate n 0) ≡ true
+zeros_are zero = refl
+zeros_are (suc n) = zeros_are n
+
+-- a file that is cut has no room
+pub roomy_cut : (old new : Option (List ℕ)) (end size n : ℕ) → IsRoomy old end size → n ≤ end → IsCutTo n old new → IsRoomy new n n
+roomy_cut None new end size n h le cut = (omega arith, λ x is. absurd (none_some x (sym cut ∙ is)))
+roomy_cut (Some all) new end size n h le cut = (
+  omega arith,
+  λ x is.
+      let known = h.1 all refl in
+      let same : take n all ≡ x = some_same (take n all) x (sym cut ∙ is) in
+      let within : n ≤ length all = omega (arith, h.0, known.0, le) in
+      let len : length (take n all) ≡ n = length-take-le n all within in
+      let none : drop n (take n all) ≡ [] = ap (λ k. drop k (take n all)) (sym len) ∙ drop-length (take n all) in
+      (sym len ∙ ap length same, ap (λ l. are_zeros (drop n l)) (sym same) ∙ ap are_zeros none),
+)

@@ -1,7 +1,7 @@
 //! A file that has room behind what was written to it: bytes of the file, which are written over.
-ghost use Rattle.std.specs.Prelude.{◌≡◌, ◌≤◌, ◌-◌, ◌+◌, true, length, drop, take, Some, IfSome, IsTrue};
+ghost use Rattle.std.specs.Prelude.{◌≡◌, ◌≤◌, ◌-◌, ◌+◌, true, length, take, Some, IfSome, IsTrue, OnOk};
 ghost use Rattle.std.specs.Io.KnownBytes.{Keeps};
-ghost use Rattle.mi_log.specs.Room.{IsRoomy, front_of, ends_no_line};
+ghost use Rattle.mi_log.specs.Room.{IsRoomy, front_of};
 
 use crate::device::Device;
 use crate::placed::PlacedFile;
@@ -14,8 +14,8 @@ const ROOM: u64 = 1_048_576;
 /// Bytes of one write that makes room.
 const PIECE: usize = 16_384;
 
-/// A file, and where what was written to it ends. What stands behind that is room: it has no newline, so that a reader of lines takes it for a
-/// torn one, and is written over. A write into room takes no more of the disk, unless the file system copies what is written over.
+/// A file, and where what was written to it ends. What stands behind that is room: zeros, which are written over. A write into room takes no
+/// more of the disk, unless the file system copies what is written over.
 ///
 /// No clause can say what a file of the system has, so it tells nothing of its bytes; but what it is given is written to the file.
 #[derive(Drop)]
@@ -66,13 +66,16 @@ impl<F: PlacedFile> RoomFile<F> {
         self.end
     }
 
-    /// What is written behind its first `size` bytes is room from here on; no line ends there.
-    pub fn keep(&mut self, size: u64)
-        requires { IfSome (front_of self.old.end (F.contents self.old.file)) (λ bytes. (size ≤ length bytes) × (ends_no_line (drop size bytes) ≡ true)) }
-        ensures file { self.new.file ≡ self.old.file }
-        ensures written { IfSome (front_of self.old.end (F.contents self.old.file)) (λ bytes. front_of self.new.end (F.contents self.new.file) ≡ Some (take size bytes)) }
+    /// The file is cut to the first `size` bytes that were written. It has no room then.
+    pub fn cut(&mut self, size: u64) -> io::Result<()>
+        ensures { OnOk result (IfSome (front_of self.old.end (F.contents self.old.file)) (λ bytes. size ≤ length bytes
+            → front_of self.new.end (F.contents self.new.file) ≡ Some (take size bytes))) }
     {
-        self.end = self.end.min(size);
+        let end = self.end.min(size);
+        self.file.set_len(end)?;
+        self.end = end;
+        self.size = end;
+        Ok(())
     }
 
     /// Writes zeros behind the file's end, until it has so much room or a write is refused.
