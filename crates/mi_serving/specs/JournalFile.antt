@@ -1,6 +1,12 @@
 -- What reading and cutting do to the bytes of a journal's file, where it tells them.
-use Rattle.std.specs.Prelude.{◌≡◌, ◌+◌, ◌≤◌, ◌<◌, ℕ, List, take, drop, length, ⊤, Option, Some, None, option_map, Result, MatchResult}
+use Rattle.std.specs.Prelude.{◌≡◌, ◌+◌, ◌≤◌, ◌<◌, ℕ, List, take, drop, length, ⊤, Option, Some, None, option_map, Result, MatchResult, [], ◌∷◌, ◌==◌, if◌then◌else◌}
 use Rattle.std.specs.Io.KnownBytes.{Consumes, IsAtEnd}
+
+-- The text of a journal: what stands in front of the first zero byte, which no line has. Of "ab⏎\0cd⏎" it is "ab⏎": room follows, or a page that
+-- a stop of the machine lost.
+abbrev pub text_of : List ℕ → List ℕ
+text_of [] = []
+text_of (b ∷ bs) = if b == 0 then [] else b ∷ text_of bs
 
 -- known bytes from this one on: of "abc" from 1 on "bc"
 abbrev pub from_byte : Option (List ℕ) → ℕ → Option (List ℕ)

@@ -1,7 +1,6 @@
 -- What a journal's bytes leave when they are asked again: of "{\"journal\":1, ..}⏎start⏎st" the line "start" is replayed, and "st" is torn.
-use Rattle.std.specs.Prelude.{◌≡◌, ◌≤◌, ◌-◌, ⊤, ℕ, List, [], ◌∷◌, ◌++◌, length, take, drop, Bool, true, false, if◌then◌else◌, Option, Some, None}
+use Rattle.std.specs.Prelude.{◌≡◌, ◌≤◌, ◌-◌, ⊤, ℕ, List, [], ◌∷◌, ◌++◌, length, take, Bool, true, false, if◌then◌else◌, Option, Some, None}
 use Rattle.mi_commands.specs.Holder.{HeldDatabase, released}
-use Rattle.mi_log.specs.Room.{ends_no_line}
 use Rattle.mi_hub.specs.Ended.{after_newlines}
 use Rattle.mi_hub.specs.Lines.{lines_of}
 use Rattle.mi_hub.specs.declared.connection.Connection.{Connection}
@@ -52,10 +51,10 @@ IsResumed Nothing old new = new ≡ old
 IsResumed (Journal torn) old new =
     (HoldsSome old.holder → new ≡ released replayer old) × (¬ (holder_conn old.holder ≡ Some replayer) → new ≡ old)
 
--- what was found in these bytes: a beginning of the header, or so many torn bytes at their end, among which no newline is
+-- what was found in these bytes: a beginning of the header, or so many torn bytes at their end
 abbrev pub IsFound : List ℕ → List ℕ → Journaled → Type 0
 IsFound header bytes Nothing = IsBeginning header bytes
-IsFound header bytes (Journal torn) = (torn ≤ length bytes) × (ends_no_line (drop (length bytes - torn) bytes) ≡ true)
+IsFound header bytes (Journal torn) = torn ≤ length bytes
 
 -- what a service keeps of these bytes before it goes on: the header alone, where they are no journal yet; else all of them but the torn ones
 abbrev pub kept_bytes : List ℕ → List ℕ → Journaled → List ℕ

@@ -10,6 +10,7 @@ use Rattle.mi_serving.specs.declared.failure.Failure.TheVariants.{Poll, Turns}
 use Rattle.mi_serving.specs.declared.words.JournalWords.{JournalWords}
 use Rattle.mi_serving.specs.Device.{is_synced}
 use Rattle.mi_serving.specs.Words.{asks_sync}
+use Rattle.mi_serving.specs.JournalFile.{text_of}
 use Rattle.mi_serving.specs.Recovery.{IsOpened}
 use Rattle.mi_serving.specs.Turns.{Goes, ends_serving}
 
@@ -25,7 +26,7 @@ Begins is_locked is_seen contents header start None hub told = hub ≡ start
 Begins {F} is_locked is_seen contents header start (Some words) hub told =
     (file : F) × (is_locked file ≡ true) × is_seen (string_bytes words.file) file
     × IfSome (contents file) (λ bytes. (keeping : Keeping) × (is_synced keeping ≡ asks_sync words.sync)
-    × IsOpened header bytes keeping start hub told)
+    × IsOpened header (text_of bytes) keeping start hub told)
 
 -- so it began, and was served until this failure; where the poll or the turns ended it, what its steps left is told
 abbrev pub HasServed : {F : Type 0} → (F → Bool) → (List ℕ → F → Type 0) → (F → Option (List ℕ)) → List ℕ → HubState → Option JournalWords

@@ -7,13 +7,11 @@ use std::path::Path;
 use std::rt::Files;
 use std::{fs, io};
 
-/// An open file of a journal: it is locked, read from its start, cut where its last line is torn, and written to behind its end. What is cut
-/// off may stay as room: it has no newline.
+/// An open file of a journal: it is locked, read from its start, cut where its text ends, and written to behind its end.
 pub trait JournalFile: Device {
-    ghost use Rattle.std.specs.Prelude.{◌≡◌, ℕ, List, Option, Bool, true, length, drop, OnOk, IfOk, IfSome};
+    ghost use Rattle.std.specs.Prelude.{◌≡◌, ℕ, List, Option, Bool, true, length, OnOk, IfOk, IfSome};
     ghost use Rattle.std.specs.Io.{ReadsAtMost};
     ghost use Rattle.std.specs.Io.KnownBytes.{Keeps};
-    ghost use Rattle.mi_log.specs.Room.{ends_no_line};
     ghost use Rattle.mi_serving.specs.JournalFile.{ReadsFrom, IsCutTo};
 
     /// Whether this process has locked it.
@@ -33,9 +31,8 @@ pub trait JournalFile: Device {
     fn size(&self) -> io::Result<u64>
         ensures { IfOk result (λ size. IfSome (Self.contents self.now) (λ bytes. size ≡ length bytes)) };
 
-    /// Cuts it to its first `size` bytes, behind which no line ends.
+    /// Cuts it to its first `size` bytes.
     fn cut_to(&mut self, size: u64) -> io::Result<()>
-        requires { IfSome (Self.contents self.old) (λ bytes. ends_no_line (drop size bytes) ≡ true) }
         ensures cut { OnOk result (IsCutTo size (Self.contents self.old) (Self.contents self.new)) }
         ensures locked { is_locked self.new ≡ is_locked self.old };
 }
@@ -82,10 +79,8 @@ impl JournalFile for RoomFile<File> {
         Ok(self.len())
     }
 
-    /// What is cut off is room from here on.
     fn cut_to(&mut self, size: u64) -> io::Result<()> {
-        self.keep(size);
-        Ok(())
+        self.cut(size)
     }
 }
 

@@ -9,6 +9,7 @@ mod door;
 mod failure;
 mod file_reader;
 mod journal_file;
+mod journal_text;
 mod link;
 mod opening;
 mod patience;

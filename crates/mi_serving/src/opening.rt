@@ -1,11 +1,11 @@
 //! The journal at the start: what it has is asked again, a torn end of it is cut off, and it is opened to go on with, under a name that stays.
-ghost use Rattle.std.specs.Prelude.{◌≡◌, ◌-◌, ◌++◌, ◌∷◌, List, [], ℕ, true, false, take, drop, length, Some, Ok, OnOk, IfOk, IfErr, IfSome};
+ghost use Rattle.std.specs.Prelude.{◌≡◌, ◌-◌, ◌++◌, ◌∷◌, List, [], ℕ, true, false, take, length, Some, Ok, OnOk, IfOk, IfErr, IfSome};
 ghost use Rattle.std.specs.Io.BufRead.{ends_with_byte};
 ghost use Rattle.std.specs.Io.KnownBytes.{Keeps, Appends};
 ghost use Rattle.mi_log.specs.LogLines.{reader_of};
 ghost use Rattle.mi_replay.specs.Replayed.{replayer};
 ghost use Rattle.mi_log.specs.DeviceLog.{device_of};
-ghost use Rattle.mi_log.specs.Room.{ends_no_line};
+ghost use Rattle.mi_serving.specs.JournalFile.{text_of};
 ghost use Rattle.mi_ledger.specs.Ledger.{hub_of, log_of};
 ghost use Rattle.mi_serving.specs.Device.{is_synced, is_staying, told_of};
 ghost use Rattle.mi_clients.specs.Row.{fresh};
@@ -17,6 +17,7 @@ use crate::device::{JournalDevice, Keeping};
 use crate::failure::{Failure, Fault};
 use crate::file_reader::FileReader;
 use crate::journal_file::{JournalFile, JournalFiles};
+use crate::journal_text::text_size;
 use mi_clients::part;
 use mi_hub::Hub;
 use mi_ledger::{HeldReplies, Ledger, REPLAYER, replay};
@@ -24,7 +25,7 @@ use mi_log::{Device, DeviceLog, Heading, Log, LogLines, RoomFile, judge_heading}
 use mi_sessions::Sessions;
 use std::alloc::Global;
 use std::fs::File;
-use std::io::{BufRead, BufReader, Error};
+use std::io::{BufRead, BufReader, Error, Read};
 
 /// A ledger over a journal in a file, or over none.
 pub type JournalLedger<F, D> = Ledger<D, DeviceLog<JournalDevice<F>>>;
@@ -141,22 +142,39 @@ pub fn recovered<D: Sessions + Drop, R: BufRead + Drop>(
     Ok(Journaled::Journal(torn as u64))
 }
 
-/// What a file has: it is read from its start to its end.
+/// What a reader has, by reads of up to 64 KiB.
+fn read_whole<R: Read + Drop, D: Sessions + Drop>(
+    alloc: Global,
+    hub: &mut Hub<D>,
+    reader: R,
+    header: &[u8],
+) -> Result<Journaled, Failure>
+    requires { hub.old.attached ≡ [] }
+    ensures journal { IfOk result (λ found. IfSome (R.remaining reader) (λ bytes. IsRecovered header.now bytes found hub.old.held hub.new.held)) }
+    ensures attached { IfOk result (λ found. IsWith found hub.new.attached) }
+    ensures fails { IfErr result (λ failure. ends_replay failure ≡ true) }
+{
+    match BufReader::with_capacity(alloc, 65_536, reader) {
+        Ok(reader) => recovered(alloc, hub, reader, header),
+        Err(_error) => Err(Failure::Memory),
+    }
+}
+
+/// What a file has, whose text has so many bytes: it is read from its start to the text's end.
 fn found<F: JournalFile, D: Sessions + Drop>(
     alloc: Global,
     hub: &mut Hub<D>,
     file: &F,
+    text: u64,
     header: &[u8],
 ) -> Result<Journaled, Failure>
-    requires { hub.old.attached ≡ [] }
-    ensures journal { IfOk result (λ found. IfSome (F.contents file.now) (λ bytes. IsRecovered header.now bytes found hub.old.held hub.new.held)) }
+    requires fresh { hub.old.attached ≡ [] }
+    requires text { IfSome (F.contents file.now) (λ bytes. text ≡ length (text_of bytes)) }
+    ensures journal { IfOk result (λ found. IfSome (F.contents file.now) (λ bytes. IsRecovered header.now (text_of bytes) found hub.old.held hub.new.held)) }
     ensures attached { IfOk result (λ found. IsWith found hub.new.attached) }
     ensures fails { IfErr result (λ failure. ends_replay failure ≡ true) }
 {
-    match BufReader::with_capacity(alloc, 65_536, FileReader::new(file)) {
-        Ok(reader) => recovered(alloc, hub, reader, header),
-        Err(_error) => Err(Failure::Memory),
-    }
+    read_whole(alloc, hub, FileReader::new(file).take(text), header)
 }
 
 /// A failure, with what a log's device has said, where it has failed.
@@ -219,37 +237,49 @@ fn begun<F: JournalFile + Drop>(
     Ok(log)
 }
 
-/// Cuts so many bytes off the end of a file, among which no newline is.
-fn cut_off<F: JournalFile>(file: &mut F, torn: u64) -> Result<(), Fault>
-    requires { IfSome (F.contents file.old) (λ bytes. ends_no_line (drop (length bytes - torn) bytes) ≡ true) }
-    ensures { OnOk result (IfSome (F.contents file.old) (λ bytes. F.contents file.new ≡ Some (take (length bytes - torn) bytes))) }
+/// A file that has nothing behind its text, which has so many bytes. `JournalFile` where it has: it is as it was then.
+fn check_end<F: JournalFile>(file: &F, text: u64) -> Result<(), Fault>
+    ensures { OnOk result (IfSome (F.contents file.now) (λ bytes. text ≡ length bytes)) }
 {
-    if torn == 0 {
+    if size_of(file)? == text {
         return Ok(());
     }
-    let size = size_of(file)?;
-    match file.cut_to(size.saturating_sub(torn)) {
+    Err(Fault::from(Failure::JournalFile))
+}
+
+/// Cuts a file to the whole lines of its text, which has so many bytes, of which so many are torn.
+fn cut_off<F: JournalFile>(file: &mut F, text: u64, torn: u64) -> Result<(), Fault>
+    requires { IfSome (F.contents file.old) (λ bytes. text ≡ length (text_of bytes)) }
+    ensures { OnOk result (IfSome (F.contents file.old) (λ bytes. F.contents file.new ≡ Some (take (text - torn) (text_of bytes)))) }
+{
+    match file.cut_to(text.saturating_sub(torn)) {
         Ok(()) => Ok(()),
         Err(error) => Err(Fault::of(Failure::JournalFile, error)),
     }
 }
 
-/// The log of a journal that goes on behind what was found.
+/// The log of a journal that goes on behind what was found in its text, which has so many bytes.
 fn continued<F: JournalFile + Drop>(
     file: F,
+    text: u64,
     keeping: Keeping,
     found: Journaled,
     header: &[u8],
 ) -> Result<DeviceLog<JournalDevice<F>>, Fault>
-    requires { IfSome (F.contents file) (λ bytes. IsFound header.now bytes found) }
-    ensures has { IfOk result (λ log. IfSome (F.contents file) (λ bytes. Has keeping (kept_bytes header.now bytes found) (told_of F.contents (device_of log)))) }
+    requires text { IfSome (F.contents file) (λ bytes. text ≡ length (text_of bytes)) }
+    requires found { IfSome (F.contents file) (λ bytes. IsFound header.now (text_of bytes) found) }
+    ensures has { IfOk result (λ log. IfSome (F.contents file)
+        (λ bytes. Has keeping (kept_bytes header.now (text_of bytes) found) (told_of F.contents (device_of log)))) }
     ensures makes_stay { IfOk result (λ log. is_staying (device_of log) ≡ is_synced keeping) }
 {
     match found {
-        Journaled::Nothing => begun(file, keeping, header),
+        Journaled::Nothing => {
+            check_end(&file, text)?;
+            begun(file, keeping, header)
+        }
         Journaled::Journal(torn) => {
             let mut file = file;
-            cut_off(&mut file, torn)?;
+            cut_off(&mut file, text, torn)?;
             Ok(DeviceLog::new(JournalDevice::new(Some(file), keeping)))
         }
     }
@@ -292,13 +322,13 @@ pub fn without<F: JournalFile + Drop, D: Sessions + Drop>(hub: Hub<D>) -> Journa
     )
 }
 
-/// A hub that the lines of a path's journal were asked of again, and that goes on with it. The file is locked, read, and seen under its
-/// path behind that; then its torn end is cut off, or the header is appended where it has none. The sessions that were held at its end are
-/// undone, by lines that are appended, and what it has stays, its name too.
+/// A hub that the lines of a path's journal were asked of again, and that goes on with it. The file is locked, and read up to its first zero
+/// byte. Behind that it is seen under its path. Then what stands behind its whole lines is cut off, or the header is appended where it has none.
+/// The sessions that were held at its end are undone, by lines that are appended, and what it has stays, its name too.
 ///
-/// `JournalLocked` where another process has the file; `JournalFile` where it can't be opened, read or cut, or was moved meanwhile;
-/// `JournalSchema` and `JournalLine` where it is no journal of this header; `Journal` where it can't be appended to or made to stay. The
-/// file is as it was then, but that it may lack its torn end or have the header's begin.
+/// `JournalLocked` where another process has the file; `JournalFile` where it can't be opened, read or cut, was moved meanwhile, or has a zero
+/// byte behind a header's beginning; `JournalSchema` and `JournalLine` where it is no journal of this header; `Journal` where it can't be
+/// appended to or made to stay. The file is as it was then, but that it may lack what stands behind its whole lines or have the header's begin.
 pub fn opened<P: JournalFiles, D: Sessions + Drop>(
     alloc: Global,
     files: &P,
@@ -310,7 +340,7 @@ pub fn opened<P: JournalFiles, D: Sessions + Drop>(
     requires { hub.attached ≡ [] }
     ensures opened { IfOk result (λ ledger. (file : P.File) × (P.File.is_locked file ≡ true) × P.is_seen files.now path.now file
         × IfSome (P.File.contents file) (λ bytes.
-        IsOpened header.now bytes keeping hub (hub_of ledger) (told_of P.File.contents (device_of (log_of ledger))))) }
+        IsOpened header.now (text_of bytes) keeping hub (hub_of ledger) (told_of P.File.contents (device_of (log_of ledger))))) }
     ensures attached { IfOk result (λ ledger. (hub_of ledger).attached ≡ []) }
     ensures settled { IfOk result (λ ledger. Keeps (told_of P.File.contents (device_of (log_of ledger))) (told_of P.File.stays (device_of (log_of ledger)))) }
     ensures stays { IfOk result (λ ledger. is_staying (device_of (log_of ledger)) ≡ is_synced keeping) }
@@ -318,8 +348,9 @@ pub fn opened<P: JournalFiles, D: Sessions + Drop>(
     let mut hub = hub;
     let file = claimed(files, path)?;
     named(files, path, keeping)?;
-    let found = found(alloc, &mut hub, &file, header.as_bytes())?;
+    let text = text_size(&file)?;
+    let found = found(alloc, &mut hub, &file, text, header.as_bytes())?;
     check_name(files, path, &file)?;
-    let log = continued(file, keeping, found, header.as_bytes())?;
+    let log = continued(file, text, keeping, found, header.as_bytes())?;
     Ok(resumed(alloc, hub, log, found)?)
 }

@@ -202,6 +202,11 @@ fn files_go_on(rt: HostRuntime) -> Result<(), Fail> {
             "head\n{\"cmd\":\"start\"}\n{\"c",
             "head\n{\"cmd\":\"start\"}\n{\"cmd\":\"undo\"}\n",
         ),
+        ("head\n\0\0\0", "head\n"),
+        (
+            "head\n{\"cmd\":\"start\"}\n{\"c\0\0\0md\":\"undo\"}\n{\"cmd\":\"push\"}\n",
+            "head\n{\"cmd\":\"start\"}\n{\"cmd\":\"undo\"}\n",
+        ),
     ] {
         match left_of(rt.alloc(), bytes.as_bytes(), false, 2)? {
             Ok(left) => assert!(rt; left.as_str() == want),
@@ -215,6 +220,8 @@ fn files_go_on(rt: HostRuntime) -> Result<(), Fail> {
 fn files_are_refused(rt: HostRuntime) -> Result<(), Fail> {
     for (bytes, is_taken, named, want) in [
         ("heads", false, 2, "journal: line 1"),
+        ("he\0\0", false, 2, "journal: file"),
+        ("\0", false, 2, "journal: file"),
         ("head\n", true, 2, "journal: locked"),
         ("head\n", false, 0, "journal: locked"),
         ("head\n", false, 1, "journal: file"),

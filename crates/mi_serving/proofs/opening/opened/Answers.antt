@@ -6,8 +6,8 @@ use Rattle.mi_serving.specs.Device.{told_of}
 use Rattle.mi_serving.proofs.OpeningLemmas.{found_after, opened_by}
 use Rattle.mi_serving.proofs.opening.opened.Goals as goal
 
-pub continued-requires : goal.continued-requires
-continued-requires g c =
+pub continued-requires-clause-found : goal.continued-requires-clause-found
+continued-requires-clause-found g c =
     found_after (g.P.File.Device.contents c.in_ok-file.file) c.as_bytes.result.now c.as_bytes-2.result.now c.in_ok-found.found _ _
     (c.as_bytes.ensures.value ∙ sym c.as_bytes-2.ensures.value) c.in_ok-found.ensures.journal
 
