@@ -2,6 +2,8 @@
 ghost use Rattle.std.specs.Prelude.{◌≡◌, ◌⊎◌, true, false};
 ghost use Rattle.mi_serving.specs.Recovery.{ends_replay, told_as};
 ghost use Rattle.mi_serving.specs.Status.{status_of};
+ghost use Rattle.mi_ledger.specs.declared.fault.LedgerFault.TheVariants as ledger_fault;
+ghost use Rattle.mi_serving.specs.declared.failure.Failure.TheVariants as told;
 
 use mi_ledger::{LedgerFault, ReplayFault};
 use mi_schema::SchemaFault;
@@ -104,6 +106,9 @@ impl fmt::Display for Failure {
 }
 
 impl From<LedgerFault> for Failure {
+    ghost from_gives = { λ fault failure. ((fault ≡ ledger_fault.Memory) × (failure ≡ told.Memory))
+        ⊎ ((fault ≡ ledger_fault.Journal) × (failure ≡ told.Journal)) };
+
     fn from(fault: LedgerFault) -> Failure {
         Failure::of_ledger(fault)
     }

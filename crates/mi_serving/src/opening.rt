@@ -1,5 +1,5 @@
 //! The journal at the start: what it has is asked again, a torn end of it is cut off, and it is opened to go on with, under a name that stays.
-ghost use Rattle.std.specs.Prelude.{◌≡◌, ◌-◌, ◌++◌, ◌∷◌, List, [], ℕ, true, false, take, length, Some, Ok, OnOk, IfOk, IfErr, IfSome};
+ghost use Rattle.std.specs.Prelude.{◌≡◌, ◌⊎◌, ◌-◌, ◌++◌, ◌∷◌, List, [], ℕ, true, false, take, length, Some, Ok, OnOk, IfOk, IfErr, IfSome};
 ghost use Rattle.std.specs.Io.BufRead.{ends_with_byte};
 ghost use Rattle.std.specs.Io.KnownBytes.{Keeps, Appends};
 ghost use Rattle.mi_log.specs.LogLines.{reader_of};
@@ -300,6 +300,7 @@ fn resumed<D: Sessions + Drop, L: Log + Drop>(
     ensures stay { IfOk result (λ ledger. Keeps (L.appended (log_of ledger)) (L.synced (log_of ledger))) }
     ensures attached { IfOk result (λ ledger. (hub_of ledger).attached ≡ []) }
     ensures makes_stay { IfOk result (λ ledger. L.makes_stay (log_of ledger) ≡ L.makes_stay log) }
+    ensures fails { IfErr result (λ failure. (failure ≡ Failure.Memory) ⊎ (failure ≡ Failure.Journal)) }
 {
     let mut ledger = Ledger::new(hub, log);
     match found {
