@@ -5,12 +5,13 @@
                                                                 change, and the schema the header's
     journal.py stat FILE                                        lines by command, sessions, sizes
     journal.py compact FILE [--to NEW]                          a shorter journal of the same database, in a new file that is then renamed
-    journal.py copy FILE NEW                                    what it has up to its last newline, also of one that is in use
+    journal.py copy FILE NEW                                    its text up to the last newline, also of one that is in use
 
 A journal's first line is its header, {"journal":1,"revision":R,"schema":"HASH"}: the format, the first revision and the hash of the
 schema. It is no command, so `mi_server < FILE` refuses it and then does the other lines, as one connection. Of each holder that went
-away there is an undo for each session that it held. What stands behind the last newline is no line: a torn one, and zeros, which are room
-that the service writes over. Of a file that is in use only what stands up to the newline that is the last one at the beginning is read.
+away there is an undo for each session that it held. A journal's text ends at its first zero byte. Behind its last newline a torn line may
+stand, and behind the text room: zeros that the service writes over. Where other bytes stand behind zeros, a start of the service would cut
+them off; that is damage here, but for `copy`. Of a file that is in use the text is read that is there at the beginning.
 
 compact drops whole blocks that were undone, from the start to the undo: an undo restores everything, counters too. It follows squash,
 commit, undo_all and push. A commit inside such a block has ended sessions below it, so it stays; a push stays where the sessions below
@@ -40,11 +41,10 @@ from reference import CHANGES, LONGEST_LINE, MOST_SESSIONS, STEPS, Refusal, form
 
 sys.path.insert(0, f"{os.path.dirname(os.path.dirname(os.path.realpath(__file__)))}/clients/python")
 
-from mi_client.journals import end_of  # noqa: E402
+from mi_client.journals import end_before, end_of, lost_behind, text_of  # noqa: E402, F401
 
 FORMAT = 1
 DIGITS = re.compile("[0-9a-f]+")
-NO_JSON = ["no JSON", "zeros, as in a copy that was made while lines were written, or behind a stop of the machine"]
 SESSIONS = ("start", "undo", "squash", "commit", "undo_all", "push")
 # How the replies to lines that a journal has begin, but for that to a modify which lost its record.
 CHANGED = tuple(b'{"id":|{"ok":true}|{"erased":|{"ok":true,"revision":|{"committed":|{"ok":true,"undone":|{"ok":true,"pushed":'.split(b"|"))
@@ -105,17 +105,20 @@ def command(number, text):
     try:
         return form(read(bare))
     except Refusal as refusal:
-        raise Damaged(number, NO_JSON[b"\0" in text] if refusal.reply["error"] == "json" else "no command") from None
+        raise Damaged(number, "no JSON" if refusal.reply["error"] == "json" else "no command") from None
 
 
 class Journal:
-    """A journal that is read once, by `lines`. Its last newline ends at `end`, where `torn` bytes of a torn line stand, and `room` zeros."""
+    """A journal that is read once, by `lines`. Its last newline ends at `end`, where `torn` bytes of a torn line stand. Behind those stand zeros:
+    `room` bytes, or `lost` ones, of which the last is none."""
 
     def __init__(self, file, what="reading"):
-        self.file, self.size, self.end = file, os.fstat(file.fileno()).st_size, end_of(file.fileno())
-        rest = os.pread(file.fileno(), max(0, self.size - self.end), self.end).rpartition(b"\n")[2]
-        self.torn = len(rest.rstrip(b"\0"))
-        self.room = len(rest) - self.torn
+        handle = file.fileno()
+        text = text_of(handle)
+        self.file, self.end = file, end_before(handle, text)
+        self.torn, self.lost = text - self.end, lost_behind(handle, text)
+        self.size = os.fstat(handle).st_size
+        self.room = self.size - text
         self.progress = Progress(what, self.end)
         self.first = file.readline() if self.end else b""
         if not self.first:
@@ -130,6 +133,9 @@ class Journal:
             at, number = at + len(text), number + 1
             if number % 256 == 0:
                 self.progress.at(at)
+        if self.lost:
+            raise Damaged(number, f"zeros, and {self.lost} bytes up to the last that is none, which a start of the service would cut off: as in a copy "
+                                  "that was made while lines were written, or behind a stop of the machine")
 
 
 def behind(places, start):
@@ -381,7 +387,7 @@ def compact(path, new):
 
 
 def copy(path, new):
-    """What a file has up to its last newline goes to a new one, which has its mode; it is neither locked nor changed."""
+    """A file's text up to the last newline goes to a new one, which has its mode; it is neither locked nor changed."""
     with open(path, "rb") as file, open(new, "xb", opener=lambda name, how: os.open(name, how, 0o600)) as target:
         try:
             end = Journal(file).end
@@ -405,7 +411,7 @@ def words():
     compacting = steps.add_parser("compact", help="a shorter journal of the same database")
     compacting.add_argument("file")
     compacting.add_argument("--to", metavar="NEW", help="its name, where the old one is to stay")
-    copying = steps.add_parser("copy", help="what it has up to its last newline, also of one that is in use")
+    copying = steps.add_parser("copy", help="its text up to the last newline, also of one that is in use")
     copying.add_argument("file")
     copying.add_argument("new", help="a name that no file has yet")
     return parser

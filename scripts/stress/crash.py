@@ -9,7 +9,8 @@ sent, or is the undo of a holder that went away; each reply is the reference's; 
 
     rounds   the service is killed at random moments, now and then while it starts; one journal goes through ten rounds
     power    the same on a disk that forgets, at the kill, what wasn't synced, and keeps a random front of it (needs a C compiler)
-    torn     a short journal is cut at each byte, with room behind that or none; one that has not its whole header is begun anew
+    torn     a short journal is cut at each byte, with room behind that, or zeros and later lines, or nothing; one that has not its whole header
+             is begun anew
     deep     a client that holds 1,024 sessions goes away, or is there when the service is killed
     full     the journal's disk is full, has room for a little, and is full again, while the service is loaded and killed: it goes on, and refuses
              nothing but changes, as `journal`; no line that is refused so is kept. Where the file may be written no more, or where a write or sync
@@ -130,7 +131,7 @@ def torn(path, options, folder):
     header = bytes_.index(b"\n") + 1
     lengths = range(0, len(bytes_) + 1, 17 if options.short else 1)
     for n, length in enumerate(sorted({*lengths, header - 1, header, len(bytes_)})):
-        kept, room = Kept(path, folder, "torn"), b"\0" * [0, 9, 150_000][n % 3]
+        kept, room = Kept(path, folder, "torn"), [b"", bytes(9), bytes(150_000), b'\0\0md":"push"}\n{"cmd":"start"}\n\0'][n % 4]
         with open(kept.journal, "wb") as file:
             file.write(bytes_[:length] + (room if length >= header else b""))
         end = bytes_.rfind(b"\n", 0, length) + 1
@@ -370,7 +371,7 @@ def damaged(path, options, folder):
     bytes_ = short_journal(path, folder)
     header, *lines = bytes_.split(b"\n")[:-1]
     kept, count = Kept(path, folder, "damaged"), 0
-    bad = [b"{", b"", b"\x00" * 30, b'{"cmd":"fly"}', b'{"cmd":"size"}', b'{"cmd":"erase","id":99}', header]
+    bad = [b"{", b"", b'{"cmd":"fly"}', b'{"cmd":"size"}', b'{"cmd":"erase","id":99}', header]
     for n in range(len(lines) + 1):
         for text in bad[n % 3::3] if options.short else bad:
             whole = b"\n".join([header, *lines[:n], text, *lines[n:], b""])

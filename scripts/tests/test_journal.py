@@ -307,7 +307,6 @@ class Check(Files):
             (b"", 1, "; room: 1 bytes"),
             (b"", 2_500_000, "; room: 2500000 bytes"),
             (b'{"cmd', 70_000, "; the last 5 bytes in front of room are torn, and no line; room: 70000 bytes"),
-            (b"\0\0abc", 2, "; the last 5 bytes in front of room are torn, and no line; room: 2 bytes"),
         ]:
             self.write([START], torn=torn + b"\0" * room)
             self.assertEqual(self.ran("check", self.path), (0, f"{self.path}: 1 lines, schema {HASH}, ok as a file{note}{NOT_ASKED}\n"))
@@ -316,23 +315,22 @@ class Check(Files):
     def test_room_that_is_written_over_meanwhile(self):
         """What is read is what was there at the beginning."""
         self.write([START], torn=b"\0" * 5_000)
-        end_of = journal.end_of
+        end_before = journal.end_before
 
-        def late(handle):
-            end = end_of(handle)
+        def late(handle, text):
+            end = end_before(handle, text)
             with open(self.path, "r+b") as file:
-                file.seek(end + 2_000)
+                file.seek(end)
                 file.write(insert("late") + b"\n")
             return end
 
-        with unittest.mock.patch("journal.end_of", late):
-            self.assertIn("1 lines, ", self.ran("check", self.path)[1])
+        with unittest.mock.patch("journal.end_before", late):
+            self.assertEqual(self.ran("check", self.path)[1],
+                             f"{self.path}: 1 lines, schema {HASH}, ok as a file; room: 5000 bytes{NOT_ASKED}\n")
 
     def test_damaged_lines(self):
         for bad, why in [
             (b"", "no JSON"),
-            (b"\x00" * 40, journal.NO_JSON[1]),
-            (b"\x00" + START, journal.NO_JSON[1]),
             (b'{"cmd":"undo"', "no JSON"),
             (b'{"cmd":"fly"}', "no command"),
             (b'{"cmd":"undo","id":1}', "no command"),
@@ -340,6 +338,20 @@ class Check(Files):
         ]:
             self.write([START, bad, UNDO])
             self.assertEqual(self.ran("check", self.path), (3, f"{self.path}: line 3: {why}\n"))
+
+    def test_bytes_behind_zeros(self):
+        for torn, room, lost in [(b"", 40, UNDO + b"\n"), (b'{"cmd', 3_000_000, b"x" + b"\0" * 50), (b"", 1, START)]:
+            self.write([START], torn=torn + b"\0" * room + lost)
+            before = self.text()
+            for step in ("check", "compact", "stat"):
+                status, said = self.ran(step, self.path)
+                self.assertEqual(status, 3)
+                self.assertIn(f"{self.path}: line 3: zeros, and {room + len(lost.rstrip(bytes(1)))} bytes up to the last", said)
+            self.assertEqual(self.text(), before)
+            new = f"{self.folder}/new"
+            self.assertEqual(self.ran("copy", self.path, new)[0], 0)
+            self.assertEqual(self.text(new), first_line() + START + b"\n")
+            os.unlink(new)
 
     def test_a_carriage_return_is_no_damage(self):
         self.write([START + b"\r", UNDO])

@@ -1,6 +1,6 @@
 """A service's journal, asked of a server as the service does at its start. The file is read alone: it is neither locked nor changed, so the
-service may go on with it meanwhile. Behind its last newline stands what is no line: a torn one, and room, which are zeros that the service
-writes over."""
+service may go on with it meanwhile. Its text ends at its first zero byte. Behind that stands room, which are zeros that the service writes over;
+a torn line may stand in front of it."""
 from __future__ import annotations
 
 import hashlib
@@ -58,10 +58,20 @@ def bytes_hash(file: Optional[str]) -> str:
     return hashlib.sha256(data).hexdigest()[:16]
 
 
-def end_of(handle: int) -> int:
-    """Where the last newline of a journal's file ends, from its end on. What stands before that stays as it is while the service goes on; who
-    reads on behind it may find room in front of what was written meanwhile."""
-    at = os.fstat(handle).st_size
+def text_of(handle: int) -> int:
+    """Where the text of a journal's file ends: at its first zero byte."""
+    at = 0
+    while piece := os.pread(handle, PIECE, at):
+        zero = piece.find(b"\0")
+        if zero >= 0:
+            return at + zero
+        at += len(piece)
+    return at
+
+
+def end_before(handle: int, text: int) -> int:
+    """Where the last newline ends that a file has before a place."""
+    at = text
     while at:
         start = max(0, at - PIECE)
         newline = os.pread(handle, at - start, start).rfind(b"\n")
@@ -71,10 +81,25 @@ def end_of(handle: int) -> int:
     return 0
 
 
+def end_of(handle: int) -> int:
+    """Where the last newline of a journal's text ends. What stands before that stays as it is while the service goes on."""
+    return end_before(handle, text_of(handle))
+
+
+def lost_behind(handle: int, text: int) -> int:
+    """How many bytes behind the text stand up to the last that is no zero: what a start would cut off. 0 where the service has written on there."""
+    at, last = text, text
+    while piece := os.pread(handle, PIECE, at):
+        bare = len(piece.rstrip(b"\0"))
+        last, at = at + bare if bare else last, at + len(piece)
+    return last - text if os.pread(handle, 1, text) == b"\0" else 0
+
+
 def lines_of(path: str) -> Iterator[bytes]:
     """The lines behind the header, with their newlines, as many as there are at the beginning."""
     with open(path, "rb") as file:
-        end = end_of(file.fileno())
+        text = text_of(file.fileno())
+        end, lost = end_before(file.fileno(), text), lost_behind(file.fileno(), text)
         first = file.readline()
         header_of(first, path)
         at, number = len(first), 2
@@ -84,6 +109,8 @@ def lines_of(path: str) -> Iterator[bytes]:
                 raise Damaged(f"{path}:{number}: an empty line")
             yield line
             at, number = at + len(line), number + 1
+        if lost:
+            raise Damaged(f"{path}:{number}: zeros, and {lost} bytes up to the last that is none, which a start of the service would cut off")
 
 
 def replay(db: Database, path: str) -> None:
