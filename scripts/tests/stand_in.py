@@ -80,8 +80,7 @@ class Journal:
         except OSError as error:
             stop(3, f"journal: file: {path}: {error.strerror} ({error.errno})")
         whole = os.pread(self.handle, os.fstat(self.handle).st_size, 0)
-        self.room = len(whole)
-        whole = whole.rstrip(b"\0") if PLANT == "torn" else whole
+        whole, self.room = whole.rstrip(b"\0") if PLANT == "torn" else whole.partition(b"\0")[0], len(whole)
         end = len(whole) if PLANT == "torn" else whole.rfind(b"\n") + 1
         lines = whole[:end].split(b"\n")[:-1] if PLANT != "torn" else [it for it in whole.split(b"\n") if it]
         if lines and lines[0] != wanted and not (PLANT == "foreign" and lines[0].startswith(b'{"journal"')):
@@ -92,7 +91,12 @@ class Journal:
                 stop(3, f"journal: line {number}: {path}")
         self.end = end
         if not lines:
+            if len(whole) < self.room:
+                stop(3, f"journal: file: {path}")
             self.append(wanted + b"\n")
+        elif PLANT != "torn":
+            self.room = end
+            os.ftruncate(self.handle, end)
         self.gone(reference, 1)
         self.stay()
 

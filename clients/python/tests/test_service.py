@@ -121,6 +121,7 @@ class Services(unittest.TestCase):
         with open(self.journal, "rb") as file:
             self.assertNotIn(b"service", file.read())
 
+    @unittest.skipIf(SERVICE == STAND_IN, "the service isn't built: its stand-in has taken its place")
     def test_a_journal_that_is_told(self):
         with self.started() as server, server.connect(10) as db:
             db.insert(ANN)
@@ -132,19 +133,22 @@ class Services(unittest.TestCase):
         with Server(service=SERVICE) as server, server.connect(10) as db:
             self.assertIsNone(service_lines.status(db)["journal"])
 
+    @unittest.skipIf(SERVICE == STAND_IN, "the service isn't built: its stand-in has taken its place")
     def test_a_connection_that_is_ended(self):
         """Its sessions are undone, and who asked is served on."""
         with self.started() as server, server.connect(10) as db, server.connect(10) as other:
             other.begin()
             other.insert(ANN)
             holder = service_lines.status(db)["holder"]
-            self.assertEqual(db.ask_lines([f'{{"service":"end","connection":{holder}}}']), ['{"ok":true}'])
+            self.assertEqual(list(db.ask_lines([f'{{"service":"end","connection":{holder}}}'])), ['{"ok":true}'])
             while service_lines.status(db)["holder"] is not None:
                 time.sleep(0.01)
             self.assertEqual((db.revision().depth, db.size()), (0, 0))
             with self.assertRaises(Ended):
                 other.size()
-            self.assertEqual(db.ask_lines(['{"service":"end","connection":x}']), ['{"error":"form","ok":false}'])
+            lines = ['{"service":"end","connection":-1}', f'{{"service":"end","connection":{holder}}}', '{"service":"end"}']
+            form = '{"error":"form","ok":false}'
+            self.assertEqual(list(db.ask_lines(lines)), [form, '{"ok":true}', form])
 
     def test_the_schema_is_told(self):
         for path in (None, f"{TOP}/examples/shop.toml"):
