@@ -1,6 +1,6 @@
 """Whether a service keeps what it has acknowledged, however it ends.
 
-    stress crash [--part rounds|power|torn|deep|full|damaged|moved|tools] [--rounds N] [--short] [--seed N] [--program FILE] [--server FILE]
+    stress crash [--part rounds|power|synced|torn|deep|full|damaged|moved|tools] [--rounds N] [--short] [--seed N] [--program FILE] [--server FILE]
 
 Without --part all run, one behind another. Each lets clients come and go, with sessions held and lines sent ahead, ends the service, and
 compares what was sent, answered and kept by `journal_walk.py`: each acknowledged line is in the journal, in its order; what is there was
@@ -9,6 +9,7 @@ sent, or is the undo of a holder that went away; each reply is the reference's; 
 
     rounds   the service is killed at random moments, now and then while it starts; one journal goes through ten rounds
     power    the same on a disk that forgets, at the kill, what wasn't synced, and keeps a random front of it (needs a C compiler)
+    synced   what `--sync` says is synced so often, and so is the folder of a new journal (needs a C compiler)
     torn     a short journal is cut at each byte, with room behind that, or zeros and later lines, or nothing; one that has not its whole header
              is begun anew
     deep     a client that holds 1,024 sessions goes away, or is there when the service is killed
@@ -102,6 +103,34 @@ def power(path, options, folder):
         return {"sync": "always" if n % 4 == 3 else "turn", "env": forgetting(home, n + 1, DELAY=500)}
 
     return kept_through(path, count, f"{options.seed}/power", folder, start, early=False)
+
+
+def syncs_of(path, folder, loaded, sync, count):
+    """How often a service has synced files and folders once it has answered so many changes, which came at once, of a new journal."""
+    home = tempfile.mkdtemp(dir=folder)
+    kept, counts = Kept(path, home, "synced"), f"{home}/counts"
+    with kept.started(sync=sync, env={"LD_PRELOAD": loaded, "REFUSE_COUNTS": counts}) as running, running.connect() as stream:
+        replies = service.asked(stream, line('{"cmd":"start"}') * count)
+        running.kill()
+    found = counts_in(counts)
+    if replies.count(b'{"ok":true,') != count:
+        raise Differs(f"{count} starts were answered {replies!r}")
+    return found.get("fdatasync", 0), found.get("fsync", 0)
+
+
+def synced(path, options, folder):
+    loaded, began = library("refuse_calls"), time.monotonic()
+    if not loaded:
+        return "left out: it needs a C compiler"
+    found = {}
+    for sync, least, most in (("always", 20, 22), ("turn", 1, 3), ("never", 0, 0)):
+        (before, folders), (behind, _) = (syncs_of(path, folder, loaded, sync, count) for count in (0, 20))
+        found[sync] = behind - before
+        if not least <= behind - before <= most:
+            raise Differs(f"--sync {sync}: 20 changes that came at once were synced {behind - before} times")
+        if folders != (sync != "never") or before and sync == "never":
+            raise Differs(f"--sync {sync}: a start with a new journal syncs {folders} folders, and {before} times a file")
+    return f"20 changes that came at once: {', '.join(f'{n} syncs with {it}' for it, n in found.items())}; {time.monotonic() - began:.0f} s"
 
 
 def short_journal(path, folder):
@@ -530,7 +559,7 @@ def kept_free(kept, running, holder):
 
 OTHER = "journal: schema"
 """What is said of a journal of another schema or format."""
-PARTS = {"rounds": rounds, "power": power, "torn": torn, "deep": deep, "full": full, "damaged": damaged, "moved": moved, "tools": tools}
+PARTS = {"rounds": rounds, "power": power, "synced": synced, "torn": torn, "deep": deep, "full": full, "damaged": damaged, "moved": moved, "tools": tools}
 
 
 def main(given=None):
