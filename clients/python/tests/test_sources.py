@@ -135,6 +135,13 @@ class Sources(unittest.TestCase):
         self.assertEqual(kit.ran("dump", "--journal", f"{self.folder}/none", self.backup).returncode, 1)
         self.assertEqual(self.read(self.backup), "a backup\n")
 
+    def test_a_journal_with_bytes_behind_zeros(self) -> None:
+        """As a copy of one that was written meanwhile. A start of the service would cut them off."""
+        path = self.journal('{"cmd":"start"}', end="{" + "\0" * 5_000 + '{"cmd":"undo"}\n' + "\0" * 9)
+        ran = kit.ran("dump", "--journal", path, self.backup)
+        lost = "zeros, and 5015 bytes up to the last that is none, which a start of the service would cut off"
+        self.assertEqual((ran.returncode, ran.stderr, self.read(self.backup)), (1, f"weltiyo dump: {path}:3: {lost}\n", "a backup\n"))
+
     def test_another_schema_than_the_journals(self) -> None:
         """However well its lines fit. The file stays, and the status is 2 as for other wrong words."""
         path = self.journal('{"cmd":"start"}')
