@@ -72,7 +72,7 @@ status_line row s j seconds =
 abbrev pub memory_line : List ℕ
 memory_line = codes "{\"error\":\"memory\",\"ok\":false}\n"
 
--- a log's state: whether it lacks room, and of one that tells its bytes, and how many they are, so many
+-- a log's state, where this was appended and the log lacks room or doesn't: where it counts its bytes and tells them, they are as many
 abbrev pub IsStateOf : Option (List ℕ) → Bool → LogState → Type 0
 IsStateOf appended lacks j = (j.is_full ≡ lacks) × IfSome j.bytes (λ count. IfSome appended (λ bytes. count ≡ length bytes))
 
