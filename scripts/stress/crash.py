@@ -22,7 +22,6 @@ sent, or is the undo of a holder that went away; each reply is the reference's; 
 
 --short takes some seconds: fewer rounds, and some of the bytes. Where something differs, the status is 1, and the journal is left below
 out/crash."""
-import contextlib
 import os
 import random
 import shutil
@@ -34,11 +33,11 @@ import sys
 import tempfile
 import time
 
-from journal import end_of
 from stress import parts
 import program
 from stress import service
 from stress.callers import TABLES, Load
+from stress.full_disks import Filling, on_each, takes_looking
 from stress.fuzz import ACCOUNTS
 from stress.journal_walk import NO_ROOM, Differs, FullWalk, Said, fork
 from stress.kept import Kept, forgetting, library, line, looks
@@ -52,10 +51,6 @@ SYNCS = ["turn", "turn", "always", "turn", "never"]
 A_JOURNAL = 10
 """Rounds that a journal goes through."""
 FULL_ROUNDS, SHORT_FULL_ROUNDS = 40, 5
-LOOKING = 2_000
-"""Bytes that the lines for looking need at most."""
-KEPT_ROOM = 65_536
-"""Bytes of room that a service keeps for undoing, in front of which it refuses changes."""
 LOAD, REPLIES = 0.3, 300
 """Seconds of load and replies before a kill, each at most: a round ends at a random one of the first, and of the second."""
 
@@ -218,85 +213,6 @@ def full_at_once(kept, size):
         kept.look(running)
 
 
-class Limit:
-    """In the place of a disk a limit of files' sizes, behind which a write fails as on a full disk."""
-
-    def __init__(self, folder):
-        self.file, self.size = f"{folder}/journal", 0
-
-    def takes(self, more, at_once=False):
-        """It has room for so many bytes more."""
-        self.size = max(self.size, os.path.getsize(self.file)) + more
-
-    def full(self):
-        """It has no byte more than what is there."""
-        self.size = os.path.getsize(self.file)
-
-    def set(self, running):
-        """It is that of a service that runs."""
-        service.limit_files(running.process.pid, self.size)
-
-    def close(self):
-        """Nothing of it is left."""
-
-
-class SmallDisk:
-    """A file system in memory, which root makes. Its space is taken by another file, but for some pages."""
-
-    PAGE = 4096
-
-    def __init__(self, folder):
-        self.folder, self.others, self.size, self.owed = folder, f"{folder}/others", None, 0
-        if subprocess.run(["mount", "-t", "tmpfs", "-o", "size=2m", "tmpfs", folder], stderr=subprocess.DEVNULL).returncode:
-            raise PermissionError("a file system of its own needs root")
-
-    def takes(self, more, at_once=False):
-        """It has room for so many bytes more, once they are a page; or for a page that begins, at once."""
-        self.owed += more + at_once * (self.PAGE - 1)
-        pages, self.owed = divmod(self.owed, self.PAGE)
-        os.truncate(self.others, max(0, os.path.getsize(self.others) - pages * self.PAGE))
-
-    def full(self):
-        """The other file takes what is left."""
-        with contextlib.suppress(OSError), open(self.others, "ab", buffering=0) as file:
-            while file.write(bytes(self.PAGE)):
-                pass
-
-    def set(self, running):
-        """It is that of a service that runs."""
-
-    def close(self):
-        subprocess.run(["umount", self.folder], check=True)
-
-
-class Filling(Load):
-    """Callers of a service whose disk is full most of the time; now and then it has room for some lines."""
-
-    def __init__(self, disk, *how):
-        super().__init__(*how)
-        self.disk, self.next_room = disk, 0
-
-    def step(self):
-        if time.monotonic() > self.next_room:
-            self.next_room = time.monotonic() + self.pick.uniform(0.05, 0.3)
-            self.disk.takes(self.pick.choice([0, 100, 400, 1_500]))
-            self.disk.set(self.running)
-        super().step()
-
-
-def room_of(path):
-    """How many bytes a journal has behind its last newline."""
-    with open(path, "rb") as file:
-        return os.fstat(file.fileno()).st_size - end_of(file.fileno())
-
-
-def takes_looking(disk, journal):
-    """A disk has room so that the tables can be looked at. (Undoing takes of what is kept for it.)"""
-    lacks = LOOKING + KEPT_ROOM - room_of(journal)
-    if lacks > 0:
-        disk.takes(lacks, at_once=True)
-
-
 def comes_and_goes(path, options, home, disk):
     """Rounds on a disk that is full and has room by turns. How many lines were refused, and how many weren't."""
     pick, refused, done = random.Random(f"{options.seed}/full"), 0, 0
@@ -329,23 +245,7 @@ def comes_and_goes(path, options, home, disk):
 
 def on_full_disks(path, options, folder):
     """The same on each kind of disk. What they saw."""
-    seen, refused = [], 0
-    for kind, what in ((Limit, "under a limit"), (SmallDisk, "on a small disk")):
-        home = tempfile.mkdtemp(dir=folder)
-        try:
-            disk = kind(home)
-        except OSError as why:
-            seen.append(f"{what}: left out, {why}")
-            continue
-        try:
-            more, done = comes_and_goes(path, options, home, disk)
-        finally:
-            disk.close()
-        refused += more
-        seen.append(f"{what}: {more} changes refused, {done} lines done")
-    if not refused:
-        raise Differs(f"on disks that are full at times no line was refused: {'; '.join(seen)}")
-    return "; ".join(seen)
+    return on_each(folder, lambda home, disk: comes_and_goes(path, options, home, disk))
 
 
 class Lessening(Load):

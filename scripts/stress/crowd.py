@@ -1,12 +1,14 @@
 """A service with all its places taken by clients that come and go, most of which say nothing or don't read.
 
-    stress crowd [--part comers|deaf|slow|sated|place] [--connections N] [--short] [--seed N] [--program FILE]
+    stress crowd [--part comers|full|deaf|slow|sated|place] [--connections N] [--short] [--seed N] [--program FILE]
 
 Without --part all run, one behind another.
 
     comers   N connections (10,000), 64 at once: half of them silent, a tenth asks pages and never reads, some read slowly, the others ask
              random lines ahead, hold sessions and break off. By the journal that is kept meanwhile each reply must be the reference's, byte for byte
              (`journal_walk.py`), and the server's memory must end where it began
+    full     the same of N connections (1,000) over a journal whose disk is full, has room for a little, and is full again. Nothing but changes is
+             refused, as `journal`; no line that is refused so is kept, and each that is acknowledged is
     deaf     one client asks pages of a megabyte without reading: the median wait of the others is at most 1.5 of what it is without that
              client, and the server's memory rises by no more than the bound of what is unsent, one page, and some
     slow     one client asks ahead over a slow line (root makes it: a network of its own, whose sockets keep little) and reads bit by bit, so
@@ -29,11 +31,13 @@ from concurrent.futures import ProcessPoolExecutor
 from stress import parts
 from stress import service
 from stress.callers import Caller, Deaf, Load, Silent, Slow
+from stress.full_disks import Filling, on_each, takes_looking
 from stress.kept import Kept
-from stress.journal_walk import Differs
+from stress.journal_walk import NO_ROOM, Differs, FullWalk
 from stress.service import MOST, Ended, Service
 
 CONNECTIONS, SHORT_CONNECTIONS = 10_000, 300
+FULL_CONNECTIONS, SHORT_FULL_CONNECTIONS = 1_000, 100
 STILL = 300
 """Seconds in which somebody must be answered."""
 RISE = 16_000
@@ -101,6 +105,51 @@ def comers(path, options, folder):
         f"{count} connections, {MOST} at once ({kinds}), in {came:.0f} s: {kept.answered} replies are the reference's; "
         f"memory {early} kB after the first hundred, {most} kB at most, {last} kB behind them"
     )
+
+
+# A disk that is full at times
+
+
+class FullCrowd(Filling, Crowd):
+    """The same of a service whose journal's disk is full most of the time, and half of whose clients ask many lines."""
+
+    PAUSE = 0.5, 2
+
+    def made(self, stream, said, speech):
+        if self.pick.random() < 0.5:
+            self.kinds["asking"] += 1
+            return Load.made(self, stream, said, speech)
+        return super().made(stream, said, speech)
+
+
+def come_and_go(path, options, home, disk):
+    """A crowd on a disk that is full and has room by turns. How many lines were refused, and how many weren't."""
+    count = options.connections or (SHORT_FULL_CONNECTIONS if options.short else FULL_CONNECTIONS)
+    kept = Kept(path, home, f"{options.seed}/full", walk=FullWalk)
+    with kept.started() as running:
+        running.kill()
+    disk.full()
+    takes_looking(disk, kept.journal)
+    with kept.started(largest_file=disk.size) as running:
+        looked = kept.look(running)
+        with FullCrowd(disk, running, kept.journal, f"{options.seed}/full", kept.next, count) as crowd:
+            crowd.all_come()
+            crowd.drain()
+        kept.next = crowd.next
+        kept.follow([looked, *crowd.all])
+        takes_looking(disk, kept.journal)
+        disk.set(running)
+        kept.follow([kept.look(running)])
+        running.kill()
+    with kept.started() as running:
+        kept.look(running, changes=False)
+    replies = [it for one in crowd.all for it in one.replies]
+    return replies.count(NO_ROOM), len(replies) - replies.count(NO_ROOM)
+
+
+def full(path, options, folder):
+    began = time.monotonic()
+    return f"{on_each(folder, lambda home, disk: come_and_go(path, options, home, disk))}; {time.monotonic() - began:.0f} s"
 
 
 # One that never reads
@@ -305,7 +354,7 @@ def place(path, options, folder):
     return f"{MOST} silent clients are attached, {len(waiting)} wait, and each is served as a place becomes free"
 
 
-PARTS = {"comers": comers, "deaf": deaf, "slow": slow, "sated": sated, "place": place}
+PARTS = {"comers": comers, "full": full, "deaf": deaf, "slow": slow, "sated": sated, "place": place}
 
 
 def main(given=None):

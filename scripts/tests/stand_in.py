@@ -160,6 +160,7 @@ class Client:
     def __init__(self, number, stream):
         self.number, self.stream = number, stream
         self.lines, self.rest, self.held, self.out, self.has_ended, self.is_first = [], b"", b"", b"", False, True
+        self.asked = 0
 
     def take(self, more):
         """Bytes that have come, b"" at the end. Behind a foreign first line no more is heard."""
@@ -177,6 +178,7 @@ class Client:
 
 class Service:
     def __init__(self, options):
+        self.began = time.monotonic()
         schema = mi_client.schema.Schema.read(options.schema) if options.schema else mi_client.schema.Schema.built_in()
         self.reference, self.tables = Reference(schemas_of(schema), schema.first_revision), [it.name for it in schema.tables]
         self.text = mi_client.schema.BUILT_IN
@@ -227,10 +229,11 @@ class Service:
         if asked != b'{"service":"status"}':
             return compact({"error": "form", "ok": False})
         holder = self.reference.holder
-        connections = [{"holds": it.number == holder, "number": it.number, "unsent": len(it.out) + len(it.held)} for it in self.clients.values()]
+        connections = [{"holds": it.number == holder, "lines": it.asked, "number": it.number, "unsent": len(it.out) + len(it.held)} for it in self.clients.values()]
         tables = [{"name": it, "size": json.loads(self.reference.answer(0, json.dumps({"cmd": "size", "table": it}).encode()))["size"]} for it in self.tables]
         depth = json.loads(self.reference.answer(0, b'{"cmd":"revision"}'))["depth"]
-        return compact({"connections": connections, "depth": depth, "holder": holder, "journal": None, "ok": True, "tables": tables, "version": "0.1.0"})
+        return compact({"connections": connections, "depth": depth, "holder": holder, "journal": None, "ok": True, "tables": tables,
+                        "uptime": int(time.monotonic() - self.began), "version": "0.1.0"})
 
     def ask(self, client):
         """Lines of a connection, as long as its replies have room."""
@@ -250,6 +253,7 @@ class Service:
             keep = not own and is_kept(text, reply) and holder in (None, client.number) and not (lacks_room and PLANT == "unkept")
             reply = NO_ROOM if lacks_room and PLANT == "taken" else reply
             client.held += reply
+            client.asked += 1
             if PLANT == "crossed" and self.asked % 97 == 0:
                 for it in self.clients.values():
                     it.held += reply if it is not client else b""

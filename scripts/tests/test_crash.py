@@ -179,7 +179,7 @@ class AgainstAStandIn(unittest.TestCase):
 
     def test_none_is_found(self):
         of_crash = [("rounds", "--rounds", "2"), ("tools",), ("full",)]
-        of_crowd = [("place",), ("comers", "--connections", "70")]
+        of_crowd = [("place",), ("comers", "--connections", "70"), ("full", "--connections", "70")]
         for script, words in [*((crash, it) for it in of_crash), *((crowd, it) for it in of_crowd)]:
             status, said = self.ran(script, "", "--part", *words)
             self.assertEqual(status, 0, said)
@@ -205,6 +205,8 @@ class AgainstAStandIn(unittest.TestCase):
         self.is_found("unkept", crash, "full", "the journal lacks it|fits nowhere|nobody sent|wanted .*, got ")
         self.is_found("stuck", crash, "full", '"error":"journal"')
         self.is_found("bound", crash, "full", "fits nowhere")
+        self.is_found("taken", crowd, "full", 'wanted .*, got .*"journal"|fits nowhere')
+        self.is_found("unkept", crowd, "full", "the journal lacks it|fits nowhere|nobody sent|wanted .*, got ")
         self.is_found("beyond", crowd, "place", "connection 65 is served")
         self.is_found("crossed", crash, "rounds", r"lines and got \d+ replies|wanted .*, got |fits nowhere")
 

@@ -1,8 +1,9 @@
-"""The tools top, metrics and status: what a running server holds and does, from its replies and from the system. The server tells no
-count of lines, so the bytes that it reads and writes stand for them, without those of the tool itself over a connection."""
+"""The tools top, metrics and status: what a running server holds and does, from its replies and from the system. `mi_server`
+tells no count of lines, so the bytes that it reads and writes stand for them, without those of the tool itself over a connection."""
 from __future__ import annotations
 
 import argparse
+import datetime
 import json
 import sys
 import time
@@ -49,6 +50,10 @@ class Sample(NamedTuple):
     """How many bytes a service's journal has, where it keeps one."""
     is_full: Optional[bool] = None
     """Whether that lacks room, so that changes are refused."""
+    lines: Optional[Dict[int, int]] = None
+    """How many lines each of a service's connections has asked, by its number, where it tells."""
+    uptime: Optional[int] = None
+    """Since how many seconds a service is there."""
 
 
 class Watcher:
@@ -79,7 +84,7 @@ class Watcher:
         unsent = sum(it["unsent"] for it in connections)
         journal = told.get("journal") or {}
         return Sample(time.monotonic(), sizes, now.revision, now.depth, holder, self.turns, usage, len(connections), unsent,
-                      journal.get("bytes"), journal.get("full"))
+                      journal.get("bytes"), journal.get("full"), lines_of(told), told.get("uptime"))
 
     def sizes(self) -> List[Tuple[str, int]]:
         names = [it.name for it in self.db.schema.tables] if self.db.schema else ["(first)"]
@@ -118,6 +123,27 @@ def rate(now: Optional[float], before: Optional[float], seconds: float) -> Optio
     return None if now is None or before is None or seconds <= 0 else (now - before) / seconds
 
 
+def lines_of(told: Dict[str, Any]) -> Optional[Dict[int, int]]:
+    """How many lines each connection has asked, by its number. A former service doesn't tell."""
+    found = {it["number"]: it.get("lines") for it in told["connections"]}
+    return None if None in found.values() else found
+
+
+def asking(now: Sample, before: Sample) -> List[str]:
+    """What top shows of the lines that a service's connections ask, without those that were asked by one that has gone."""
+    if now.lines is None or before.lines is None:
+        return []
+    more = {number: count - before.lines.get(number, 0) for number, count in now.lines.items()}
+    most = max(more, key=lambda it: more[it])
+    took = now.when - before.when
+    return [f"lines     {amount(rate(sum(more.values()), 0, took), '')}/s, most by connection {most}: {amount(rate(more[most], 0, took), '')}/s"]
+
+
+def up(seconds: int) -> str:
+    """How long a service is there: 2 days, 3:04:05."""
+    return str(datetime.timedelta(seconds=seconds))
+
+
 def screen(now: Sample, before: Sample) -> str:
     """What top shows."""
     took = now.when - before.when
@@ -135,7 +161,9 @@ def screen(now: Sample, before: Sample) -> str:
         f"turns     {amount(rate(now.turns, before.turns, took), '')}/s",
         f"sessions  {now.depth} open, revision {now.revision}; held by {now.holder}",
         *([] if now.connections is None else [f"clients   {now.connections} connections, {amount(now.unsent)} unsent"]),
+        *asking(now, before),
         *([] if now.journal is None else [f"journal   {amount(now.journal)}{FULL if now.is_full else ''}"]),
+        *([] if now.uptime is None else [f"up        {up(now.uptime)}"]),
         "",
         table(rows, ["table", "rows", "rows/s"]),
     ])
@@ -156,6 +184,7 @@ def prometheus(it: Sample) -> str:
     add("held_by_another", "gauge", "1 where another connection holds sessions.", ("", int(it.holder == "another connection")))
     add("connections", "gauge", "Connections of the service.", ("", it.connections))
     add("unsent_bytes", "gauge", "Bytes of replies that connections haven't taken.", ("", it.unsent))
+    add("uptime_seconds", "gauge", "Seconds since the service's start.", ("", it.uptime))
     add("journal_bytes", "gauge", "Bytes of the service's journal.", ("", it.journal))
     add("journal_full", "gauge", "1 where the journal's disk lacks room, and changes are refused.", ("", None if it.is_full is None else int(it.is_full)))
     add("resident_memory_bytes", "gauge", "Memory of the process.", ("", it.usage.memory))
@@ -247,14 +276,18 @@ def main_metrics(words: Optional[List[str]] = None) -> int:
 
 def shown_status(told: Dict[str, Any]) -> str:
     """A status as people read it."""
-    connections = [{"connection": it["number"], "holds sessions": "yes" if it["holds"] else "", "unsent": it["unsent"]} for it in told["connections"]]
+    connections = [
+        {"connection": it["number"], "holds sessions": "yes" if it["holds"] else "", "lines": it.get("lines", ""), "unsent": it["unsent"]}
+        for it in told["connections"]
+    ]
+    since = f", up {up(told['uptime'])}" if "uptime" in told else ""
     holder = "nobody" if told["holder"] is None else f"connection {told['holder']}"
     journal = told.get("journal")
     return "\n".join([
-        f"mi_service {told['version']}: {told['depth']} sessions open, held by {holder}",
+        f"mi_service {told['version']}{since}: {told['depth']} sessions open, held by {holder}",
         *([f"journal: {amount(journal['bytes'])}{FULL if journal['full'] else ''}"] if journal else []),
         "",
-        table(connections, ["connection", "holds sessions", "unsent"]),
+        table(connections, ["connection", "holds sessions", "lines", "unsent"]),
         "",
         table([{"table": it["name"], "rows": it["size"]} for it in told["tables"]], ["table", "rows"]),
     ])

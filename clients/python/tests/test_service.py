@@ -164,10 +164,20 @@ class Services(unittest.TestCase):
             db.begin()
             shown = kit.ran("status", "--connect", str(server.port))
             self.assertEqual((shown.returncode, shown.stderr), (0, ""))
-            self.assertRegex(shown.stdout, r"^mi_service [0-9.]+: 1 sessions open, held by connection [0-9]+\n")
+            self.assertRegex(shown.stdout, r"^mi_service [0-9.]+, up 0:0[0-9:]+: 1 sessions open, held by connection [0-9]+\n")
             told = json.loads(kit.ran("status", "--json", "--connect", str(server.port)).stdout)
             self.assertEqual((told["depth"], len(told["connections"])), (1, 2))
-            self.assertIn("\nweltiyo_connections 2\n", kit.ran("metrics", "--connect", str(server.port)).stdout)
+            text = kit.ran("metrics", "--connect", str(server.port)).stdout
+            self.assertIn("\nweltiyo_connections 2\n", text)
+            self.assertRegex(text, "\nweltiyo_uptime_seconds [0-9]+\n")
+
+    def test_lines_that_are_counted(self):
+        """Those of the tables, refused or not, and those of the service, each connection's own."""
+        with Server(service=SERVICE) as server, server.connect(10) as db, server.connect(10) as other:
+            before = {it["number"]: it["lines"] for it in service_lines.status(db)["connections"]}
+            list(other.ask_lines(['{"cmd":"size"}', '{"cmd":"fly"}', service_lines.STATUS_LINE]))
+            told = service_lines.status(db)["connections"]
+            self.assertEqual(sorted(it["lines"] - before[it["number"]] for it in told), [1, 3])
         with Server(kit.program(), clients=1) as server:
             refused = kit.ran("status", "--connect", str(server.port))
             self.assertEqual((refused.returncode, refused.stderr), (1, "weltiyo: this server tells no status; mi_service does\n"))

@@ -9,6 +9,8 @@ use Rattle.mi_hub.specs.Ended.{ended, put_front}
 use Rattle.mi_hub.specs.Lines.{marked, without_return, unless_empty, ended_line, last_line, lines_of, rest_of, lines_from, rest_from}
 use Rattle.mi_hub.proofs.LineLemmas.{ended_nil, parts_at, marked-long, from_rests, from_unended, lines_from-nothing, rest_from-nothing, cut_in_two}
 use Rattle.mi_hub.proofs.OneLineLemmas.{whole_line}
+use Rattle.mi_clients.specs.Input.{after_line, count_on}
+use Rattle.mi_hub.specs.OneLine.{IsWholeLine}
 use Rattle.mi_clients.specs.Lines.{SameLines, EndsAsClosed}
 
 -- where no newline stands there is none behind any front either
@@ -218,3 +220,22 @@ same_front (x ∷ t) (y ∷ u) r s p q e =
     let head : x ≡ y = cc in
     let tails : (t ++ 10 ∷ []) ++ r ≡ (u ++ 10 ∷ []) ++ s = cc in
     ap (λ z. z ∷ t) head ∙ ap (λ v. y ∷ v) (same_front t u r s (tail_by x t (nat_eq x 10) refl p) (tail_by y u (nat_eq y 10) refl q) tails)
+
+-- ---- lines that are counted
+
+pub count_join : (n : ℕ) (xs ys : List ℕ) → count_on n (xs ++ ys) ≡ count_on (count_on n xs) ys
+count_join n [] ys = refl
+count_join n (x ∷ xs) ys = count_join (cond (nat_eq x 10) (after_line n) n) xs ys
+
+-- a text has no line, and with its newline one
+count_text : (n : ℕ) (t : List ℕ) → ended t ≡ [] → count_on n t ≡ n
+count_text n [] h = refl
+count_text n (x ∷ t) h = by_test (nat_eq x 10) refl (count_text n t (unended_tail x t h))
+  where
+    by_test : (b : Bool) → nat_eq x 10 ≡ b → count_on n t ≡ n → count_on n (x ∷ t) ≡ n
+    by_test true is later = absurd (first_newline x t is h)
+    by_test false is later = ap (λ b. count_on (cond b (after_line n) n) t) is ∙ later
+
+pub count_line : (n : ℕ) (line : List ℕ) → IsWholeLine line → count_on n line ≡ after_line n
+count_line n line whole =
+    ap (count_on n) whole.1 ∙ count_join n whole.0 (10 ∷ []) ∙ ap (λ m. count_on m (10 ∷ [])) (count_text n whole.0 whole.2)

@@ -8,7 +8,7 @@ use Rattle.std.specs.List.{remove, All, AllZip, Contains}
 use Rattle.std.specs.Io.KnownBytes.{Appends, Consumes, Keeps, IsAtEnd}
 use Rattle.std.proofs.KnownBytes.{Appends-nil, Appends-trans, Consumes-kept, Keeps-refl, Keeps-trans}
 use Rattle.mi_clients.specs.Client.{owed, Owes, IsServed, HasRoom, IsAsked, IsHeard, AsksAll, AsksWithin, Hears, AsksWhatCame, IsAsFar, HasSent, IsSent, IsOver, IsWhole, GoesOn, IsWoken}
-use Rattle.mi_clients.specs.Input.{waiting}
+use Rattle.mi_clients.specs.Input.{waiting, count_on}
 use Rattle.mi_clients.specs.declared.client.TheConstants.{MOST_UNSENT}
 use Rattle.mi_hub.specs.Ended.{ended}
 use Rattle.mi_clients.specs.Lines.{SameLines, Ends}
@@ -391,8 +391,9 @@ module _ {S : Type 0} where
       ⊎ ((b.phase ≡ Ended) × (piece ≡ []) × IsAtEnd (remaining b.stream) × Ends (waiting a.input) (waiting b.input)))
       → (b.phase ≡ Open → a.phase ≡ Open) → c.input.is_first ≡ b.input.is_first
       → waiting b.input ≡ taken ++ waiting c.input → AsksWithin b xs → AreAsks b.conn xs taken given → IsAsFar b c → Owes given b c → Owes [] c d
-      → d.input ≡ c.input → (d ≡ c) ⊎ ((d.phase ≡ Asked) × X) → t ≡ taken → AsksWhatCame remaining t a d
-  came_whole remaining a b c d xs taken given t piece read shut came opens first waits within own far owes more input settled is = (
+      → d.input ≡ c.input → (d ≡ c) ⊎ ((d.phase ≡ Asked) × X) → t ≡ taken → b.input.lines ≡ a.input.lines
+      → c.input.lines ≡ count_on b.input.lines taken → AsksWhatCame remaining t a d
+  came_whole remaining a b c d xs taken given t piece read shut came opens first waits within own far owes more input settled is kept counts = (
     piece,
     subst (λ s. Consumes (remaining a.stream) (remaining s) piece) (sym (more.stream ∙ owes.stream)) read,
     λ no. (shut no, λ is_open. no (opens (open_before b c d far settled is_open))),
@@ -410,6 +411,7 @@ module _ {S : Type 0} where
         subst (Ends (waiting a.input)) waits_all ends.3,
       ))
     ],
+    ap (λ (i : Input). i.lines) input ∙ counts ∙ ap (λ n. count_on n taken) kept ∙ ap (count_on a.input.lines) (sym is),
   )
     where
       waits_all : waiting b.input ≡ t ++ waiting d.input
@@ -657,6 +659,7 @@ module _ {S : Type 0} where
         subst (λ i. Ends (waiting x.input) (taken ++ waiting i)) (sym same) ends.3,
       ))
     ],
+    ap (λ (i : Input). i.lines) same ∙ p.4,
   )
     where
       still_broken : IsAsFar y z → y.phase ≡ Broken → z.phase ≡ Broken
@@ -947,7 +950,7 @@ module _ {S : Type 0} where
   ids_join (x ∷ a) b = ap (λ ks. x.conn ∷ ks) (ids_join a b)
 
   pub new_before : (c : Client S) (a b comers : List (Client S)) → b ≡ a ++ comers → IsNew c b → IsNew c a
-  new_before c a b comers is p = (p.0, p.1, p.2, none_front c.conn (ids a) (ids comers) (subst (IsNoneOf c.conn) (ap ids is ∙ ids_join a comers) p.3), p.4)
+  new_before c a b comers is p = (p.0, p.1, p.2, none_front c.conn (ids a) (ids comers) (subst (IsNoneOf c.conn) (ap ids is ∙ ids_join a comers) p.3), p.4, p.5)
 
   -- those that were there before the others came
   pub only_before : (steps : List Step) (a b : List (Client S)) → Joins a b → AllOnlyAsk steps (ids b) → AllOnlyAsk steps (ids a)

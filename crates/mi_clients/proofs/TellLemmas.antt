@@ -1,6 +1,6 @@
 -- What the service tells, one step behind another, and over a row.
 use Rattle.std.proofs.Common.{◌≡◌, ◌⊎◌, inl, inr, ℕ, ℤ, ◌<◌, List, [], ◌∷◌, ◌++◌, length, codes, nat_eq, cond, Bool, true, false, Option, is_some, Result, Ok, Err, refl, sym, ap, ◌∙◌, subst, append-nil, append_assoc, arith}
-use Rattle.std.specs.Prelude.{IfOk, IfSome}
+use Rattle.std.specs.Prelude.{IfOk, IfSome, OnOk, is_ok}
 use Rattle.std.specs.Result.{result_ok}
 use Rattle.std.specs.List.{All}
 use Rattle.std.specs.Io.KnownBytes.{Consumes, IsAtEnd}
@@ -14,20 +14,20 @@ use Rattle.mi_model.specs.Database.{Database}
 use Rattle.mi_log.specs.declared.log.LogState.{LogState}
 use Rattle.mi_clients.specs.Output.{unsent}
 use Rattle.mi_clients.specs.ServiceLines.{is_service, asks_status, asks_schema, ended_in, done_line, form_line, told_to}
-use Rattle.mi_clients.specs.Status.{listed, connection_text, database_text, status_line, memory_line}
+use Rattle.mi_clients.specs.Status.{listed, connection_text, database_text, status_line, IsStatus}
 use Rattle.mi_clients.specs.Heard.{heard}
-use Rattle.mi_clients.specs.Input.{waiting}
+use Rattle.mi_clients.specs.Input.{waiting, count_on}
 use Rattle.mi_clients.specs.Lines.{SameLines, Ends}
 use Rattle.mi_clients.specs.Client.{owed, Owes, HasRoom, MayTell, IsAsked, IsHeard, AsksWhatCame, IsAsFar, ends_after, Takes, GoesOn, IsWhole, BreaksWith, IsSame, IsRead, IsServed}
 use Rattle.mi_clients.specs.Row.{EachServed, EachAsked, EachTakes, EachSame, EachRead, OpenOnlyAsk, NoneIsWhole, AllBreakWith, TellsWhatIs, Joins}
-use Rattle.mi_clients.specs.Steps.{Step, comes, asks, denies, tells, undoes, goes, given_to, asked_by, told_by, reply_to, GivesOnly, GivesNone, AsksOnly, OnlyAsks}
-use Rattle.mi_clients.specs.Steps.{AreAsks, AreUndos, AreTells, AllTell, TellsNone, TellsSo, DoneBy}
+use Rattle.mi_clients.specs.Steps.{Step, comes, asks, denies, tells, undoes, goes, given_to, asked_by, told_by, reply_to, GivesOnly, GivesNone, AsksOnly, AsksNone, OnlyAsks}
+use Rattle.mi_clients.specs.Steps.{AreAsks, AreUndos, AreTells, AllTell, TellsNone, TellsSo, DoneBy, Makes}
 use Rattle.mi_clients.specs.declared.client.Client.{Client}
 use Rattle.mi_clients.specs.declared.client.Phase.{Phase}
 use Rattle.mi_clients.specs.declared.client.Phase.TheVariants.{Open, Broken}
-use Rattle.mi_clients.proofs.InputLemmas.{unended_back, same_front, first_newline}
+use Rattle.mi_clients.proofs.InputLemmas.{unended_back, same_front, first_newline, count_join}
 use Rattle.mi_clients.proofs.RowLemmas.{same_test, true_false, front_none, back_none, zip_weaker, zip_then, zip_all}
-use Rattle.mi_clients.proofs.StepLemmas.{done_then}
+use Rattle.mi_clients.proofs.StepLemmas.{makes_then}
 use Rattle.mi_clients.proofs.ServedLemmas.{IsIn, in_from, in_to, in_join, zip_both, new_before, asked_join, told_join, only_then, given_behind, served_by}
 use Rattle.mi_clients.proofs.StreamLemmas.{whole_before}
 
@@ -69,17 +69,20 @@ told_some status schema line p q = by_three (asks_status line) (asks_schema line
     by_three false false true = bytes_some _ _
     by_three false false false = bytes_some _ _
 
-pub status_some : {S : Type 0} (row : List (Client S)) (s : HubState) (j : LogState) → ¬ (status_line row s j ≡ [])
-status_some row s j = bytes_some _ _
-
-pub memory_some : ¬ (memory_line ≡ [])
-memory_some = bytes_some _ _
-
 pub schema_some : (bytes : List ℕ) → 0 < length bytes → ¬ (bytes ≡ [])
 schema_some [] some e = absurd (omega arith)
 schema_some (x ∷ xs) some e = bytes_some x xs e
 
 -- texts one behind another
+pub three_joined : (o a b c p q n : List ℕ) → p ≡ o ++ a → q ≡ p ++ b → n ≡ q ++ c → n ≡ o ++ (a ++ (b ++ c))
+three_joined o a b c p q n ep eq en =
+    en ∙ ap (λ x. x ++ c) (eq ∙ ap (λ x. x ++ b) ep ∙ append_assoc o a b) ∙ append_assoc o (a ++ b) c ∙ ap (λ x. o ++ x) (append_assoc a b c)
+
+pub four_joined : (o a b c d p q r n : List ℕ) → p ≡ o ++ a → q ≡ p ++ b → r ≡ q ++ c → n ≡ r ++ d → n ≡ o ++ (a ++ (b ++ (c ++ d)))
+four_joined o a b c d p q r n ep eq er en =
+    en ∙ ap (λ x. x ++ d) (three_joined o a b c p q r ep eq er) ∙ append_assoc o (a ++ (b ++ c)) d
+    ∙ ap (λ x. o ++ x) (append_assoc a (b ++ c) d ∙ ap (λ z. a ++ z) (append_assoc b c d))
+
 pub six_joined : (o a b c d e f p q r s t n : List ℕ) → p ≡ o ++ a → q ≡ p ++ b → r ≡ q ++ c → s ≡ r ++ d → t ≡ s ++ e → n ≡ t ++ f
     → n ≡ o ++ (a ++ (b ++ (c ++ (d ++ (e ++ f)))))
 six_joined o a b c d e f p q r s t n ep eq er es et en =
@@ -95,22 +98,27 @@ six_joined o a b c d e f p q r s t n ep eq er es et en =
     en ∙ ap (λ x. x ++ f) five ∙ append_assoc o (a ++ (b ++ (c ++ (d ++ e)))) f
     ∙ ap (λ x. o ++ x) (right (d ++ e) f ∙ ap (λ z. a ++ (b ++ (c ++ z))) (append_assoc d e f))
 
+-- what holds of one that is Ok, of one of two texts
+pub on_ok_of : {T E : Type 0} (r : Result T E) (n a b : List ℕ) → n ≡ cond (is_ok r) a b → OnOk r (n ≡ a)
+on_ok_of (Ok v) n a b e = e
+on_ok_of (Err x) n a b e = tt
+
 -- what an answer that is Ok is, is some
 pub told_some_of : {X E : Type 0} (P Q : X → Type 0) (r : Result X E) → IfOk r P → ((x : X) → P x → Q x) → IfSome (result_ok r) Q
 told_some_of P Q (Ok x) p f = f x p
 told_some_of P Q (Err e) p f = tt
 
 -- the parts of a status, one behind another
-pub status_joined : {S : Type 0} (row : List (Client S)) (s : HubState) (j : LogState) (h : Option ℕ) (d : Database) (old a b new : List ℕ)
+pub status_joined : {S : Type 0} (row : List (Client S)) (s : HubState) (j : LogState) (up : ℕ) (h : Option ℕ) (d : Database) (old a b new : List ℕ)
     → h ≡ holder_conn s.held.holder → d ≡ s.held.database → a ≡ old ++ codes "{\"connections\":["
-    → b ≡ a ++ listed (connection_text h) 0 row → new ≡ b ++ database_text h j d → new ≡ old ++ status_line row s j
-status_joined row s j h d old a b new eh ed ea eb en =
+    → b ≡ a ++ listed (connection_text h) 0 row → new ≡ b ++ database_text h j up d → new ≡ old ++ status_line row s j up
+status_joined row s j up h d old a b new eh ed ea eb en =
     let k = codes "{\"connections\":[" in
     let cs = listed (connection_text h) 0 row in
-    let db = database_text h j d in
+    let db = database_text h j up d in
     en ∙ ap (λ t. t ++ db) (eb ∙ ap (λ t. t ++ cs) ea) ∙ append_assoc (old ++ k) cs db ∙ append_assoc old k (cs ++ db)
-    ∙ ap (λ x. old ++ (k ++ (listed (connection_text x) 0 row ++ database_text x j d))) eh
-    ∙ ap (λ x. old ++ (k ++ (listed (connection_text (holder_conn s.held.holder)) 0 row ++ database_text (holder_conn s.held.holder) j x))) ed
+    ∙ ap (λ x. old ++ (k ++ (listed (connection_text x) 0 row ++ database_text x j up d))) eh
+    ∙ ap (λ x. old ++ (k ++ (listed (connection_text (holder_conn s.held.holder)) 0 row ++ database_text (holder_conn s.held.holder) j up x))) ed
 
 -- ---- steps in which nothing is told
 
@@ -269,6 +277,7 @@ module _ {S : Type 0} where
     stream = refl;
     waits = refl;
     first = refl;
+    counts = refl;
     far = inr refl;
     lines = refl;
     ends = refl;
@@ -278,13 +287,14 @@ module _ {S : Type 0} where
 
   -- one that is told something to its line
   pub takes_line : (line : List ℕ) (a b : Client S) → MayTell a → ¬ (line ≡ []) → b.conn ≡ a.conn → b.stream ≡ a.stream
-      → waiting a.input ≡ line ++ waiting b.input → b.input.is_first ≡ a.input.is_first → IsAsFar a b → b.has_lines ≡ a.has_lines → b.ends ≡ ended_in line
-      → Takes line a b
-  takes_line line a b may some conn stream waits first far lines ends = record {
+      → waiting a.input ≡ line ++ waiting b.input → b.input.is_first ≡ a.input.is_first → b.input.lines ≡ count_on a.input.lines line → IsAsFar a b
+      → b.has_lines ≡ a.has_lines → b.ends ≡ ended_in line → Takes line a b
+  takes_line line a b may some conn stream waits first counts far lines ends = record {
     conn = conn;
     stream = stream;
     waits = waits;
     first = first;
+    counts = counts;
     far = far;
     lines = lines;
     ends = ends ∙ ended_some a.ends line some;
@@ -365,6 +375,7 @@ module _ {S : Type 0} where
         subst (Ends (waiting x.input)) moved ends.3,
       ))
     ],
+    q.counts ∙ ap (λ n. count_on n more) p.4 ∙ sym (count_join x.input.lines taken more),
   )
     where
       moved : taken ++ waiting y.input ≡ (taken ++ more) ++ waiting z.input
@@ -425,35 +436,37 @@ module _ {S : Type 0} where
 
   -- ---- what is told is so
 
-  module _ (contents : S → Option (List ℕ)) (schema : List ℕ) where
+  module _ (contents : S → Option (List ℕ)) (schema : List ℕ) (seconds : ℕ) where
     -- more is done behind it
-    pub is_told_on : (xs ys : List Step) (start : HubState) (olds : List (Client S)) → TellsWhatIs contents schema xs start olds → TellsNone ys
-        → TellsWhatIs contents schema (xs ++ ys) start olds
-    is_told_on xs ys start olds p quiet = record {
+    pub is_told_on : (xs ys : List Step) (start : HubState) (before : Option (List ℕ)) (lacks after : Bool) (olds : List (Client S))
+        → TellsWhatIs contents schema seconds xs start before lacks olds → TellsNone ys → after ≡ lacks
+        → TellsWhatIs contents schema seconds (xs ++ ys) start before after olds
+    is_told_on xs ys start before lacks after olds p quiet same = record {
       first = p.first;
       later = p.later ++ ys;
       parts = ap (λ zs. zs ++ ys) p.parts ∙ append_assoc p.first p.later ys;
-      acts = p.acts;
       hub = p.hub;
-      done = p.done;
+      appended = p.appended;
+      makes = p.makes;
       row = p.row;
       attends = p.attends;
       from = p.from;
       status = p.status;
-      «is» = p.«is»;
+      «is» = subst (λ b. IsStatus p.appended b seconds p.row p.hub p.status) (sym same) p.«is»;
       told = so_join p.status schema xs ys p.told (quiet_so p.status schema ys quiet);
     }
 
     -- some come before it
-    pub is_told_joined : (xs ys : List Step) (acts : List Act) (start mid : HubState) (olds joined : List (Client S)) → DoneBy start xs acts mid
-        → GivesNone xs → Joins olds joined → TellsWhatIs contents schema ys mid joined → TellsWhatIs contents schema (xs ++ ys) start olds
-    is_told_joined xs ys acts start mid olds joined done none joins p = record {
+    pub is_told_joined : (xs ys : List Step) (start mid : HubState) (before between : Option (List ℕ)) (lacks : Bool) (olds joined : List (Client S))
+        → Makes xs start mid before between → GivesNone xs → Joins olds joined → TellsWhatIs contents schema seconds ys mid between lacks joined
+        → AsksNone xs → TellsWhatIs contents schema seconds (xs ++ ys) start before lacks olds
+    is_told_joined xs ys start mid before between lacks olds joined makes none joins p quiet = record {
       first = xs ++ p.first;
       later = p.later;
       parts = ap (λ zs. xs ++ zs) p.parts ∙ sym (append_assoc xs p.first p.later);
-      acts = acts ++ p.acts;
       hub = p.hub;
-      done = done_then xs p.first acts p.acts start mid p.hub done p.done;
+      appended = p.appended;
+      makes = makes_then xs p.first start mid p.hub before between p.appended makes p.makes;
       row = p.row;
       attends = p.attends;
       from = λ c h. let r = p.from c h in (
@@ -466,8 +479,10 @@ module _ {S : Type 0} where
           | inr came ↦ inr (new_before r.0 olds joined joins.0 joins.1 came)
         ],
         served_by contents (given_to r.0.conn p.first) (given_to r.0.conn (xs ++ p.first)) r.0 c (sym (given_behind r.0.conn xs p.first none)) r.2,
+        r.3 ∙ ap (count_on r.0.input.lines)
+            (sym (asked_join r.0.conn xs p.first ∙ ap (λ t. t ++ asked_by r.0.conn p.first) (quiet r.0.conn))),
       );
       status = p.status;
       «is» = p.«is»;
-      told = so_join p.status schema xs ys (quiet_so p.status schema xs (none_quiet xs acts start mid done none)) p.told;
+      told = so_join p.status schema xs ys (quiet_so p.status schema xs (none_quiet xs makes.acts start mid makes.done none)) p.told;
     }

@@ -3,7 +3,7 @@ use Rattle.std.specs.Prelude.{◌≡◌, ◌⊎◌, ◌≤◌, ◌<◌, ◌==◌
 use Rattle.std.specs.Io.KnownBytes.{Appends, Consumes, IsAtEnd}
 use Rattle.mi_ledger.specs.HeldReplies.{bytes_of}
 use Rattle.mi_clients.specs.Output.{unsent, HoldsNothing}
-use Rattle.mi_clients.specs.Input.{waiting}
+use Rattle.mi_clients.specs.Input.{waiting, count_on}
 use Rattle.mi_clients.specs.Lines.{SameLines, Ends}
 use Rattle.mi_clients.specs.Heard.{heard, still_first, is_last}
 use Rattle.mi_clients.specs.Stream.{one_more}
@@ -113,7 +113,7 @@ Hears bytes taken old new =
 
 -- Between old and new a piece came of a connection, and it has asked these lines: what is heard of what waited and the piece is asked, or waits.
 -- Or its bytes have ended, and what no newline ended is the last line. Of one whose stream fails nothing is asked. Of one of which no more
--- comes nothing is read, now or later.
+-- comes nothing is read, now or later. The lines that it has asked are counted.
 abbrev pub AsksWhatCame : {S : Type 0} → (S → Option (List ℕ)) → List ℕ → Client S → Client S → Type 0
 AsksWhatCame remaining taken old new =
     (piece : List ℕ) × Consumes (remaining old.stream) (remaining new.stream) piece
@@ -121,6 +121,7 @@ AsksWhatCame remaining taken old new =
     × (((new.phase ≡ Broken) × (taken ≡ [])) ⊎ (Hears (waiting old.input ++ piece) taken old new
     ⊎ (¬ (new.phase ≡ Open) × (piece ≡ []) × IfSome (remaining old.stream) (λ _. IsAtEnd (remaining new.stream))
     × Ends (waiting old.input) (taken ++ waiting new.input))))
+    × (new.input.lines ≡ count_on old.input.lines taken)
 
 -- it is as far as it was, or it is broken
 abbrev pub IsAsFar : {S : Type 0} → Client S → Client S → Type 0
@@ -138,6 +139,7 @@ pub record Takes {S : Type 0} (taken : List ℕ) (old new : Client S) : Type 0 w
   pub stream : new.stream ≡ old.stream
   pub waits : waiting old.input ≡ taken ++ waiting new.input
   pub first : new.input.is_first ≡ old.input.is_first
+  pub counts : new.input.lines ≡ count_on old.input.lines taken
   pub far : IsAsFar old new
   pub lines : new.has_lines ≡ old.has_lines
   pub ends : new.ends ≡ ends_after old.ends taken

@@ -5,10 +5,9 @@ use Rattle.std.specs.Io.KnownBytes.{Keeps}
 use Rattle.mi_hub.specs.declared.connection.Connection.{Connection}
 use Rattle.mi_hub.specs.Run.{HubState, attach, Refused as HubRefuses}
 use Rattle.mi_clients.specs.Client.{owed, IsServed, IsOver, IsAsFar, Takes, AsksAll, AsksWhatCame, GoesOn, IsWoken, IsWhole, BreaksWith, IsSame, IsRead}
-use Rattle.mi_clients.specs.Input.{waiting}
+use Rattle.mi_clients.specs.Input.{waiting, count_on}
 use Rattle.mi_clients.specs.Status.{IsStatus}
-use Rattle.mi_clients.specs.Steps.{Step, given_to, asked_by, OnlyAsks, DoneBy, TellsSo}
-use Rattle.mi_replay.specs.Acts.{Act}
+use Rattle.mi_clients.specs.Steps.{Step, given_to, asked_by, OnlyAsks, Makes, TellsSo}
 use Rattle.mi_clients.specs.declared.client.Client.{Client}
 use Rattle.mi_clients.specs.declared.client.Phase.TheVariants.{Open}
 use Rattle.mi_clients.specs.declared.input.Input.{Input}
@@ -54,9 +53,10 @@ EachAsked remaining steps olds news = AllZip (λ old new. AsksWhatCame remaining
 abbrev pub EachUnread : {S : Type 0} → (S → Option (List ℕ)) → List (Client S) → List (Client S) → Type 0
 EachUnread remaining olds news = AllZip (λ old new. Keeps (remaining old.stream) (remaining new.stream)) olds news
 
--- it has just come: more may come of it, its first line too, nothing of it waits, it is owed nothing, and its number is none of the row's
+-- it has just come: more may come of it, its first line too, nothing of it waits or was asked, it is owed nothing, and its number is none of
+-- the row's
 abbrev pub IsNew : {S : Type 0} → Client S → List (Client S) → Type 0
-IsNew c row = (c.phase ≡ Open) × (waiting c.input ≡ []) × (owed c ≡ []) × IsNoneOf c.conn (ids row) × IsTrue c.input.is_first
+IsNew c row = (c.phase ≡ Open) × (waiting c.input ≡ []) × (owed c ≡ []) × IsNoneOf c.conn (ids row) × IsTrue c.input.is_first × (c.input.lines ≡ 0)
 
 -- some connections have come, and stand behind the others, which are as they were
 abbrev pub Joins : {S : Type 0} → List (Client S) → List (Client S) → Type 0
@@ -76,23 +76,25 @@ StayersAsked {S} remaining steps olds news = (new : Client S) → Contains news 
 abbrev pub EachTakes : {S : Type 0} → List Step → List (Client S) → List (Client S) → Type 0
 EachTakes steps olds news = AllZip (λ old new. Takes (asked_by old.conn steps) old new) olds news
 
--- What the service tells in these steps is so: the status is that of these connections and this hub, as the first of the steps have left
--- them, and the schema is told by this line. The connections are those that the hub has attached then: they were in the row before, or have
--- come, and each was served meanwhile.
-pub record TellsWhatIs {S : Type 0} (contents : S → Option (List ℕ)) (schema : List ℕ) (steps : List Step) (start : HubState)
-    (olds : List (Client S)) : Type 0 where
+-- What the service tells in these steps is so: the status is that of these connections, this hub and this journal, as the first of the
+-- steps have left them, and the schema is told by this line. The connections are those that the hub has attached then: they were in the row
+-- before, or have come, and each was served meanwhile, and its lines were counted. Whether the journal lacks room is as it is at the end, since
+-- no later step asks for any.
+pub record TellsWhatIs {S : Type 0} (contents : S → Option (List ℕ)) (schema : List ℕ) (seconds : ℕ) (steps : List Step) (start : HubState)
+    (before : Option (List ℕ)) (lacks : Bool) (olds : List (Client S)) : Type 0 where
   pub first : List Step
   pub later : List Step
   pub parts : steps ≡ first ++ later
-  pub acts : List Act
   pub hub : HubState
-  pub done : DoneBy start first acts hub
+  pub appended : Option (List ℕ)
+  pub makes : Makes first start hub before appended
   pub row : List (Client S)
   pub attends : Attends (ids row) hub.attached
   pub from : (c : Client S) → Contains row c
       → (old : Client S) × (Contains olds old ⊎ IsNew old olds) × IsServed contents (given_to old.conn first) old c
+      × (c.input.lines ≡ count_on old.input.lines (asked_by old.conn first))
   pub status : List ℕ
-  pub «is» : IsStatus row hub status
+  pub «is» : IsStatus appended lacks seconds row hub status
   pub told : TellsSo status schema steps
 
 -- none of a row is over

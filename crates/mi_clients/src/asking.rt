@@ -6,7 +6,7 @@ ghost use Rattle.mi_hub.specs.Connections.{rest_at, others};
 ghost use Rattle.mi_ledger.specs.Ledger.{holder_conn};
 ghost use Rattle.mi_ledger.specs.Ledger.{hub_of, log_of, IsSettled};
 ghost use Rattle.mi_clients.specs.Steps.{Step, Makes, IsAskOf, is_denial, GivesNone, AsksNone, AreAsks, AreUndos, LeavesOthers, HoldsSome};
-ghost use Rattle.mi_clients.specs.Input.{waiting};
+ghost use Rattle.mi_clients.specs.Input.{waiting, count_on};
 ghost use Rattle.mi_ledger.specs.HeldReplies.{bytes_of};
 ghost use Rattle.mi_clients.specs.Output.{unsent};
 ghost use Rattle.mi_clients.specs.Client.{owed, Owes, IsWhole, IsAsked, IsAtService, IsAsFar, AsksWithin, MayAsk};
@@ -63,6 +63,7 @@ pub fn release<D: Sessions + Drop, L: Log + Drop, S>(
     ensures unsent { OnErr result (client.new.output ≡ client.old.output) }
     ensures hub { hub_of ledger.new ≡ hub_of ledger.old }
     ensures appended { Keeps (L.appended (log_of ledger.old)) (L.appended (log_of ledger.new)) }
+    ensures room { OnOk result (L.lacks_room (log_of ledger.new) ≡ L.lacks_room (log_of ledger.old)) }
     ensures failed { OnErr result ((result ≡ Err LedgerFault.Journal) × (L.has_failed (log_of ledger.new) ≡ true)) }
     ensures settled { IsSettled L.appended L.synced ledger.new }
 {
@@ -88,6 +89,7 @@ fn release_each<D: Sessions + Drop, L: Log + Drop, S>(
     ensures input { OnOk result (client.new.input ≡ client.old.input) }
     ensures hub { hub_of ledger.new ≡ hub_of ledger.old }
     ensures appended { Keeps (L.appended (log_of ledger.old)) (L.appended (log_of ledger.new)) }
+    ensures room { OnOk result (L.lacks_room (log_of ledger.new) ≡ L.lacks_room (log_of ledger.old)) }
     ensures failed { OnErr result ((result ≡ Err LedgerFault.Journal) × (L.has_failed (log_of ledger.new) ≡ true)) }
     ensures settled { IsSettled L.appended L.synced ledger.new }
 {
@@ -121,7 +123,8 @@ fn ask_line<D: Sessions + Drop, L: Log + Drop, S>(
         × IsAskOf client.old.conn line out step × (0 < length line)
         × (waiting client.old.input ≡ line ++ waiting client.new.input) × (owed client.new ≡ owed client.old ++ out)
         × Makes (step ∷ []) (hub_of ledger.old) (hub_of ledger.new) (L.appended (log_of ledger.old)) (L.appended (log_of ledger.new))
-        × (is_denial step ≡ true → L.lacks_room (log_of ledger.new) ≡ true)) }
+        × (is_denial step ≡ true → L.lacks_room (log_of ledger.new) ≡ true)
+        × (client.new.input.lines ≡ count_on client.old.input.lines line)) }
     ensures none { IfOk result (λ found. found ≡ Found.Nothing → (client.new ≡ client.old) × (ledger.new ≡ ledger.old) × (ended (waiting client.old.input) ≡ [])) }
     ensures service { IfOk result (λ found. found ≡ Found.Service → (client.new ≡ client.old) × (ledger.new ≡ ledger.old) × IsAtService client.old) }
     ensures same { OnOk result ((client.new.conn ≡ client.old.conn) × (client.new.phase ≡ client.old.phase) × (client.new.stream ≡ client.old.stream)) }
@@ -155,7 +158,8 @@ pub fn ask_lines<D: Sessions + Drop, L: Log + Drop, S>(
         × (waiting client.old.input ≡ taken ++ waiting client.new.input)
         × Owes given client.old client.new
         × Makes steps (hub_of ledger.old) (hub_of ledger.new) (L.appended (log_of ledger.old)) (L.appended (log_of ledger.new))
-        × AsksWithin client.old steps) }
+        × AsksWithin client.old steps
+        × (client.new.input.lines ≡ count_on client.old.input.lines taken)) }
     ensures all { OnOk result (IsAsked client.new) }
     ensures phase { OnOk result (IsAsFar client.old client.new) }
     ensures first { OnOk result (client.new.input.is_first ≡ client.old.input.is_first) }
@@ -190,6 +194,7 @@ pub fn undo_all<D: Sessions + Drop, L: Log + Drop>(
     ensures none { OnOk result (held_by conn (hub_of ledger.new).held.holder ≡ 0) }
     ensures left { OnOk result (HoldsSome (hub_of ledger.old).held.holder → (hub_of ledger.new).held ≡ released conn (hub_of ledger.old).held) }
     ensures still { ¬ (holder_conn (hub_of ledger.old).held.holder ≡ Some conn) → ledger.new ≡ ledger.old }
+    ensures room { OnOk result (L.lacks_room (log_of ledger.new) ≡ L.lacks_room (log_of ledger.old)) }
     ensures makes_stay { L.makes_stay (log_of ledger.new) ≡ L.makes_stay (log_of ledger.old) }
     ensures attached { OnOk result ((hub_of ledger.new).attached ≡ (hub_of ledger.old).attached) }
     ensures failed { result ≡ Err LedgerFault.Journal → L.has_failed (log_of ledger.new) ≡ true }
@@ -246,6 +251,7 @@ pub fn part<D: Sessions + Drop, L: Log + Drop>(
     ensures left { OnOk result (HoldsSome (hub_of ledger.old).held.holder → (hub_of ledger.new).held ≡ released conn (hub_of ledger.old).held) }
     ensures still { OnOk result (¬ (holder_conn (hub_of ledger.old).held.holder ≡ Some conn) → (hub_of ledger.new).held ≡ (hub_of ledger.old).held) }
     ensures attached { OnOk result ((hub_of ledger.new).attached ≡ others conn (hub_of ledger.old).attached) }
+    ensures room { OnOk result (L.lacks_room (log_of ledger.new) ≡ L.lacks_room (log_of ledger.old)) }
     ensures makes_stay { L.makes_stay (log_of ledger.new) ≡ L.makes_stay (log_of ledger.old) }
     ensures failed { result ≡ Err LedgerFault.Journal → L.has_failed (log_of ledger.new) ≡ true }
     ensures settled { IsSettled L.appended L.synced ledger.old → IsSettled L.appended L.synced ledger.new }

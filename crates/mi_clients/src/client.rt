@@ -84,6 +84,7 @@ impl<S> Client<S> {
         ensures open { result.phase ≡ phases.Open }
         ensures none { (waiting result.input ≡ []) × (owed result ≡ []) }
         ensures first { IsTrue result.input.is_first }
+        ensures lines { result.input.lines ≡ 0 }
         ensures comes { IsTrue result.has_come }
     {
         Client {
@@ -109,6 +110,13 @@ impl<S> Client<S> {
         ensures { result ≡ self.now.conn }
     {
         self.conn
+    }
+
+    /// How many lines of it were asked, of the tables or of the service.
+    pub(crate) fn lines(&self) -> u64
+        ensures { result ≡ self.now.input.lines }
+    {
+        self.input.lines()
     }
 
     /// How many bytes of its replies are unsent.
@@ -250,6 +258,7 @@ impl<S: Duplex> Client<S> {
             × StopsReading S.is_dry piece (length buffer.old) self.old self.new }
         ensures contents { Keeps (S.contents self.old.stream) (S.contents self.new.stream) }
         ensures owed { owed self.new ≡ owed self.old }
+        ensures lines { self.new.input.lines ≡ self.old.input.lines }
         ensures broken { self.old.phase ≡ phases.Broken → self.new.phase ≡ phases.Broken }
         ensures goes_on { GoesOn self.new → GoesOn self.old }
         ensures opens { self.new.phase ≡ phases.Open → self.old.phase ≡ phases.Open }
@@ -302,6 +311,7 @@ impl<S: Duplex> Client<S> {
         requires lines { ended (waiting self.old.input) ≡ [] }
         ensures waits { (self.new.phase ≡ phases.Broken) ⊎ Hears (waiting self.old.input ++ piece.now) [] self.old self.new }
         ensures comes { IsTrue self.new.has_come }
+        ensures lines { self.new.input.lines ≡ self.old.input.lines }
         ensures same { self.new ≡ record self.old { input = self.new.input; phase = self.new.phase; has_lines = self.new.has_lines; has_come = self.new.has_come; lines = self.new.lines; all_asked = self.new.all_asked } }
     {
         self.has_come = true;
@@ -317,6 +327,7 @@ impl<S: Duplex> Client<S> {
     fn finish(&mut self)
         requires { ended (waiting self.old.input) ≡ [] }
         ensures ends { (self.new.phase ≡ phases.Broken) ⊎ ((self.new.phase ≡ phases.Ended) × Ends (waiting self.old.input) (waiting self.new.input)) }
+        ensures lines { self.new.input.lines ≡ self.old.input.lines }
         ensures same { self.new ≡ record self.old { input = self.new.input; phase = self.new.phase; has_lines = self.new.has_lines; lines = self.new.lines; all_asked = self.new.all_asked } }
     {
         self.has_lines = true;

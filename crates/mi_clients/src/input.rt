@@ -17,6 +17,8 @@ use std::alloc::{AllocError, Global};
 pub struct Input {
     bytes: Vec<u8>,
     asked: usize,
+    /// How many lines of it were asked, as far as 64 bits count.
+    lines: u64,
     /// Whether its first line is still to come.
     is_first: bool,
     ghost within: { asked ≤ length bytes.items },
@@ -25,16 +27,18 @@ pub struct Input {
 }
 
 impl Input {
-    ghost use Rattle.mi_clients.specs.Input.{waiting, kept};
+    ghost use Rattle.mi_clients.specs.Input.{waiting, kept, after_line};
 
     /// Nothing was sent yet.
     pub fn new(alloc: Global) -> Input
         ensures none { waiting result ≡ [] }
         ensures first { IsTrue result.is_first }
+        ensures lines { result.lines ≡ 0 }
     {
         Input {
             bytes: Vec::new(alloc),
             asked: 0,
+            lines: 0,
             is_first: true,
         }
     }
@@ -58,13 +62,22 @@ impl Input {
         Some(line)
     }
 
-    /// The first bytes have been asked.
+    /// How many lines of it were asked.
+    pub fn lines(&self) -> u64
+        ensures { result ≡ self.now.lines }
+    {
+        self.lines
+    }
+
+    /// The first line, of so many bytes, has been asked.
     pub fn pass(&mut self, count: usize)
         requires { count ≤ length (waiting self.old) }
         ensures waiting { waiting self.new ≡ drop count (waiting self.old) }
         ensures first { self.new.is_first ≡ self.old.is_first }
+        ensures lines { self.new.lines ≡ after_line self.old.lines }
     {
         self.asked += count;
+        self.lines = self.lines.saturating_add(1);
     }
 
     /// What was asked is let go.
@@ -73,6 +86,7 @@ impl Input {
         ensures let_go { kept self.new ≡ waiting self.new }
         ensures none { self.new.asked ≡ 0 }
         ensures first { self.new.is_first ≡ self.old.is_first }
+        ensures lines { self.new.lines ≡ self.old.lines }
     {
         let left = self.bytes.len() - self.asked;
         self.bytes.rotate_left(self.asked);
@@ -91,6 +105,7 @@ impl Input {
             × IsFilled (waiting self.old) part (waiting self.new)) }
         ensures err { OnErr result (waiting self.new ≡ waiting self.old) }
         ensures let_go { kept self.new ≡ waiting self.new }
+        ensures lines { self.new.lines ≡ self.old.lines }
     {
         self.settle();
         let is_last = is_last(self.is_first, self.waiting(), piece);
@@ -106,7 +121,8 @@ impl Input {
     /// One case is left: where it is as long as a line may be and ends in a carriage return, it isn't asked.
     pub fn end(&mut self) -> Result<(), AllocError>
         requires { ended (waiting self.old) ≡ [] }
-        ensures { OnOk result (Ends (waiting self.old) (waiting self.new)) }
+        ensures ends { OnOk result (Ends (waiting self.old) (waiting self.new)) }
+        ensures lines { self.new.lines ≡ self.old.lines }
     {
         self.is_first = false;
         match closing(self.waiting()) {

@@ -99,6 +99,7 @@ pub fn hear_all<D: Sessions + Drop, L: Log + Drop, S: Duplex>(
     buffer: &mut [u8],
     each: bool,
     schema: &SchemaLine,
+    seconds: u64,
 ) -> Result<(), LedgerFault>
     requires attends { Attends (ids row.old.items) (hub_of ledger.old).attached }
     requires settled { IsSettled L.appended L.synced ledger.old }
@@ -106,7 +107,8 @@ pub fn hear_all<D: Sessions + Drop, L: Log + Drop, S: Duplex>(
     ensures serves { OnOk result ((steps : List Step) × EachServed S.contents steps row.old.items row.new.items
         × Makes steps (hub_of ledger.old) (hub_of ledger.new) (L.appended (log_of ledger.old)) (L.appended (log_of ledger.new))
         × OpenOnlyAsk steps row.new.items × EachAsked S.remaining steps row.old.items row.new.items
-        × All (IsHeard steps) row.new.items × TellsWhatIs S.contents (line_of schema.now) steps (hub_of ledger.old) row.old.items) }
+        × All (IsHeard steps) row.new.items × TellsWhatIs S.contents (line_of schema.now) seconds steps (hub_of ledger.old)
+        (L.appended (log_of ledger.old)) (L.lacks_room (log_of ledger.new)) row.old.items) }
     ensures whole { OnOk result (NoneIsWhole row.new.items) }
     ensures same { OnOk result (EachSame S.handle row.old.items row.new.items) }
     ensures read { OnOk result (EachRead S.reads row.old.items row.new.items) }
@@ -116,7 +118,7 @@ pub fn hear_all<D: Sessions + Drop, L: Log + Drop, S: Duplex>(
     ensures settled { OnOk result (IsSettled L.appended L.synced ledger.new) }
 {
     ask_all(ledger, row, buffer, each)?;
-    tell_all(alloc, ledger, row, schema)
+    tell_all(alloc, ledger, row, schema, seconds)
 }
 
 /// The replies of all connections are handed out, and each is sent what its stream takes.
@@ -137,6 +139,7 @@ pub fn send_all<D: Sessions + Drop, L: Log + Drop, S: Duplex>(
     ensures broken { OnOk result (AllBreakWith S.has_failed row.old.items → AllBreakWith S.has_failed row.new.items) }
     ensures hub { OnOk result (hub_of ledger.new ≡ hub_of ledger.old) }
     ensures appended { OnOk result (Keeps (L.appended (log_of ledger.old)) (L.appended (log_of ledger.new))) }
+    ensures room { OnOk result (L.lacks_room (log_of ledger.new) ≡ L.lacks_room (log_of ledger.old)) }
     ensures attends { OnOk result (Attends (ids row.new.items) (hub_of ledger.new).attached) }
     ensures failed { OnErr result ((result ≡ Err LedgerFault.Journal) × (L.has_failed (log_of ledger.new) ≡ true)) }
     ensures settled { OnOk result (IsSettled L.appended L.synced ledger.new) }
@@ -160,6 +163,7 @@ pub fn let_go<D: Sessions + Drop, L: Log + Drop, S: Drop>(
         × Makes steps (hub_of ledger.old) (hub_of ledger.new) (L.appended (log_of ledger.old)) (L.appended (log_of ledger.new))
         × OpenOnlyAsk steps row.new.items × AsksNone steps) }
     ensures stay { OnOk result (NoneIsOver row.new.items) }
+    ensures room { OnOk result (L.lacks_room (log_of ledger.new) ≡ L.lacks_room (log_of ledger.old)) }
     ensures attends { OnOk result (Attends (ids row.new.items) (hub_of ledger.new).attached) }
     ensures failed { result ≡ Err LedgerFault.Journal → L.has_failed (log_of ledger.new) ≡ true }
     ensures settled { OnOk result (IsSettled L.appended L.synced ledger.new) }
@@ -192,7 +196,7 @@ fn seat<S: Drop>(row: &mut Vec<Client<S>>, client: Client<S>) -> Result<Admissio
 /// are sent once all that was appended stays, and those that are over are let go.
 ///
 /// What one is sent or owed are the replies to its own lines, whole and in their order. The service tells something to one line of a
-/// connection at most, and what follows that line waits for the next call.
+/// connection at most, and what follows that line waits for the next call. A status says that so many seconds have passed since the start.
 pub fn serve_all<D: Sessions + Drop, L: Log + Drop, S: Duplex + Drop>(
     alloc: Global,
     ledger: &mut Ledger<D, L>,
@@ -200,6 +204,7 @@ pub fn serve_all<D: Sessions + Drop, L: Log + Drop, S: Duplex + Drop>(
     buffer: &mut [u8],
     each: bool,
     schema: &SchemaLine,
+    seconds: u64,
 ) -> Result<(), LedgerFault>
     requires attends { Attends (ids row.old.items) (hub_of ledger.old).attached }
     requires settled { IsSettled L.appended L.synced ledger.old }
@@ -207,7 +212,8 @@ pub fn serve_all<D: Sessions + Drop, L: Log + Drop, S: Duplex + Drop>(
     ensures serves { OnOk result ((steps : List Step) × Serves S.contents steps row.old.items row.new.items
         × Makes steps (hub_of ledger.old) (hub_of ledger.new) (L.appended (log_of ledger.old)) (L.appended (log_of ledger.new))
         × OpenOnlyAsk steps row.new.items × StayersAsked S.remaining steps row.old.items row.new.items
-        × TellsWhatIs S.contents (line_of schema.now) steps (hub_of ledger.old) row.old.items) }
+        × TellsWhatIs S.contents (line_of schema.now) seconds steps (hub_of ledger.old)
+        (L.appended (log_of ledger.old)) (L.lacks_room (log_of ledger.new)) row.old.items) }
     ensures sent { OnOk result (All IsSent row.new.items) }
     ensures stay { OnOk result (NoneIsOver row.new.items) }
     ensures whole { OnOk result (NoneIsWhole row.new.items) }
@@ -218,7 +224,7 @@ pub fn serve_all<D: Sessions + Drop, L: Log + Drop, S: Duplex + Drop>(
     ensures failed { result ≡ Err LedgerFault.Journal → L.has_failed (log_of ledger.new) ≡ true }
     ensures settled { OnOk result (IsSettled L.appended L.synced ledger.new) }
 {
-    hear_all(alloc, ledger, row, buffer, each, schema)?;
+    hear_all(alloc, ledger, row, buffer, each, schema, seconds)?;
     send_all(ledger, row)?;
     let_go(alloc, ledger, row)
 }
@@ -238,7 +244,7 @@ pub fn admit<D: Sessions + Drop, L: Log + Drop, S: Drop>(
     requires settled { IsSettled L.appended L.synced ledger.old }
     ensures comes { OnOk result ((steps : List Step) × GivesNone steps × Joins row.old.items row.new.items
         × Makes steps (hub_of ledger.old) (hub_of ledger.new) (L.appended (log_of ledger.old)) (L.appended (log_of ledger.new))
-        × AllOnlyAsk steps (ids row.old.items)) }
+        × AllOnlyAsk steps (ids row.old.items) × AsksNone steps) }
     ensures admits { IfOk result (λ admission. Admits conn stream (hub_of ledger.old) (hub_of ledger.new) row.old.items row.new.items admission) }
     ensures attends { OnOk result (Attends (ids row.new.items) (hub_of ledger.new).attached) }
     ensures memory { OnErr result (result ≡ Err LedgerFault.Memory) }

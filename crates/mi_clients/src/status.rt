@@ -37,7 +37,17 @@ fn flag_word(flag: bool) -> &'static str
     if flag { "true" } else { "false" }
 }
 
-/// Adds a connection: whether it holds sessions, its number, and how many bytes of its replies are unsent.
+/// Adds a connection's number, and how many bytes of its replies are unsent.
+fn add_unsent<S>(alloc: Global, text: &mut String, client: &Client<S>) -> Result<(), AllocError>
+    ensures { OnOk result (string_bytes text.new ≡ string_bytes text.old ++ spec.unsent_text client.now) }
+{
+    add_number(alloc, text, client.conn())?;
+    text.push_str(",\"unsent\":")?;
+    add_number(alloc, text, client.owed_bytes() as u64)?;
+    text.push_str("}")
+}
+
+/// Adds a connection: whether it holds sessions, how many lines it has asked, its number, and how many bytes of its replies are unsent.
 fn add_connection<S>(
     alloc: Global,
     text: &mut String,
@@ -48,11 +58,10 @@ fn add_connection<S>(
 {
     text.push_str("{\"holds\":")?;
     text.push_str(flag_word(is_holder(holder, client.conn())))?;
+    text.push_str(",\"lines\":")?;
+    add_number(alloc, text, client.lines())?;
     text.push_str(",\"number\":")?;
-    add_number(alloc, text, client.conn())?;
-    text.push_str(",\"unsent\":")?;
-    add_number(alloc, text, client.owed_bytes() as u64)?;
-    text.push_str("}")
+    add_unsent(alloc, text, client)
 }
 
 /// Adds the connections of a row.
@@ -143,20 +152,30 @@ fn add_sessions<D: Sessions>(
     add_journal(alloc, text, journal)
 }
 
-/// Adds what a database, its sessions and its journal are.
+/// Adds since how many seconds a service is there, and which one it is.
+fn add_end(alloc: Global, text: &mut String, seconds: u64) -> Result<(), AllocError>
+    ensures { OnOk result (string_bytes text.new ≡ string_bytes text.old ++ spec.end_text seconds) }
+{
+    text.push_str("],\"uptime\":")?;
+    add_number(alloc, text, seconds)?;
+    text.push_str(",\"version\":\"0.1.0\"}\n")
+}
+
+/// Adds what a database, its sessions and its journal are, so many seconds after a start.
 fn add_database<D: Sessions>(
     alloc: Global,
     text: &mut String,
     database: &D,
     journal: LogState,
+    seconds: u64,
     holder: Option<u64>,
 ) -> Result<(), AllocError>
-    ensures { OnOk result (string_bytes text.new ≡ string_bytes text.old ++ spec.database_text holder journal (D.state database.now)) }
+    ensures { OnOk result (string_bytes text.new ≡ string_bytes text.old ++ spec.database_text holder journal seconds (D.state database.now)) }
 {
     add_sessions(alloc, text, database, journal, holder)?;
     text.push_str(",\"ok\":true,\"tables\":[")?;
     add_tables(alloc, text, database)?;
-    text.push_str("],\"version\":\"0.1.0\"}\n")
+    add_end(alloc, text, seconds)
 }
 
 /// Adds the line of the status.
@@ -165,26 +184,28 @@ fn add_status<D: Sessions + Drop, S>(
     text: &mut String,
     hub: &Hub<D>,
     journal: LogState,
+    seconds: u64,
     row: &[Client<S>],
 ) -> Result<(), AllocError>
-    ensures { OnOk result (string_bytes text.new ≡ string_bytes text.old ++ spec.status_line row.now hub.now journal) }
+    ensures { OnOk result (string_bytes text.new ≡ string_bytes text.old ++ spec.status_line row.now hub.now journal seconds) }
 {
     let holder = hub.holder();
     text.push_str("{\"connections\":[")?;
     add_connections(alloc, text, holder, row)?;
-    add_database(alloc, text, hub.database(), journal, holder)
+    add_database(alloc, text, hub.database(), journal, seconds, holder)
 }
 
-/// The line that tells the status of a service.
+/// The line that tells the status of a service, so many seconds after its start.
 pub(crate) fn status_line<D: Sessions + Drop, S>(
     alloc: Global,
     hub: &Hub<D>,
     journal: LogState,
+    seconds: u64,
     row: &[Client<S>],
 ) -> Result<String, AllocError>
-    ensures { IfOk result (λ line. string_bytes line ≡ spec.status_line row.now hub.now journal) }
+    ensures { IfOk result (λ line. string_bytes line ≡ spec.status_line row.now hub.now journal seconds) }
 {
     let mut text = String::new(alloc);
-    add_status(alloc, &mut text, hub, journal, row)?;
+    add_status(alloc, &mut text, hub, journal, seconds, row)?;
     Ok(text)
 }

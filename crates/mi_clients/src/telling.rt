@@ -7,7 +7,7 @@ ghost use Rattle.mi_clients.specs.Client.{Owes, Takes, IsAsFar};
 ghost use Rattle.mi_clients.specs.Output.{unsent};
 ghost use Rattle.mi_clients.specs.Row.{ids, Attends, EachServed, EachTakes};
 ghost use Rattle.mi_clients.specs.ServiceLines.{line_of};
-ghost use Rattle.mi_clients.specs.Status.{IsStatus, status_line};
+ghost use Rattle.mi_clients.specs.Status.{IsStateOf, IsStatus, status_line};
 ghost use Rattle.mi_log.specs.declared.log.LogState.{LogState};
 ghost use Rattle.mi_clients.specs.Steps.{Step, Makes, AreTells, AllTell, TellsSo, given_to, asked_by};
 ghost use Rattle.mi_clients.specs.declared.client.Phase.TheVariants as phases;
@@ -57,6 +57,7 @@ fn give<D: Sessions + Drop, L: Log + Drop, S>(
     ensures ends { OnOk result (client.new.ends ≡ client.old.ends) }
     ensures hub { hub_of ledger.new ≡ hub_of ledger.old }
     ensures appended { Keeps (L.appended (log_of ledger.old)) (L.appended (log_of ledger.new)) }
+    ensures room { OnOk result (L.lacks_room (log_of ledger.new) ≡ L.lacks_room (log_of ledger.old)) }
     ensures failed { OnErr result ((result ≡ Err LedgerFault.Journal) × (L.has_failed (log_of ledger.new) ≡ true)) }
     ensures settled { IsSettled L.appended L.synced ledger.new }
 {
@@ -80,6 +81,7 @@ fn tell<D: Sessions + Drop, L: Log + Drop, S>(
         × Owes (given_to client.old.conn steps) client.old client.new × Takes (asked_by client.old.conn steps) client.old client.new
         × Makes steps (hub_of ledger.old) (hub_of ledger.new) (L.appended (log_of ledger.old)) (L.appended (log_of ledger.new))) }
     ensures hub { OnOk result (hub_of ledger.new ≡ hub_of ledger.old) }
+    ensures room { OnOk result (L.lacks_room (log_of ledger.new) ≡ L.lacks_room (log_of ledger.old)) }
     ensures failed { result ≡ Err LedgerFault.Journal → L.has_failed (log_of ledger.new) ≡ true }
     ensures settled { OnOk result (IsSettled L.appended L.synced ledger.new) }
 {
@@ -109,6 +111,7 @@ fn tell_each<D: Sessions + Drop, L: Log + Drop, S: Duplex>(
         × EachServed S.contents steps row.old.items row.new.items × EachTakes steps row.old.items row.new.items
         × Makes steps (hub_of ledger.old) (hub_of ledger.new) (L.appended (log_of ledger.old)) (L.appended (log_of ledger.new))) }
     ensures attends { OnOk result (Attends (ids row.new.items) (hub_of ledger.new).attached) }
+    ensures room { OnOk result (L.lacks_room (log_of ledger.new) ≡ L.lacks_room (log_of ledger.old)) }
     ensures failed { result ≡ Err LedgerFault.Journal → L.has_failed (log_of ledger.new) ≡ true }
     ensures settled { OnOk result (IsSettled L.appended L.synced ledger.new) }
 {
@@ -123,27 +126,31 @@ fn status_if_asked<D: Sessions + Drop, L: Log + Drop, S>(
     alloc: Global,
     ledger: &Ledger<D, L>,
     row: &[Client<S>],
+    seconds: u64,
 ) -> Option<String>
-    ensures { IfSome result (λ line. (journal : LogState) × (journal.is_full ≡ L.lacks_room (log_of ledger.now))
-        × (string_bytes line ≡ status_line row.now (hub_of ledger.now) journal)) }
+    ensures { IfSome result (λ line. (journal : LogState) × IsStateOf (L.appended (log_of ledger.now)) (L.lacks_room (log_of ledger.now)) journal
+        × (string_bytes line ≡ status_line row.now (hub_of ledger.now) journal seconds)) }
 {
     if !row.iter().any(|client| client.service_line().is_some()) {
         return None;
     }
-    status_line(alloc, ledger.hub(), ledger.log().state(), row).ok()
+    status_line(alloc, ledger.hub(), ledger.log().state(), seconds, row).ok()
 }
 
 /// Tells each connection of a row what it asks of the service: the status of these connections and this hub, the schema, or that its form is
-/// refused. The status is that of all of them before any is told something.
+/// refused. The status is that of all of them, and of the journal, before any is told something, so many seconds
+/// after the start.
 pub fn tell_all<D: Sessions + Drop, L: Log + Drop, S: Duplex>(
     alloc: Global,
     ledger: &mut Ledger<D, L>,
     row: &mut Vec<Client<S>>,
     schema: &SchemaLine,
+    seconds: u64,
 ) -> Result<(), LedgerFault>
     requires attends { Attends (ids row.old.items) (hub_of ledger.old).attached }
     requires settled { IsSettled L.appended L.synced ledger.old }
-    ensures tells { OnOk result ((steps : List Step) × (status : List ℕ) × IsStatus row.old.items (hub_of ledger.old) status
+    ensures tells { OnOk result ((steps : List Step) × (status : List ℕ)
+        × IsStatus (L.appended (log_of ledger.old)) (L.lacks_room (log_of ledger.new)) seconds row.old.items (hub_of ledger.old) status
         × AllTell steps × TellsSo status (line_of schema.now) steps
         × EachServed S.contents steps row.old.items row.new.items × EachTakes steps row.old.items row.new.items
         × Makes steps (hub_of ledger.old) (hub_of ledger.new) (L.appended (log_of ledger.old)) (L.appended (log_of ledger.new))) }
@@ -151,7 +158,7 @@ pub fn tell_all<D: Sessions + Drop, L: Log + Drop, S: Duplex>(
     ensures failed { result ≡ Err LedgerFault.Journal → L.has_failed (log_of ledger.new) ≡ true }
     ensures settled { OnOk result (IsSettled L.appended L.synced ledger.new) }
 {
-    let line = status_if_asked(alloc, ledger, row.as_slice());
+    let line = status_if_asked(alloc, ledger, row.as_slice(), seconds);
     match &line {
         Some(line) => tell_each(ledger, row, line.as_bytes(), schema),
         None => tell_each(ledger, row, MEMORY, schema),

@@ -1,8 +1,8 @@
 -- Which lines wait for the journal's room, and what they are told where there is none. With one session open `{"cmd":"start"}` waits, and
 -- `{"cmd":"undo"}` and `{"cmd":"size"}` don't.
-use Rattle.std.specs.Prelude.{◌≡◌, ◌⊎◌, ◌+◌, ℕ, List, [], ◌∷◌, ◌++◌, length, Bool, true, false, not, ◌&&◌, nat_le, codes, Result, Ok, Err}
+use Rattle.std.specs.Prelude.{◌≡◌, ◌⊎◌, ◌+◌, ◌*◌, ℕ, List, [], ◌∷◌, ◌++◌, length, Bool, true, false, not, ◌&&◌, nat_le, codes, Result, Ok, Err}
 use Rattle.mi_value.specs.declared.refusal.Refusal.{Refusal}
-use Rattle.mi_value.specs.declared.limits.TheConstants.{MAX_LINE}
+use Rattle.mi_value.specs.declared.limits.TheConstants.{MAX_LINE, MAX_SESSIONS}
 use Rattle.mi_request.specs.Commands.{keeps_out}
 use Rattle.mi_request.specs.Lines.{command_line}
 use Rattle.mi_request.specs.declared.request.Request.{Request}
@@ -14,6 +14,10 @@ use Rattle.mi_ledger.specs.declared.room.TheConstants.{SHORT_UNDO}
 -- the reply to a line that waits for room
 abbrev pub room_line : List ℕ
 room_line = codes "{\"error\":\"journal\",\"ok\":false}\n"
+
+-- for how many bytes room is left behind a change: for undoing the most sessions, each by a short line
+abbrev pub undo_room : ℕ
+undo_room = SHORT_UNDO * MAX_SESSIONS
 
 -- whether a request undoes sessions, where some are open
 abbrev pub undoes_some : ℕ → Request → Bool

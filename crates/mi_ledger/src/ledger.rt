@@ -1,6 +1,6 @@
 //! A hub whose lines are journaled: what changed anything is appended to a log as it is executed, and the replies go out once that stays.
 //! It reads and writes no stream.
-ghost use Rattle.std.specs.Prelude.{◌≡◌, ◌↔◌, ◌<◌, ◌++◌, ℕ, List, [], ◌⊎◌, ◌∷◌, Some, Ok, Err, true, false, length, OnOk, OnErr, IfOk, IfErr, IfSome, IsSome, IsNone, IsTrue, if◌then◌else◌};
+ghost use Rattle.std.specs.Prelude.{◌≡◌, ◌↔◌, ◌<◌, ◌≤◌, ◌+◌, ◌++◌, ℕ, List, [], ◌⊎◌, ◌∷◌, Some, Ok, Err, true, false, length, OnOk, OnErr, IfOk, IfErr, IfSome, IsSome, IsNone, IsTrue, if◌then◌else◌};
 ghost use Rattle.std.specs.Io.KnownBytes.{Appends, Keeps};
 ghost use Rattle.mi_commands.specs.Holder.{held_by};
 ghost use Rattle.mi_hub.specs.Connections.{rest_at};
@@ -9,7 +9,7 @@ ghost use Rattle.mi_replay.specs.Acts.{leaves};
 ghost use Rattle.mi_ledger.specs.HeldReplies.{bytes_of};
 ghost use Rattle.mi_ledger.specs.Ledger.{is_conn, holder_conn};
 ghost use Rattle.mi_ledger.specs.Journals.{IsWholeLine, Journals, Asks};
-ghost use Rattle.mi_ledger.specs.Room.{NeedsNoRoom, IsTurnedAway};
+ghost use Rattle.mi_ledger.specs.Room.{NeedsNoRoom, IsTurnedAway, undo_room};
 ghost use Rattle.mi_model.specs.Database.{depth};
 
 use crate::fault::LedgerFault;
@@ -144,6 +144,7 @@ impl<D: Sessions + Drop, L: Log + Drop> Ledger<D, L> {
         ensures journal { result ≡ Err LedgerFault.Journal → L.has_failed (log_of self.new) ≡ true }
         ensures makes_stay { L.makes_stay (log_of self.new) ≡ L.makes_stay (log_of self.old) }
         ensures room { OnOk result (L.lacks_room (log_of self.new) ≡ L.lacks_room (log_of self.old)) }
+        ensures left { OnOk result (L.room_left (log_of self.old) ≤ L.room_left (log_of self.new) + length line.now) }
         ensures settled { IsSettled L.appended L.synced self.old → IsSettled L.appended L.synced self.new }
     {
         match self.hub.ask_line(conn, line, &mut replies.bytes) {
@@ -168,7 +169,8 @@ impl<D: Sessions + Drop, L: Log + Drop> Ledger<D, L> {
         ensures asked { result ≡ Ok Admitted.Asked → (out : List ℕ) × (bytes_of replies.new ≡ bytes_of replies.old ++ out)
             × Asks conn line.now (hub_of self.old) (hub_of self.new) (L.appended (log_of self.old)) (L.appended (log_of self.new)) out }
         ensures room { result ≡ Ok Admitted.Asked
-            → (L.lacks_room (log_of self.new) ≡ false) ⊎ NeedsNoRoom (depth (hub_of self.old).held.database) line.now }
+            → ((L.lacks_room (log_of self.new) ≡ false) × (undo_room ≤ L.room_left (log_of self.new)))
+            ⊎ NeedsNoRoom (depth (hub_of self.old).held.database) line.now }
         ensures turned_away { result ≡ Ok Admitted.TurnedAway → (out : List ℕ) × (bytes_of replies.new ≡ bytes_of replies.old ++ out)
             × IsTurnedAway (depth (hub_of self.old).held.database) line.now out × (L.lacks_room (log_of self.new) ≡ true)
             × (hub_of self.new ≡ hub_of self.old) × (L.appended (log_of self.new) ≡ L.appended (log_of self.old)) }
@@ -213,6 +215,7 @@ impl<D: Sessions + Drop, L: Log + Drop> Ledger<D, L> {
         ensures failed { OnErr result (L.has_failed (log_of self.new) ≡ true) }
         ensures makes_stay { L.makes_stay (log_of self.new) ≡ L.makes_stay (log_of self.old) }
         ensures room { OnOk result (L.lacks_room (log_of self.new) ≡ L.lacks_room (log_of self.old)) }
+        ensures left { OnOk result (L.room_left (log_of self.old) ≤ L.room_left (log_of self.new) + length line.now) }
         ensures settled { IsSettled L.appended L.synced self.old → IsSettled L.appended L.synced self.new }
     {
         if !changed {
@@ -237,6 +240,7 @@ impl<D: Sessions + Drop, L: Log + Drop> Ledger<D, L> {
         ensures journal { OnErr result (result ≡ Err LedgerFault.Journal) }
         ensures failed { OnErr result (L.has_failed (log_of self.new) ≡ true) }
         ensures makes_stay { L.makes_stay (log_of self.new) ≡ L.makes_stay (log_of self.old) }
+        ensures room { OnOk result (L.lacks_room (log_of self.new) ≡ L.lacks_room (log_of self.old)) }
         ensures settled { IsSettled L.appended L.synced self.new }
     {
         if self.unsynced {

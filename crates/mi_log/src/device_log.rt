@@ -1,5 +1,5 @@
 //! A log over a device, which it doesn't touch again once a write or a sync has failed.
-ghost use Rattle.std.specs.Prelude.{◌≡◌, None, false, not, is_ok, is_some, option_map, OnOk, OnErr};
+ghost use Rattle.std.specs.Prelude.{◌≡◌, ◌≤◌, ◌+◌, None, false, not, is_ok, is_some, length, option_map, OnOk, OnErr};
 ghost use Rattle.std.specs.Io.KnownBytes.{Appends, Keeps};
 ghost use Rattle.mi_log.specs.Kept.{AppendsFront};
 
@@ -51,6 +51,7 @@ fn write_all<D: Device>(device: &mut D, bytes: &[u8]) -> io::Result<()>
     ensures stays { Keeps (D.stays device.old) (D.stays device.new) }
     ensures makes_stay { D.makes_stay device.new ≡ D.makes_stay device.old }
     ensures room { D.lacks_room device.new ≡ D.lacks_room device.old }
+    ensures left { OnOk result (D.room_left device.old ≤ D.room_left device.new + length bytes.now) }
 {
     let mut at = 0;
     'bytes: while at < bytes.len() {
@@ -80,7 +81,7 @@ fn note(error: &mut Option<io::Error>, came: io::Result<()>) -> Result<(), LogFa
 
 impl<D: Device> Log for DeviceLog<D> {
     ghost use Rattle.std.specs.Prelude.{◌||◌};
-    ghost use Rattle.mi_log.specs.DeviceLog.{device_of, is_broken};
+    ghost use Rattle.mi_log.specs.DeviceLog.{device_of, is_broken, room_left};
 
     ghost appended = { λ l. D.contents (device_of l) };
 
@@ -91,6 +92,8 @@ impl<D: Device> Log for DeviceLog<D> {
     ghost has_failed = { λ l. is_broken l };
 
     ghost lacks_room = { λ l. is_broken l || D.lacks_room (device_of l) };
+
+    ghost room_left = { λ l. room_left D.room_left l };
 
     fn make_room(&mut self, bytes: u64) -> bool {
         self.error.is_none() && self.device.make_room(bytes)

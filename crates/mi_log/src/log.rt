@@ -18,7 +18,7 @@ pub struct LogState {
 /// What has failed isn't used again: once a call has failed, each further one answers an error and changes nothing. So nothing is appended
 /// behind a gap, and no sync is believed behind one that failed.
 pub trait Log {
-    ghost use Rattle.std.specs.Prelude.{◌≡◌, ◌<◌, ℕ, List, Option, Bool, true, not, is_ok, length, IfSome, OnOk, OnErr, IsErr};
+    ghost use Rattle.std.specs.Prelude.{◌≡◌, ◌<◌, ◌≤◌, ◌+◌, ℕ, List, Option, Bool, true, not, is_ok, length, IfSome, IsTrue, OnOk, OnErr, IsErr};
     ghost use Rattle.std.specs.Io.KnownBytes.{Appends, Keeps};
     ghost use Rattle.mi_log.specs.Kept.{AppendsFront};
 
@@ -37,10 +37,15 @@ pub trait Log {
     /// Whether room was last asked for, and wasn't there.
     ghost lacks_room: { Self → Bool };
 
+    /// For how many bytes room is there, which an append takes no more of the disk for.
+    ghost room_left: { Self → ℕ };
+
     /// Makes room for so many bytes, and answers whether it is there; it isn't where a call has failed. Where it is, it stays until as many
     /// are appended, whoever else writes to the disk.
     fn make_room(&mut self, bytes: u64) -> bool
         ensures room { result ≡ not (lacks_room self.new) }
+        ensures there { IsTrue result → bytes ≤ room_left self.new }
+        ensures left { room_left self.old ≤ room_left self.new }
         ensures appended { appended self.new ≡ appended self.old }
         ensures synced { synced self.new ≡ synced self.old }
         ensures makes_stay { makes_stay self.new ≡ makes_stay self.old }
@@ -51,7 +56,7 @@ pub trait Log {
         ensures full { result.is_full ≡ lacks_room self.now }
         ensures bytes { IfSome result.bytes (λ count. IfSome (appended self.now) (λ bytes. count ≡ length bytes)) };
 
-    /// Appends some bytes. After an error a front of them stands there, and not all.
+    /// Appends some bytes, which take as much of the room at most. After an error a front of them stands there, and not all.
     fn append(&mut self, bytes: &[u8]) -> Result<(), LogFault>
         requires { 0 < length bytes.now }
         ensures ok { OnOk result (Appends (appended self.old) (appended self.new) bytes.now) }
@@ -60,6 +65,7 @@ pub trait Log {
         ensures makes_stay { makes_stay self.new ≡ makes_stay self.old }
         ensures failed { has_failed self.new ≡ not (is_ok result) }
         ensures room { OnOk result (lacks_room self.new ≡ lacks_room self.old) }
+        ensures left { OnOk result (room_left self.old ≤ room_left self.new + length bytes.now) }
         ensures over { has_failed self.old ≡ true → IsErr result × (self.new ≡ self.old) };
 
     /// Makes all that was appended stay.
@@ -70,5 +76,6 @@ pub trait Log {
         ensures makes_stay { makes_stay self.new ≡ makes_stay self.old }
         ensures failed { has_failed self.new ≡ not (is_ok result) }
         ensures room { OnOk result (lacks_room self.new ≡ lacks_room self.old) }
+        ensures left { OnOk result (room_left self.old ≤ room_left self.new) }
         ensures over { has_failed self.old ≡ true → IsErr result × (self.new ≡ self.old) };
 }

@@ -20,8 +20,8 @@ pub struct MemoryDevice {
 impl MemoryDevice {
     ghost use Rattle.mi_log.specs.MemoryDevice.{written, kept, sound_calls, size_of};
 
-    /// An empty device with all the room that is asked for. Its first `calls` calls, writes and syncs, don't fail, but for memory; each later one does. A write takes at
-    /// most `most` bytes.
+    /// An empty device with all the room that is asked for. Its first `calls` calls, writes and syncs, don't fail, but for memory; each
+    /// later one does. A write takes at most `most` bytes.
     pub fn new(alloc: Global, calls: u64, most: usize) -> MemoryDevice
         ensures written { written result ≡ [] }
         ensures kept { kept result ≡ [] }
@@ -69,7 +69,7 @@ impl Device for MemoryDevice {
     ghost use Rattle.std.specs.Io.{WritesAtMost};
     ghost use Rattle.std.specs.Io.KnownBytes.{WriteAppends, Keeps};
     ghost use Rattle.mi_log.specs.MemoryDevice.{written, kept, sound_calls, size_of};
-    ghost use Rattle.std.specs.Prelude.{◌≤◌, ◌↔◌, ◌+◌, not, length, IsTrue};
+    ghost use Rattle.std.specs.Prelude.{◌≤◌, ◌↔◌, ◌+◌, ◌-◌, not, length, IfOk, IsTrue};
 
     ghost contents = { λ d. Some (written d) };
 
@@ -77,9 +77,12 @@ impl Device for MemoryDevice {
 
     ghost lacks_room = { λ d. d.lacks };
 
+    ghost room_left = { λ d. size_of d - length (written d) };
+
     fn make_room(&mut self, bytes: u64) -> bool
         ensures room { result ≡ not self.new.lacks }
         ensures there { IsTrue result ↔ (length (written self.old) + bytes ≤ size_of self.old) }
+        ensures left { size_of self.new - length (written self.new) ≡ size_of self.old - length (written self.old) }
         ensures contents { written self.new ≡ written self.old }
         ensures stays { kept self.new ≡ kept self.old }
     {

@@ -100,17 +100,20 @@ impl<F: PlacedFile> RoomFile<F> {
 }
 
 impl<F: PlacedFile> Device for RoomFile<F> {
-    ghost use Rattle.std.specs.Prelude.{◌≡◌, ◌≤◌, None, not};
+    ghost use Rattle.std.specs.Prelude.{◌≡◌, ◌≤◌, ◌-◌, ◌+◌, None, not, IfOk, IsTrue};
     ghost use Rattle.std.specs.Io.{WritesAtMost};
     ghost use Rattle.std.specs.Io.KnownBytes.{WriteAppends, Keeps};
     ghost use Rattle.mi_log.specs.Room.{front_of};
 
     ghost lacks_room = { λ r. r.lacks };
 
+    ghost room_left = { λ r. r.size - r.end };
+
     /// Room that is there is kept; else the file grows by 1 MiB, or as far as the disk lets it.
     fn make_room(&mut self, bytes: u64) -> bool
         ensures room { result ≡ not self.new.lacks }
         ensures there { IsTrue result → bytes ≤ self.new.size - self.new.end }
+        ensures left { self.old.size - self.old.end ≤ self.new.size - self.new.end }
         ensures enough { bytes ≤ self.old.size - self.old.end → result ≡ true }
         ensures written { Keeps (front_of self.old.end (F.contents self.old.file)) (front_of self.new.end (F.contents self.new.file)) }
     {
@@ -137,6 +140,7 @@ impl<F: PlacedFile> Device for RoomFile<F> {
         ensures bytes { WriteAppends None None result bytes.now }
         ensures stays { Keeps None None }
         ensures room { self.new.lacks ≡ self.old.lacks }
+        ensures left { IfOk result (λ count. self.old.size - self.old.end ≤ self.new.size - self.new.end + count) }
         ensures written { WriteAppends (front_of self.old.end (F.contents self.old.file)) (front_of self.new.end (F.contents self.new.file)) result bytes.now }
     {
         if self.end.checked_add(bytes.len() as u64).is_none() {

@@ -31,3 +31,7 @@ told_of contents d = if is_staying d then written_to contents d else None
 -- whether its file lacks room, where it has one
 abbrev pub lacks_room : {F : Type 0} → (F → Bool) → JournalDevice F → Bool
 lacks_room lacks d = option_map_or lacks d.file false
+
+-- for how many bytes its file has room, where it has one; else for as many as can be asked for
+abbrev pub room_left : {F : Type 0} → (F → ℕ) → JournalDevice F → ℕ
+room_left left d = option_map_or left d.file 18446744073709551615

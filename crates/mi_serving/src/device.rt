@@ -40,10 +40,10 @@ impl<F> JournalDevice<F> {
 }
 
 impl<F: Device> Device for JournalDevice<F> {
-    ghost use Rattle.std.specs.Prelude.{◌≡◌, None, not, true, length, IfSome};
+    ghost use Rattle.std.specs.Prelude.{◌≡◌, ◌≤◌, ◌+◌, None, not, true, length, IfSome, IfOk, IsTrue};
     ghost use Rattle.std.specs.Io.{WritesAtMost};
     ghost use Rattle.std.specs.Io.KnownBytes.{WriteAppends, Keeps};
-    ghost use Rattle.mi_serving.specs.Device.{file_of, keeping_of, written_to, told_of, is_staying, lacks_room};
+    ghost use Rattle.mi_serving.specs.Device.{file_of, keeping_of, written_to, told_of, is_staying, lacks_room, room_left};
 
     ghost contents = { λ d. told_of F.contents d };
 
@@ -52,6 +52,8 @@ impl<F: Device> Device for JournalDevice<F> {
     ghost makes_stay = { λ d. is_staying d };
 
     ghost lacks_room = { λ d. lacks_room F.lacks_room d };
+
+    ghost room_left = { λ d. room_left F.room_left d };
 
     /// Its file has what it took.
     fn write(&mut self, bytes: &[u8]) -> io::Result<usize>
@@ -62,6 +64,7 @@ impl<F: Device> Device for JournalDevice<F> {
         ensures keeping { keeping_of self.new ≡ keeping_of self.old }
         ensures makes_stay { is_staying self.new ≡ is_staying self.old }
         ensures room { lacks_room F.lacks_room self.new ≡ lacks_room F.lacks_room self.old }
+        ensures left { IfOk result (λ count. room_left F.room_left self.old ≤ room_left F.room_left self.new + count) }
     {
         match &mut self.file {
             Some(file) => file.write(bytes),
@@ -71,6 +74,8 @@ impl<F: Device> Device for JournalDevice<F> {
 
     fn make_room(&mut self, bytes: u64) -> bool
         ensures room { result ≡ not (lacks_room F.lacks_room self.new) }
+        ensures there { IsTrue result → bytes ≤ room_left F.room_left self.new }
+        ensures left { room_left F.room_left self.old ≤ room_left F.room_left self.new }
         ensures contents { told_of F.contents self.new ≡ told_of F.contents self.old }
         ensures stays { told_of F.stays self.new ≡ told_of F.stays self.old }
         ensures makes_stay { is_staying self.new ≡ is_staying self.old }

@@ -45,6 +45,13 @@ impl<'a, C: Clock> Patience<'a, C> {
         }
     }
 
+    /// The whole seconds since the start, when the clock was last read.
+    pub fn second(&self) -> u64
+        ensures { result ≡ self.now.second }
+    {
+        self.second
+    }
+
     /// The whole seconds since the start, where the clock tells.
     fn elapsed(&self) -> Option<u64> {
         let elapsed = self.start?.elapsed(self.clock).ok()?;
@@ -63,7 +70,8 @@ impl<'a, C: Clock> Patience<'a, C> {
         }
     }
 
-    /// Where somebody's silence is limited, those that have been silent for too long are broken, so that the next turn lets them go.
+    /// The clock is read. Where somebody's silence is limited, those that have been silent for too long are broken, so that the next turn lets
+    /// them go.
     pub fn give_up<D: Sessions + Drop, L: Log + Drop, S>(
         &mut self,
         ledger: &Ledger<D, L>,
@@ -76,9 +84,9 @@ impl<'a, C: Clock> Patience<'a, C> {
         ensures rises { self.old.second ≤ self.new.second }
         ensures limits { self.new.limits ≡ self.old.limits }
     {
+        self.advance();
         if self.limits.is_any() {
             let limits = self.limits;
-            self.advance();
             give_up_silent(ledger, row, self.second, &limits);
         }
     }

@@ -4,7 +4,7 @@ ghost use Rattle.mi_value.specs.declared.limits.TheConstants.{MAX_CONNECTIONS as
 ghost use Rattle.mi_hub.specs.declared.fault.HubFault.{HubFault};
 ghost use Rattle.mi_replay.specs.Replayed.{replayer};
 ghost use Rattle.mi_ledger.specs.Ledger.{hub_of, log_of, IsSettled};
-ghost use Rattle.mi_clients.specs.Steps.{Step, Makes, GivesNone};
+ghost use Rattle.mi_clients.specs.Steps.{Step, Makes, GivesNone, AsksNone};
 ghost use Rattle.mi_clients.specs.Row.{ids, Attends, Joins, NoneIsOver, NoneIsWhole, SameStreams, Serves, AllOnlyAsk, StayersOnlyAsk, EachWoken, TellsWhatIs};
 ghost use Rattle.mi_clients.specs.ServiceLines.{line_of};
 ghost use Rattle.mi_serving.specs.Turns.{Goes, AllUpTo, ends_serving};
@@ -45,7 +45,7 @@ fn accept_one<D: Sessions + Drop, L: Log + Drop>(
     requires more { last.old + 1 < 2 ^ 64 }
     ensures comes { OnOk result ((steps : List Step) × GivesNone steps × Joins row.old.items row.new.items
         × Makes steps (hub_of ledger.old) (hub_of ledger.new) (L.appended (log_of ledger.old)) (L.appended (log_of ledger.new))
-        × AllOnlyAsk steps (ids row.old.items)) }
+        × AllOnlyAsk steps (ids row.old.items) × AsksNone steps) }
     ensures known { OnOk result (AllUpTo last.new row.new.items) }
     ensures rises { last.old ≤ last.new }
     ensures same { OnOk result (SameStreams ⟦<Link as Duplex>⟧.handle last.old row.old.items row.new.items) }
@@ -79,7 +79,7 @@ fn accept_all<D: Sessions + Drop, L: Log + Drop>(
     requires own { replayer ≤ last.old }
     ensures comes { OnOk result ((steps : List Step) × GivesNone steps × Joins row.old.items row.new.items
         × Makes steps (hub_of ledger.old) (hub_of ledger.new) (L.appended (log_of ledger.old)) (L.appended (log_of ledger.new))
-        × AllOnlyAsk steps (ids row.old.items)) }
+        × AllOnlyAsk steps (ids row.old.items) × AsksNone steps) }
     ensures known { OnOk result (AllUpTo last.new row.new.items) }
     ensures rises { last.old ≤ last.new }
     ensures same { OnOk result (SameStreams ⟦<Link as Duplex>⟧.handle last.old row.old.items row.new.items) }
@@ -99,7 +99,7 @@ fn accept_all<D: Sessions + Drop, L: Log + Drop>(
 /// What is done once some connections are ready. Those that have come are accepted, what is ready is read, its lines are asked, and what it
 /// asks of the service is told. The replies are sent once the journal stays, and those that are over are let go. What a connection receives
 /// are the replies to its own lines, whole and in their order. A connection keeps its number and its stream, and once its bytes have ended
-/// and its lines are asked nothing of it is held.
+/// and its lines are asked nothing of it is held. A status says that so many seconds have passed since the start.
 ///
 /// `Memory` where memory for a reply or for the row is refused, or one that goes holds sessions still once 1,025 lines undid some;
 /// `Journal` where a line can't be appended whole, or what was appended can't be made to stay. Nothing is said of the hub then, and
@@ -113,6 +113,7 @@ pub fn take_turn<D: Sessions + Drop, L: Log + Drop>(
     each: bool,
     buffer: &mut [u8],
     schema: &SchemaLine,
+    seconds: u64,
 ) -> Result<(), LedgerFault>
     requires attends { Attends (ids row.old.items) (hub_of ledger.old).attached }
     requires settled { IsSettled L.appended L.synced ledger.old }
@@ -122,7 +123,8 @@ pub fn take_turn<D: Sessions + Drop, L: Log + Drop>(
     ensures serves { OnOk result ((steps : List Step) × Serves (λ _. None) steps row.old.items row.new.items
         × Makes steps (hub_of ledger.old) (hub_of ledger.new) (L.appended (log_of ledger.old)) (L.appended (log_of ledger.new))
         × StayersOnlyAsk steps row.old.items row.new.items
-        × TellsWhatIs (λ _. None) (line_of schema.now) steps (hub_of ledger.old) row.old.items) }
+        × TellsWhatIs (λ _. None) (line_of schema.now) seconds steps (hub_of ledger.old)
+        (L.appended (log_of ledger.old)) (L.lacks_room (log_of ledger.new)) row.old.items) }
     ensures known { OnOk result (AllUpTo last.new row.new.items) }
     ensures rises { last.old ≤ last.new }
     ensures same { OnOk result (SameStreams ⟦<Link as Duplex>⟧.handle last.old row.old.items row.new.items) }
@@ -133,7 +135,7 @@ pub fn take_turn<D: Sessions + Drop, L: Log + Drop>(
     ensures settled { OnOk result (IsSettled L.appended L.synced ledger.new) }
 {
     accept_all(alloc, ledger, door, row, last)?;
-    serve_all(alloc, ledger, row, buffer, each, schema)
+    serve_all(alloc, ledger, row, buffer, each, schema, seconds)
 }
 
 /// Waits until something is ready, or for the longest time that is given, and tells the connections.
@@ -190,6 +192,7 @@ pub fn serve<D: Sessions + Drop, L: Log + Drop, C: Clock>(
             each,
             &mut buffer,
             schema,
+            patience.second(),
         ) {
             return Failure::of_ledger(fault);
         }

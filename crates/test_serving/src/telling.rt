@@ -84,7 +84,7 @@ fn turn<'a, D: Sessions + Drop, L: Log + Drop>(
     let schema = SchemaLine::of(alloc, "a \"t\"\n")?;
     let mut buffer = [0u8; 4096];
     end_asked(row);
-    match serve_all(alloc, ledger, row, &mut buffer, false, &schema) {
+    match serve_all(alloc, ledger, row, &mut buffer, false, &schema, 7) {
         Ok(()) => Ok(()),
         Err(_fault) => Err(Fail::from("a turn fails")),
     }
@@ -139,8 +139,8 @@ fn the_status_of_two(rt: HostRuntime) -> Result<(), Fail> {
         b"{\"service\":\"status\"}\n",
     )?;
     let want =
-        b"{\"connections\":[{\"holds\":true,\"number\":2,\"unsent\":25},{\"holds\":false,\"number\":3,\"unsent\":0}],\
-\"depth\":1,\"holder\":2,\"journal\":{\"bytes\":16,\"full\":false},\"ok\":true,\"tables\":[{\"name\":\"accounts\",\"size\":0}],\"version\":\"0.1.0\"}\n";
+        b"{\"connections\":[{\"holds\":true,\"lines\":1,\"number\":2,\"unsent\":25},{\"holds\":false,\"lines\":0,\"number\":3,\"unsent\":0}],\
+\"depth\":1,\"holder\":2,\"journal\":{\"bytes\":16,\"full\":false},\"ok\":true,\"tables\":[{\"name\":\"accounts\",\"size\":0}],\"uptime\":7,\"version\":\"0.1.0\"}\n";
     assert!(rt; out.as_slice() == want.as_slice());
     Ok(())
 }

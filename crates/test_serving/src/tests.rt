@@ -81,6 +81,8 @@ struct MemoryFile {
 }
 
 impl Device for MemoryFile {
+    ghost room_left = { λ _. 18446744073709551615 };
+
     fn make_room(&mut self, _bytes: u64) -> bool {
         true
     }

@@ -8,7 +8,7 @@ use Rattle.mi_ledger.specs.Ledger.{hub_of}
 use Rattle.mi_clients.specs.Input.{waiting}
 use Rattle.mi_clients.specs.Output.{unsent}
 use Rattle.mi_clients.proofs.StepLemmas.{line_step, line_attached}
-use Rattle.mi_clients.proofs.InputLemmas.{unended_drop}
+use Rattle.mi_clients.proofs.InputLemmas.{unended_drop, count_line}
 use Rattle.mi_clients.proofs.asking.ask_line.Goals as goal
 
 -- where no line waited none does
@@ -34,6 +34,7 @@ returns-clause-one g c = λ _.
       ap (λ h. unsent c.args.client.now.output ++ h) one.1 ∙ sym (append_assoc (unsent c.args.client.now.output) (bytes_of c.args.client.now.held) one.0),
       one.4,
       one.5,
+      c.pass.ensures.lines ∙ sym (count_line c.args.client.now.input.lines line at.0),
     )
 
 pub returns-clause-attached : goal.returns-clause-attached

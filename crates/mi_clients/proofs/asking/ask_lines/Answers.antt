@@ -3,11 +3,12 @@ use Rattle.std.proofs.Common.{◌≡◌, ◌++◌, ◌∷◌, [], ◌∙◌, inl
 use Rattle.std.proofs.KnownBytes.{Keeps-refl}
 use Rattle.mi_hub.specs.Run.{HubState}
 use Rattle.mi_ledger.specs.Ledger.{hub_of}
-use Rattle.mi_clients.specs.Input.{waiting}
+use Rattle.mi_clients.specs.Input.{waiting, count_on}
 use Rattle.mi_clients.specs.Client.{MayAsk}
 use Rattle.mi_clients.specs.declared.client.Client.{Client}
 use Rattle.mi_clients.specs.declared.input.Input.{Input}
 use Rattle.mi_clients.specs.declared.client.Phase.TheVariants.{Broken}
+use Rattle.mi_clients.proofs.InputLemmas.{count_join}
 use Rattle.mi_clients.proofs.StepLemmas.{makes_none, makes_then, makes_kept, asks_of, asks_more, waits_more}
 use Rattle.mi_clients.proofs.ServedLemmas.{owes_none, owes_more, owes_reply, far_then, room_left}
 use Rattle.mi_clients.proofs.asking.ask_lines.Goals as goal
@@ -25,6 +26,7 @@ lines-init g c = record {
   far = inr refl;
   within = inl refl;
   first = refl;
+  lines = refl;
   idle = λ no. refl;
   makes = makes_none _ _ _ (Keeps-refl _);
 }
@@ -62,6 +64,8 @@ lines-preserved g c =
             (c.may_ask.ensures.may.0 c.lines-test.true).2,
       );
       first = ap (λ (i : Input). i.is_first) c.in_ok-release_each-in-Asked.ensures.input ∙ c.in_ok-ask_line.ensures.first ∙ before.first;
+      lines = ap (λ (i : Input). i.lines) c.in_ok-release_each-in-Asked.ensures.input ∙ one.9 ∙ ap (λ n. count_on n one.0) before.lines
+          ∙ sym (count_join c.args.client.now.input.lines before.taken one.0);
       idle = λ no. absurd (no (subst (λ (x : Client _). MayAsk x) (before.idle no) (c.may_ask.ensures.may.0 c.lines-test.true)));
       makes = makes_kept (before.steps ++ step ∷ []) _ (hub_of c.ask_line.new.ledger) _ _ _ _
           (makes_then before.steps (step ∷ []) _ (hub_of c.lines.ledger) _ _ _ _ before.makes one.7)

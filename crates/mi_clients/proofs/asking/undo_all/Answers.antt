@@ -17,6 +17,7 @@ sessions-init g c = record {
   left = λ some. (refl, some);
   still = λ no. refl;
   makes_stay = refl;
+  room = refl;
   steps = [];
   own = tt;
   makes = makes_none _ _ _ (Keeps-refl _);
@@ -38,6 +39,7 @@ sessions-preserved g c =
           asked.2.done (before.left some);
       still = λ no. absurd (no (sym (ap (λ (s : HubState). holder_conn s.held.holder) (ap hub_of (before.still no))) ∙ holds));
       makes_stay = c.in_ok-ask.ensures.makes_stay ∙ before.makes_stay;
+      room = c.in_ok-ask.ensures.room ∙ before.room;
       steps = before.steps ++ step ∷ [];
       own = undos_more c.args.conn before.steps asked.0 before.own;
       makes = makes_then before.steps (step ∷ []) _ (hub_of c.sessions.ledger) _ _ _ _ before.makes

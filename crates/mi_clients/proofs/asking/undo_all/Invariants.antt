@@ -14,6 +14,7 @@ invariant-sessions g l = record {
       → (released l.fn.conn (hub_of l.ledger).held ≡ released l.fn.conn (hub_of l.fn.ledger).held) × HoldsSome (hub_of l.ledger).held.holder;
   still : ¬ (holder_conn (hub_of l.fn.ledger).held.holder ≡ Some l.fn.conn) → l.ledger ≡ l.fn.ledger;
   makes_stay : g.L.Log.makes_stay (log_of l.ledger) ≡ g.L.Log.makes_stay (log_of l.fn.ledger);
+  room : g.L.Log.lacks_room (log_of l.ledger) ≡ g.L.Log.lacks_room (log_of l.fn.ledger);
   steps : List Step;
   own : AreUndos l.fn.conn steps;
   makes : Makes steps (hub_of l.fn.ledger) (hub_of l.ledger) (g.L.Log.appended (log_of l.fn.ledger)) (g.L.Log.appended (log_of l.ledger));

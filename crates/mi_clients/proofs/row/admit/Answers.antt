@@ -1,5 +1,5 @@
 -- Who comes stands behind the others; who is refused changes nothing.
-use Rattle.std.proofs.Common.{◌∷◌, [], sym, subst}
+use Rattle.std.proofs.Common.{◌∷◌, [], refl, sym, subst}
 use Rattle.std.proofs.lemmas.Result.{on_ok_weaker}
 use Rattle.std.proofs.KnownBytes.{Keeps-refl}
 use Rattle.std.specs.Io.KnownBytes.{Keeps}
@@ -8,7 +8,7 @@ use Rattle.mi_clients.specs.Steps.{comes}
 use Rattle.mi_clients.specs.Row.{ids, Attends, Joins, IsNoneOf, Admits}
 use Rattle.mi_clients.proofs.StepLemmas.{comes_makes, makes_none, makes_kept}
 use Rattle.mi_clients.proofs.RowLemmas.{attends_more, none_of_attended}
-use Rattle.mi_clients.proofs.ServedLemmas.{if_ok_with, nothing_given, comes_none_given, joins_none, joins_one, only_none, only_others}
+use Rattle.mi_clients.proofs.ServedLemmas.{if_ok_with, nothing_given, nothing_asked, comes_none_given, joins_none, joins_one, only_none, only_others}
 use Rattle.mi_clients.proofs.row.admit.Goals as goal
 
 pub returns-in-Ok-clause-comes : goal.returns-in-Ok-clause-comes
@@ -20,9 +20,10 @@ returns-in-Ok-clause-comes g c =
     on_ok_weaker c.seat.result (λ items. (
       comes c.args.conn ∷ [],
       comes_none_given c.args.conn,
-      subst (Joins row) (sym items) (joins_one row c.new.result (c.new.ensures.open, c.new.ensures.none.0, c.new.ensures.none.1, new, c.new.ensures.first)),
+      subst (Joins row) (sym items) (joins_one row c.new.result (c.new.ensures.open, c.new.ensures.none.0, c.new.ensures.none.1, new, c.new.ensures.first, c.new.ensures.lines)),
       comes_makes c.args.conn (hub_of c.args.ledger.now) (hub_of c.attach.new.self) _ _ c.in-Ok.ensures.ok kept,
       only_others c.args.conn (comes c.args.conn ∷ []) (ids row) (λ k other. (other, tt)) none,
+      λ k. refl,
     )) c.seat.ensures.seated
 
 pub returns-in-Ok-clause-admits : goal.returns-in-Ok-clause-admits
@@ -32,7 +33,7 @@ returns-in-Ok-clause-admits g c =
     (none_of_attended c.args.conn (ids row) (hub_of c.args.ledger.now) (hub_of c.attach.new.self) c.requires.attends c.in-Ok.ensures.ok) in
     if_ok_with c.seat.result (λ admission is items.
     subst (Admits c.args.conn c.args.stream (hub_of c.args.ledger.now) (hub_of c.attach.new.self) row c.seat.new.row.items) (sym is)
-    (c.new.result, items, c.new.ensures.conn, c.new.ensures.stream, (c.new.ensures.open, c.new.ensures.none.0, c.new.ensures.none.1, new, c.new.ensures.first)))
+    (c.new.result, items, c.new.ensures.conn, c.new.ensures.stream, (c.new.ensures.open, c.new.ensures.none.0, c.new.ensures.none.1, new, c.new.ensures.first, c.new.ensures.lines)))
     c.seat.ensures.says c.seat.ensures.seated
 
 pub returns-in-Ok-clause-attends : goal.returns-in-Ok-clause-attends
@@ -50,4 +51,5 @@ returns-in-Err-clause-comes g c =
       joins_none c.args.row.now.items,
       makes_kept [] _ (hub_of c.args.ledger.now) (hub_of c.attach.new.self) _ _ _ (makes_none _ _ _ (Keeps-refl _)) c.in-Err.ensures.refused.1 kept,
       only_none (ids c.args.row.now.items),
+      nothing_asked,
     )

@@ -1,5 +1,5 @@
 -- Who is over goes away, and the others stay what the hub has attached, as they are.
-use Rattle.std.proofs.Common.{◌≡◌, ◌++◌, ◌∙◌, ◌<◌, [], length, Some, sym, ap, subst, rules}
+use Rattle.std.proofs.Common.{◌≡◌, ◌++◌, ◌∙◌, ◌<◌, [], length, Some, refl, sym, ap, subst, rules}
 use Rattle.std.proofs.KnownBytes.{Keeps-refl}
 use Rattle.mi_hub.specs.Connections.{rest_at, others}
 use Rattle.mi_ledger.specs.Ledger.{hub_of}
@@ -22,6 +22,7 @@ row-init g c = record {
   settled = c.requires.settled;
   gone = lets_none c.args.row.now.items;
   stay = holds_none stays c.args.row.now.items;
+  room = refl;
   steps = [];
   none = nothing_given;
   quiet = nothing_asked;
@@ -52,6 +53,7 @@ row-preserved-then-is_over g c =
       gone = subst (LetsGo c.args.row.now.items) (sym c.remove.ensures.items)
           (lets_one c.args.row.now.items c.row.row.items c.row.at c.index.result.now before.gone within over);
       stay = subst (HoldsTo stays c.row.at) (sym c.remove.ensures.items) (holds_less stays c.row.row.items c.row.at within before.stay);
+      room = c.in_ok-part.ensures.room ∙ before.room;
       steps = before.steps ++ parted.0;
       none = none_join before.steps parted.0 before.none parted.1;
       quiet = quiet_join before.steps parted.0 before.quiet parted.4;
@@ -70,6 +72,7 @@ row-preserved g c =
       gone = before.gone;
       stay = holds_more stays c.row.row.items c.row.at c.index.result.now c.index.ensures within
           (λ over. true_false c.is_over.result (c.is_over.ensures.1 over) c.if-is_over.false) before.stay;
+      room = before.room;
       steps = before.steps;
       none = before.none;
       quiet = before.quiet;

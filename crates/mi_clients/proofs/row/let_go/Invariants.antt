@@ -1,4 +1,4 @@
-use Rattle.std.proofs.Common.{◌-◌, List, length}
+use Rattle.std.proofs.Common.{◌≡◌, ◌-◌, List, length}
 use Rattle.mi_ledger.specs.Ledger.{hub_of, log_of, IsSettled}
 use Rattle.mi_clients.specs.Steps.{Step, Makes, GivesNone, AsksNone}
 use Rattle.mi_clients.specs.Row.{ids, Attends, LetsGo, OpenOnlyAsk}
@@ -13,6 +13,7 @@ invariant-row g l = record {
   settled : IsSettled g.L.Log.appended g.L.Log.synced l.ledger;
   gone : LetsGo l.fn.row.items l.row.items;
   stay : HoldsTo (λ c. ¬ IsOver c) l.at l.row.items;
+  room : g.L.Log.lacks_room (log_of l.ledger) ≡ g.L.Log.lacks_room (log_of l.fn.ledger);
   steps : List Step;
   none : GivesNone steps;
   quiet : AsksNone steps;

@@ -27,6 +27,7 @@ loop-client-init g c = record {
       (each_none g.S.Duplex.contents [] c.args.row.now.items nothing_given);
   hub = refl;
   appended = Keeps-refl _;
+  room = refl;
 }
 
 pub loop-client-preserved : goal.loop-client-preserved
@@ -63,6 +64,7 @@ loop-client-preserved g c =
       each = each_then contents [] [] c.args.row.now.items row (slice_set row at c.send.new.self) before.each set;
       hub = c.release.ensures.hub ∙ before.hub;
       appended = Keeps-trans _ _ _ before.appended c.release.ensures.appended;
+      room = c.in_ok-release.ensures.room ∙ before.room;
     }
 
 pub returns-clause-whole : goal.returns-clause-whole

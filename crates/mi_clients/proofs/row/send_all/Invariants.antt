@@ -20,4 +20,5 @@ invariant-loop-client g l = record {
   each : EachServed g.S.Duplex.contents [] l.fn.row.items l.client-items;
   hub : hub_of l.ledger ≡ hub_of l.fn.ledger;
   appended : Keeps (g.L.Log.appended (log_of l.fn.ledger)) (g.L.Log.appended (log_of l.ledger));
+  room : g.L.Log.lacks_room (log_of l.ledger) ≡ g.L.Log.lacks_room (log_of l.fn.ledger);
 }

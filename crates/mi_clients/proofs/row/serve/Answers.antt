@@ -32,7 +32,7 @@ returns-clause-serves g c =
       makes_then asked.0 undone.0 _ (hub_of c.ask_lines.new.ledger) _ _ _ _ asked.6 undone.3,
       came_whole g.S.Duplex.remaining old read mid last asked.0 asked.1 asked.2 (asked_by old.conn (asked.0 ++ undone.0)) piece.0 piece.1 piece.2 piece.3
           c.read.ensures.opens c.in_ok-ask_lines.ensures.first asked.4 asked.7 asked.3 far asked.5 undone.2
-          input settled (taken_in old.conn asked.0 undone.0 asked.1 asked.2 own gone),
+          input settled (taken_in old.conn asked.0 undone.0 asked.1 asked.2 own gone) c.read.ensures.lines asked.8,
       asks_others old.conn asked.0 undone.0 asked.1 asked.2 own gone,
       λ on. asks_alone old.conn asked.0 undone.0 asked.1 asked.2 own (on_alone mid last undone.0 settled undone.4 input on),
       serve_asks_only old.conn asked.0 undone.0 asked.1 asked.2 own gone,

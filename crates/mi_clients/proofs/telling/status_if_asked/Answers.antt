@@ -4,7 +4,7 @@ use Rattle.std.specs.Prelude.{IfSome}
 use Rattle.std.specs.String.{string_bytes}
 use Rattle.mi_ledger.specs.Ledger.{hub_of, log_of}
 use Rattle.mi_log.specs.declared.log.LogState.{LogState}
-use Rattle.mi_clients.specs.Status.{status_line}
+use Rattle.mi_clients.specs.Status.{IsStateOf, status_line}
 use Rattle.mi_clients.proofs.TellLemmas.{told_some_of}
 use Rattle.mi_clients.proofs.telling.status_if_asked.Goals as goal
 
@@ -12,8 +12,10 @@ pub returns : goal.returns
 returns g c =
     let row = c.args.row.now in
     let hub = hub_of c.args.ledger.now in
-    let full = c.state.ensures.full ∙ ap g.L.Log.lacks_room c.log.ensures in
-    subst (λ o. IfSome o (λ line. (j : LogState) × (j.is_full ≡ g.L.Log.lacks_room (log_of c.args.ledger.now)) × (string_bytes line ≡ status_line row hub j)))
+    let log = log_of c.args.ledger.now in
+    let state = subst (λ l. IsStateOf (g.L.Log.appended l) (g.L.Log.lacks_room l) c.state.result) c.log.ensures
+    (c.state.ensures.full, c.state.ensures.bytes) in
+    subst (λ o. IfSome o (λ line. (j : LogState) × IsStateOf (g.L.Log.appended log) (g.L.Log.lacks_room log) j × (string_bytes line ≡ status_line row hub j c.args.seconds)))
     (sym c.ok.ensures.value)
     (told_some_of _ _ c.status_line.result c.status_line.ensures (λ line is.
-    (c.state.result, full, is ∙ ap (λ s. status_line row s c.state.result) c.hub.ensures)))
+    (c.state.result, state, is ∙ ap (λ s. status_line row s c.state.result c.args.seconds) c.hub.ensures)))

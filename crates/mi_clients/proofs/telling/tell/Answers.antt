@@ -9,7 +9,7 @@ use Rattle.mi_clients.specs.Input.{waiting}
 use Rattle.mi_clients.specs.ServiceLines.{line_of, told_to}
 use Rattle.mi_clients.specs.Steps.{tells}
 use Rattle.mi_clients.specs.declared.input.Input.{Input}
-use Rattle.mi_clients.proofs.InputLemmas.{unended_drop}
+use Rattle.mi_clients.proofs.InputLemmas.{unended_drop, count_line}
 use Rattle.mi_clients.proofs.StepLemmas.{makes_none, makes_kept, tells_makes}
 use Rattle.mi_clients.proofs.ServedLemmas.{owes_none}
 use Rattle.mi_clients.proofs.TellLemmas.{line_some, told_some, schema_some, tells_one_given, tells_one_asked, takes_none, takes_line, owes_passed}
@@ -47,7 +47,8 @@ returns-clause-tells g c =
       subst (λ t. Owes t old new) (sym (tells_one_given old.conn line text)) (owes_passed text old new gave.owes refl refl refl refl),
       subst (λ t. Takes t old new) (sym (tells_one_asked old.conn line text))
           (takes_line line old new may.0 (line_some line may.1) gave.owes.conn gave.owes.stream waits
-          (ap (λ (i : Input). i.is_first) gave.input ∙ c.pass.ensures.first) gave.far gave.has_lines (gave.ends ∙ c.ended_in-ends.ensures)),
+          (ap (λ (i : Input). i.is_first) gave.input ∙ c.pass.ensures.first)
+          (ap (λ (i : Input). i.lines) gave.input ∙ c.pass.ensures.lines ∙ sym (count_line old.input.lines line may.1)) gave.far gave.has_lines (gave.ends ∙ c.ended_in-ends.ensures)),
       makes_kept (tells old.conn line text ∷ []) (hub_of c.args.ledger.now) (hub_of c.args.ledger.now) (hub_of c.give.new.ledger) _ _ _
           (tells_makes old.conn line text (hub_of c.args.ledger.now) _ _ may.2 some (Keeps-refl _)) c.give.ensures.hub c.give.ensures.appended,
     )

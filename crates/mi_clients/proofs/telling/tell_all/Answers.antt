@@ -1,4 +1,4 @@
--- Without memory for the status that is told.
+-- The status is that of the journal, which lacks room afterwards just where it did before. Without memory for the status that is told.
 use Rattle.std.proofs.Common.{inr, refl}
 use Rattle.std.proofs.lemmas.Result.{on_ok_weaker}
 use Rattle.mi_clients.specs.Status.{memory_line}

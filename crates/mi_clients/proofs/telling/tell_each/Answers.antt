@@ -1,5 +1,5 @@
 -- Each connection is told what it asks itself, and the others are as they were.
-use Rattle.std.proofs.Common.{rules, ◌≡◌, ◌+◌, suc, ◌<◌, ◌≤◌, ◌++◌, [], length, sym, subst, arith}
+use Rattle.std.proofs.Common.{rules, ◌≡◌, ◌+◌, suc, ◌<◌, ◌≤◌, ◌++◌, [], length, refl, sym, subst, arith, ◌∙◌}
 use Rattle.std.proofs.KnownBytes.{Keeps-refl}
 use Rattle.std.specs.Prelude.{slice_set, slice_index_or}
 use Rattle.mi_hub.specs.Run.{HubState}
@@ -18,6 +18,7 @@ pub loop-client-init : goal.loop-client-init
 loop-client-init g c = record {
   attends = subst (λ items. Attends (ids items) (hub_of c.args.ledger.now).attached) (sym c.deref_mut-client-items.ensures.value) c.requires.attends;
   settled = c.requires.settled;
+  room = refl;
   steps = [];
   all = tt;
   so = tt;
@@ -44,6 +45,7 @@ loop-client-preserved g c =
       attends = subst (λ ks. Attends ks (hub_of c.tell.new.ledger).attached) (sym same)
           (subst (λ (s : HubState). Attends (ids row) s.attached) (sym c.in_ok-tell.ensures.hub) before.attends);
       settled = c.in_ok-tell.ensures.settled;
+      room = c.in_ok-tell.ensures.room ∙ before.room;
       steps = before.steps ++ one.0;
       all = tell_join before.steps one.0 before.all (tells_all old.conn one.0 one.1);
       so = so_join c.args.status.now (line_of c.args.schema.now) before.steps one.0 before.so one.2;

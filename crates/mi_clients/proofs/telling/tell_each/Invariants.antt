@@ -1,4 +1,4 @@
-use Rattle.std.proofs.Common.{List}
+use Rattle.std.proofs.Common.{◌≡◌, List}
 use Rattle.mi_ledger.specs.Ledger.{hub_of, log_of, IsSettled}
 use Rattle.mi_clients.specs.Client.{Takes}
 use Rattle.mi_clients.specs.Row.{ids, Attends, EachServed}
@@ -12,6 +12,7 @@ abbrev pub invariant-loop-client : goal.invariant-loop-client
 invariant-loop-client g l = record {
   attends : Attends (ids l.client-items) (hub_of l.ledger).attached;
   settled : IsSettled g.L.Log.appended g.L.Log.synced l.ledger;
+  room : g.L.Log.lacks_room (log_of l.ledger) ≡ g.L.Log.lacks_room (log_of l.fn.ledger);
   steps : List Step;
   all : AllTell steps;
   so : TellsSo l.fn.status (line_of l.fn.schema) steps;

@@ -11,4 +11,5 @@ bytes-preserved g c = record {
   stays = Keeps-trans _ _ _ c.bytes.invariant.stays c.in_ok-n.ensures.stays;
   makes_stay = c.in_ok-n.ensures.makes_stay ∙ c.bytes.invariant.makes_stay;
   room = c.in_ok-n.ensures.room ∙ c.bytes.invariant.room;
+  left = omega (arith, c.in_ok-n.ensures.left, c.bytes.invariant.left);
 }

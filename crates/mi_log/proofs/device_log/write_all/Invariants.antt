@@ -1,4 +1,4 @@
-use Rattle.std.proofs.Common.{◌≡◌, ◌-◌, ◌≤◌, length, take}
+use Rattle.std.proofs.Common.{◌≡◌, ◌-◌, ◌+◌, ◌≤◌, length, take}
 use Rattle.std.specs.Io.KnownBytes.{Appends, Keeps}
 use Rattle.mi_log.proofs.device_log.write_all.Given as goal
 
@@ -10,6 +10,7 @@ invariant-bytes g l = record {
   stays : Keeps (g.D.Device.stays l.fn.device) (g.D.Device.stays l.device);
   makes_stay : g.D.Device.makes_stay l.device ≡ g.D.Device.makes_stay l.fn.device;
   room : g.D.Device.lacks_room l.device ≡ g.D.Device.lacks_room l.fn.device;
+  left : g.D.Device.room_left l.fn.device ≤ g.D.Device.room_left l.device + l.at;
 }
 
 abbrev pub decreases-bytes : goal.decreases-bytes

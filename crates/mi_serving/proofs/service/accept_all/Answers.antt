@@ -6,7 +6,7 @@ use Rattle.std.proofs.KnownBytes.{Keeps-refl}
 use Rattle.mi_ledger.specs.Ledger.{hub_of}
 use Rattle.mi_clients.specs.Row.{ids}
 use Rattle.mi_clients.proofs.StepLemmas.{makes_none, makes_then}
-use Rattle.mi_clients.proofs.ServedLemmas.{nothing_given, none_join, joins_none, joins_then, only_none, all_only_then, only_before}
+use Rattle.mi_clients.proofs.ServedLemmas.{nothing_given, nothing_asked, none_join, quiet_join, joins_none, joins_then, only_none, all_only_then, only_before}
 use Rattle.mi_serving.proofs.service.accept_all.Goals as goal
 
 pub places-init : goal.places-init
@@ -18,6 +18,7 @@ places-init g c = record {
   settled = c.requires.settled;
   steps = [];
   none = nothing_given;
+  quiet = nothing_asked;
   joins = joins_none c.args.row.now.items;
   only = only_none (ids c.args.row.now.items);
   makes = makes_none _ _ _ (Keeps-refl _);
@@ -35,6 +36,7 @@ places-preserved g c =
       settled = c.in_ok-accept_one.ensures.settled;
       steps = before.steps ++ one.0;
       none = none_join before.steps one.0 before.none one.1;
+      quiet = quiet_join before.steps one.0 before.quiet one.5;
       joins = joins_then c.args.row.now.items c.places.row.items c.accept_one.new.row.items before.joins one.2;
       only = all_only_then before.steps one.0 (ids c.args.row.now.items) before.only
           (only_before one.0 c.args.row.now.items c.places.row.items before.joins one.4);

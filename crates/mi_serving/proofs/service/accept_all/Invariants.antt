@@ -1,7 +1,7 @@
 use Rattle.std.proofs.Common.{List, ◌≤◌}
 use Rattle.mi_serving.specs.Link.{link_fd}
 use Rattle.mi_ledger.specs.Ledger.{hub_of, log_of, IsSettled}
-use Rattle.mi_clients.specs.Steps.{Step, Makes, GivesNone}
+use Rattle.mi_clients.specs.Steps.{Step, Makes, GivesNone, AsksNone}
 use Rattle.mi_clients.specs.Row.{ids, Attends, Joins, AllOnlyAsk, SameStreams}
 use Rattle.mi_serving.specs.Turns.{AllUpTo}
 use Rattle.mi_serving.proofs.service.accept_all.Given as goal
@@ -16,6 +16,7 @@ invariant-places g l = record {
   settled : IsSettled g.L.Log.appended g.L.Log.synced l.ledger;
   steps : List Step;
   none : GivesNone steps;
+  quiet : AsksNone steps;
   joins : Joins l.fn.row.items l.row.items;
   only : AllOnlyAsk steps (ids l.fn.row.items);
   makes : Makes steps (hub_of l.fn.ledger) (hub_of l.ledger) (g.L.Log.appended (log_of l.fn.ledger)) (g.L.Log.appended (log_of l.ledger));

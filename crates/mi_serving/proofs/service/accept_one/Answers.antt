@@ -6,11 +6,11 @@ use Rattle.mi_serving.proofs.TurnLemmas.{known_after, same_after, refused_for}
 use Rattle.std.proofs.KnownBytes.{Keeps-refl}
 use Rattle.mi_clients.specs.Row.{ids}
 use Rattle.mi_clients.proofs.StepLemmas.{makes_none}
-use Rattle.mi_clients.proofs.ServedLemmas.{nothing_given, joins_none, only_none}
+use Rattle.mi_clients.proofs.ServedLemmas.{nothing_given, nothing_asked, joins_none, only_none}
 use Rattle.mi_serving.proofs.service.accept_one.Goals as goal
 
 pub returns-in-None-clause-comes : goal.returns-in-None-clause-comes
-returns-in-None-clause-comes g c = ([], nothing_given, joins_none c.args.row.now.items, makes_none _ _ _ (Keeps-refl _), only_none (ids c.args.row.now.items))
+returns-in-None-clause-comes g c = ([], nothing_given, joins_none c.args.row.now.items, makes_none _ _ _ (Keeps-refl _), only_none (ids c.args.row.now.items), nothing_asked)
 
 pub returns-in-None-clause-same : goal.returns-in-None-clause-same
 returns-in-None-clause-same g c = streams_none link_fd c.args.last.now c.args.row.now.items
