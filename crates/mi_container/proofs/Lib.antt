@@ -15,3 +15,4 @@ pub mod OpeningLemmas
 pub mod LawLemmas
 pub mod ViewLemmas
 pub mod MadeLemmas
+pub mod RestampLemmas

@@ -47,3 +47,4 @@ pub mod NewRecordLemmas
 pub mod OldPlaceLemmas
 pub mod PutCallLemmas
 pub mod WalkLemmas
+pub mod RestampLemmas
