@@ -16,3 +16,4 @@ pub mod LawLemmas
 pub mod ViewLemmas
 pub mod MadeLemmas
 pub mod RestampLemmas
+pub mod RestoreLemmas

@@ -1,8 +1,11 @@
 -- A container that is restored from a table: its rows come in by their ids, and then each index is put in the order of its list.
 --     restamped_in, restamped_all      rows get other stamps in one index
-use Rattle.std.specs.Prelude.{ℕ, List, [], ◌∷◌, slice_set, suc}
-use Rattle.mi_container.specs.Data.{Content, Data, content_of}
-use Rattle.mi_container.specs.Changes.{with_content}
+--     moved_all      rows go to the end of the list of one index, one after another
+--     SameBut      only one index may have changed
+use Rattle.std.specs.Prelude.{◌≡◌, ◌≢◌, ℕ, List, [], ◌∷◌, map, length, slice_set, suc}
+use Rattle.std.specs.declared.option.Option.TheVariants.{None}
+use Rattle.mi_container.specs.Data.{Content, Data, has_stamps, order_at, content_of, stamp_of, plain_row}
+use Rattle.mi_container.specs.Changes.{with_content, relocated_in}
 
 -- another stamp in the index of number x
 abbrev pub with_stamp : ℕ → ℕ → Content → Content
@@ -16,3 +19,19 @@ restamped_in x e a d = record d { rows = with_content e (with_stamp x a (content
 abbrev pub restamped_all : ℕ → List ℕ → ℕ → Data → Data
 restamped_all x [] a d = d
 restamped_all x (e ∷ ids) a d = restamped_all x ids (suc a) (restamped_in x e a d)
+
+-- each goes to the end
+abbrev pub moved_all : ℕ → List ℕ → Data → Data
+moved_all x [] d = d
+moved_all x (e ∷ ids) d = moved_all x ids (relocated_in x e None d)
+
+-- all but the index of number x is the same
+pub record SameBut (x : ℕ) (d n : Data) : Type 0 where
+  pub rows : map plain_row n.rows ≡ map plain_row d.rows
+  pub next : n.next ≡ d.next
+  pub arrivals : n.arrivals ≡ d.arrivals
+  pub kept : n.kept ≡ d.kept
+  pub long : length n.orders ≡ length d.orders
+  pub orders : (y : ℕ) → y ≢ x → order_at n.orders y ≡ order_at d.orders y
+  pub stamped : has_stamps (order_at n.orders x) ≡ has_stamps (order_at d.orders x)
+  pub stamps : (y b : ℕ) → y ≢ x → stamp_of n.rows y b ≡ stamp_of d.rows y b

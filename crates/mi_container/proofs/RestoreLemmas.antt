@@ -1,0 +1,410 @@
+-- Rows that get rising stamps in one index stand there in the order of their list, and rows that go to the end of a list one
+-- after another stand in it in their order. Nothing else changes.
+use Rattle.std.proofs.Common.{◌≡◌, ◌≢◌, ℕ, ◌+◌, ◌<◌, ◌≤◌, zero, suc, true, false, cond, ◌⊎◌, inl, inr, List}
+use Rattle.std.proofs.Common.{[], ◌∷◌, ◌++◌, map, length, get_or, set, refl, ap, sym, ◌∙◌, subst, arith}
+use Rattle.std.specs.Prelude.{◌==◌}
+use Rattle.std.specs.List.{AllByRecursion}
+use Rattle.std.specs.Ordering.{on, nat_cmp}
+use Rattle.std.specs.Cmp.{on_total}
+use Rattle.std.specs.Option.{is_some}
+use Rattle.std.specs.Map.{lookup}
+use Rattle.std.proofs.lemmas.Cmp.{nat_cmp_total}
+use Rattle.std.proofs.lemmas.Bool.{false≢true}
+use Rattle.std.proofs.lemmas.Bool.Decides.{eqb_tells, nat_tests}
+use Rattle.std.proofs.lemmas.List.{length-set, get_or-set_same, get_or-set_other, set-set, append-nil, append_assoc}
+use Rattle.std.specs.declared.cmp.Ordering.TheVariants.{Less}
+use Rattle.std.specs.declared.option.Option.TheVariants.{None, Some}
+use Rattle.mi_catalog.specs.Shape.{Shape}
+use Rattle.mi_value.specs.declared.value.Value.{Value}
+use Rattle.mi_model.specs.Table.{Table, ListsEach, Rise, times, has, list_of}
+use Rattle.mi_model.specs.View.{sorted}
+use Rattle.mi_model.specs.Change.{without, relocated}
+use Rattle.mi_model.proofs.StampLaws.{Rises, rises_once, times_first}
+use Rattle.mi_model.proofs.TableLaws.{all_get}
+use Rattle.mi_model.proofs.ViewLaws.{Lacks}
+use Rattle.mi_container.specs.Data.{Content, Node, Order, Data, has_stamps, node_of, content_in, content_of, stamp_of, ids_of}
+use Rattle.mi_container.specs.Data.{ids_by_stamp, listed, lists_from, order_at, plain_row, as_table, StampFits, StampsFit, Climbs, IsData}
+use Rattle.mi_container.specs.Data.Order.{ById, ByKey, ByHash, Listed}
+use Rattle.mi_container.specs.Changes.{with_content, in_order, moved_order, relocated_in}
+use Rattle.mi_container.specs.Fits.{IsThere}
+use Rattle.mi_container.specs.Restore.{with_stamp, restamped_in, restamped_all, moved_all, SameBut}
+use Rattle.mi_container.proofs.PairLemmas.{is_itself, is_other}
+use Rattle.mi_container.proofs.SequenceLemmas.{Once, drop_is, drop_isnt, without_lacks}
+use Rattle.mi_container.proofs.ContentLemmas.{node_with, node_beside}
+use Rattle.mi_container.proofs.InvariantLemmas.{there_has, has_there, each_there, each_once, stamp_there, stamps_long}
+use Rattle.mi_container.proofs.ViewLemmas.{stamps_rise_in}
+use Rattle.mi_container.proofs.RestampLemmas.{rows_plain, there_still, there_was, stamp_beside, stamp_here, stamp_other, long_lists}
+
+all_map : {P Q : ℕ → Type 0} → ((b : ℕ) → P b → Q b) → (ids : List ℕ) → AllByRecursion P ids → AllByRecursion Q ids
+all_map f [] all = tt
+all_map f (b ∷ ids) all = (f b all.0, all_map f ids all.1)
+
+less_is : (a b : ℕ) → a < b → nat_cmp a b ≡ Less
+less_is a b l = grind (arith, nat_tests)
+
+-- What is the same
+
+pub same_itself : (x : ℕ) (d : Data) → SameBut x d d
+same_itself x d = record {
+  rows = refl; next = refl; arrivals = refl; kept = refl; long = refl;
+  orders = λ y ne. refl;
+  stamped = refl;
+  stamps = λ y b ne. refl;
+}
+
+pub same_both : (x : ℕ) (d n o : Data) → SameBut x d n → SameBut x n o → SameBut x d o
+same_both x d n o f g = record {
+  rows = g.rows ∙ f.rows;
+  next = g.next ∙ f.next;
+  arrivals = g.arrivals ∙ f.arrivals;
+  kept = g.kept ∙ f.kept;
+  long = g.long ∙ f.long;
+  orders = λ y ne. g.orders y ne ∙ f.orders y ne;
+  stamped = g.stamped ∙ f.stamped;
+  stamps = λ y b ne. g.stamps y b ne ∙ f.stamps y b ne;
+}
+
+plain_ids : (rows : List (ℕ × Node)) → map (λ r. r.0) (map plain_row rows) ≡ ids_of rows
+plain_ids [] = refl
+plain_ids (r ∷ rows) = ap (λ q. r.0 ∷ q) (plain_ids rows)
+
+pub ids_by_rows : (d n : Data) → map plain_row n.rows ≡ map plain_row d.rows → ids_of n.rows ≡ ids_of d.rows
+ids_by_rows d n same = sym (plain_ids n.rows) ∙ ap (map (λ r. r.0)) same ∙ plain_ids d.rows
+
+pub has_by_rows : (d n : Data) → map plain_row n.rows ≡ map plain_row d.rows → (b : ℕ) → has (as_table n) b ≡ has (as_table d) b
+has_by_rows d n same b = ap (λ rows. is_some (lookup (λ k. k == b) rows)) same
+
+pub there_by_rows : (d n : Data) → map plain_row n.rows ≡ map plain_row d.rows → (b : ℕ) → IsThere n.rows b → IsThere d.rows b
+there_by_rows d n same b there = there_has d b (sym (has_by_rows d n same b) ∙ has_there n b there)
+
+-- the list of another index is the same
+listed_same : (y : ℕ) (rows other : List (ℕ × Node)) (o : Order) → ids_of other ≡ ids_of rows
+    → ((b : ℕ) → stamp_of other y b ≡ stamp_of rows y b) → listed y other o ≡ listed y rows o
+listed_same y rows other ById ids stamps = ids
+listed_same y rows other (ByKey ps) ids stamps = λ i. sorted (λ a b. nat_cmp (stamps a i) (stamps b i)) (ids i)
+listed_same y rows other (ByHash ps) ids stamps = λ i. sorted (λ a b. nat_cmp (stamps a i) (stamps b i)) (ids i)
+listed_same y rows other (Listed l) ids stamps = refl
+
+list_from : (y x : ℕ) (rows : List (ℕ × Node)) (os : List Order) → x < length os → get_or (lists_from y rows os) x [] ≡ listed (y + x) rows (get_or os x ById)
+list_from y x rows [] l = absurd (omega arith)
+list_from y zero rows (o ∷ os) l = let same : y ≡ y + 0 = omega arith in ap (λ n. listed n rows o) same
+list_from y (suc x) rows (o ∷ os) l =
+    let next : suc y + x ≡ y + suc x = omega arith in list_from (suc y) x rows os (omega arith) ∙ ap (λ n. listed n rows (get_or os x ById)) next
+
+pub list_is : (d : Data) (x : ℕ) → x < length d.orders → list_of (as_table d) x ≡ listed x d.rows (order_at d.orders x)
+list_is d x l = let same : 0 + x ≡ x = omega arith in list_from 0 x d.rows d.orders l ∙ ap (λ n. listed n d.rows (get_or d.orders x ById)) same
+
+pub list_beside : (x : ℕ) (d n : Data) → SameBut x d n → (y : ℕ) → y ≢ x → y < length d.orders → list_of (as_table n) y ≡ list_of (as_table d) y
+list_beside x d n same y ne l =
+    let long = same.long in
+    list_is n y (omega (arith, long, l)) ∙ ap (listed y n.rows) (same.orders y ne)
+    ∙ listed_same y d.rows n.rows (order_at d.orders y) (ids_by_rows d n same.rows) (λ b. same.stamps y b ne) ∙ sym (list_is d y l)
+
+-- Stamps
+
+-- each row has a stamp there
+abbrev pub Long : ℕ → Data → Type 0
+Long x d = (b : ℕ) → IsThere d.rows b → x < length (content_of d.rows b).stamps
+
+module _ (x : ℕ) where
+  same_one : (e a : ℕ) (d : Data) → IsThere d.rows e → SameBut x d (restamped_in x e a d)
+  same_one e a d there = record {
+    rows = rows_plain x e a d; next = refl; arrivals = refl; kept = refl; long = refl;
+    orders = λ y ne. refl;
+    stamped = refl;
+    stamps = λ y b ne. stamp_other x e a d there y b ne;
+  }
+
+  long_one : (e a : ℕ) (d : Data) → IsThere d.rows e → Long x d → Long x (restamped_in x e a d)
+  long_one e a d there long b here =
+      elim (eqb_tells b e) [
+        | inl same ↦ subst (λ q. x < length (content_of (restamped_in x e a d).rows q).stamps) (sym same.1)
+            (subst (λ (c : Content). x < length c.stamps) (sym (ap content_in (node_with e (with_stamp x a (content_of d.rows e)) d.rows there.0 there.1)))
+            (subst (λ n. x < n) (sym (length-set (content_of d.rows e).stamps x a)) (long e there)))
+        | inr other ↦ subst (λ (c : Content). x < length c.stamps) (sym (ap content_in (node_beside b e (with_stamp x a (content_of d.rows e)) d.rows other.1)))
+            (long b (there_was x e a d there b here))
+      ]
+
+  there_on : (e a : ℕ) (d : Data) (ids : List ℕ) → AllByRecursion (IsThere d.rows) ids → AllByRecursion (IsThere (restamped_in x e a d).rows) ids
+  there_on e a d ids all = all_map {P = IsThere d.rows} {Q = IsThere (restamped_in x e a d).rows} (λ b h. there_still x e a d b h) ids all
+
+  pub same_all : (ids : List ℕ) (a : ℕ) (d : Data) → AllByRecursion (IsThere d.rows) ids → SameBut x d (restamped_all x ids a d)
+  same_all [] a d all = same_itself x d
+  same_all (e ∷ ids) a d all =
+      same_both x d (restamped_in x e a d) (restamped_all x ids (suc a) (restamped_in x e a d)) (same_one e a d all.0)
+      (same_all ids (suc a) (restamped_in x e a d) (there_on e a d ids all.1))
+
+  -- other rows keep their stamps
+  beside_all : (ids : List ℕ) (a : ℕ) (d : Data) (b : ℕ) → Lacks b ids → stamp_of (restamped_all x ids a d).rows x b ≡ stamp_of d.rows x b
+  beside_all [] a d b lacks = refl
+  beside_all (e ∷ ids) a d b lacks = beside_all ids (suc a) (restamped_in x e a d) b lacks.1 ∙ stamp_beside x e a d x b (λ same. lacks.0 (sym same))
+
+  head_all : (e : ℕ) (ids : List ℕ) (a : ℕ) (d : Data) → Lacks e ids → IsThere d.rows e → Long x d
+      → stamp_of (restamped_all x (e ∷ ids) a d).rows x e ≡ a
+  head_all e ids a d lacks there long = beside_all ids (suc a) (restamped_in x e a d) e lacks ∙ stamp_here x e a d there (long e there)
+
+  at_least : (ids : List ℕ) (a : ℕ) (d : Data) → Once ids → AllByRecursion (IsThere d.rows) ids → Long x d
+      → AllByRecursion (λ b. a ≤ stamp_of (restamped_all x ids a d).rows x b) ids
+  at_least [] a d once all long = tt
+  at_least (e ∷ ids) a d once all long = (
+    (let h = head_all e ids a d once.0 all.0 long in omega (arith, h)),
+    all_map {P = λ b. suc a ≤ stamp_of (restamped_all x (e ∷ ids) a d).rows x b} {Q = λ b. a ≤ stamp_of (restamped_all x (e ∷ ids) a d).rows x b}
+        (λ b l. omega (arith, l)) ids
+        (at_least ids (suc a) (restamped_in x e a d) once.1 (there_on e a d ids all.1) (long_one e a d all.0 long)),
+  )
+
+  -- their stamps rise
+  rises_all : (ids : List ℕ) (a : ℕ) (d : Data) → Once ids → AllByRecursion (IsThere d.rows) ids → Long x d
+      → Rises (on (stamp_of (restamped_all x ids a d).rows x) nat_cmp) ids
+  rises_all [] a d once all long = tt
+  rises_all (e ∷ ids) a d once all long = (
+    all_map {P = λ b. suc a ≤ stamp_of (restamped_all x (e ∷ ids) a d).rows x b}
+        {Q = λ b. on (stamp_of (restamped_all x (e ∷ ids) a d).rows x) nat_cmp e b ≡ Less}
+        (λ b l. less_is (stamp_of (restamped_all x (e ∷ ids) a d).rows x e) (stamp_of (restamped_all x (e ∷ ids) a d).rows x b)
+        (let h = head_all e ids a d once.0 all.0 long in omega (arith, h, l))) ids
+        (at_least ids (suc a) (restamped_in x e a d) once.1 (there_on e a d ids all.1) (long_one e a d all.0 long)),
+    rises_all ids (suc a) (restamped_in x e a d) once.1 (there_on e a d ids all.1) (long_one e a d all.0 long),
+  )
+
+  -- a stamp is one that was given, or the row's own
+  given_all : (ids : List ℕ) (a : ℕ) (d : Data) → AllByRecursion (IsThere d.rows) ids → Long x d → (b : ℕ)
+      → (stamp_of (restamped_all x ids a d).rows x b < a + length ids) ⊎ ((times b ids ≡ 0) × (stamp_of (restamped_all x ids a d).rows x b ≡ stamp_of d.rows x b))
+  given_all [] a d all long b = inr (refl, refl)
+  given_all (e ∷ ids) a d all long b =
+      elim (given_all ids (suc a) (restamped_in x e a d) (there_on e a d ids all.1) (long_one e a d all.0 long) b) [
+        | inl l ↦ inl (omega (arith, l))
+        | inr own ↦
+            elim (eqb_tells e b) [
+              | inl same ↦ inl (let h = own.1 in let g = ap (λ q. stamp_of (restamped_in x e a d).rows x q) (sym same.1) ∙ stamp_here x e a d all.0 (long e all.0) in
+                  omega (arith, h, g))
+              | inr other ↦ inr (
+                  (let n : cond {A = ℕ} (e == b) 1 0 ≡ 0 = ap (λ t. cond {A = ℕ} t 1 0) other.0 in let z = own.0 in omega (arith, n, z)),
+                  own.1 ∙ stamp_beside x e a d x b (λ same. other.1 (sym same)),
+                )
+            ]
+      ]
+
+  pub restamped_more : (ids : List ℕ) (e a : ℕ) (d : Data) → restamped_all x (ids ++ e ∷ []) a d ≡ restamped_in x e (a + length ids) (restamped_all x ids a d)
+  restamped_more [] e a d = let same : a ≡ a + 0 = omega arith in ap (λ n. restamped_in x e n d) same
+  restamped_more (b ∷ ids) e a d =
+      let same : suc a + length ids ≡ a + suc (length ids) = omega arith in
+      restamped_more ids e (suc a) (restamped_in x b a d) ∙ ap (λ n. restamped_in x e n (restamped_all x ids (suc a) (restamped_in x b a d))) same
+
+  -- what is asked of stamps before the first row gets another: no row has one of those that are given
+  abbrev pub High : ℕ → Data → Type 0
+  High n d = (b : ℕ) → IsThere d.rows b → n ≤ stamp_of d.rows x b
+
+  -- then the next stamp is free
+  pub next_free : (ids : List ℕ) (n : ℕ) (d : Data) → AllByRecursion (IsThere d.rows) ids → Long x d → High n d → length ids < n
+      → (b : ℕ) → IsThere (restamped_all x ids 0 d).rows b → stamp_of (restamped_all x ids 0 d).rows x b ≢ length ids
+  next_free ids n d all long high l b there same =
+      elim (given_all ids 0 d all long b) [
+        | inl given ↦ absurd (omega (arith, given, same))
+        | inr own ↦
+            let h = high b (there_by_rows d (restamped_all x ids 0 d) (same_all ids 0 d all).rows b there) in
+            let g = own.1 in absurd (omega (arith, h, g, same, l))
+      ]
+
+  -- and in the end all rows have low ones
+  pub all_low : (ids : List ℕ) (d : Data) → ListsEach (as_table d) ids → Long x d
+      → (b : ℕ) → IsThere (restamped_all x ids 0 d).rows b → stamp_of (restamped_all x ids 0 d).rows x b < length ids
+  all_low ids d each long b there =
+      let all = each_there d ids each in
+      elim (given_all ids 0 d all long b) [
+        | inl given ↦ omega (arith, given)
+        | inr own ↦
+            let was = there_by_rows d (restamped_all x ids 0 d) (same_all ids 0 d all).rows b there in
+            let n : times b ids ≡ 1 = each b ∙ ap (λ t. cond {A = ℕ} t 1 0) (has_there d b was) in
+            let z = own.0 in absurd (omega (arith, n, z))
+      ]
+
+pub long_of : (s : Shape) (d : Data) → IsData s d → (x : ℕ) → x < length d.orders → Long x d
+long_of s d is x l b there = let long = stamps_long s d is b there in omega (arith, long, l)
+
+one_stamped : (o : Order) (x : ℕ) (rows : List (ℕ × Node)) → has_stamps o ≡ true → listed x rows o ≡ ids_by_stamp x rows
+one_stamped ById x rows has_ = absurd (false≢true has_)
+one_stamped (ByKey ps) x rows has_ = refl
+one_stamped (ByHash ps) x rows has_ = refl
+one_stamped (Listed ids) x rows has_ = absurd (false≢true has_)
+
+each_by_rows : (d n : Data) → map plain_row n.rows ≡ map plain_row d.rows → (ids : List ℕ) → ListsEach (as_table d) ids → ListsEach (as_table n) ids
+each_by_rows d n same ids each e = each e ∙ ap (λ b. cond {A = ℕ} b 1 0) (sym (has_by_rows d n same e))
+
+-- the index stands in the order of the list
+pub restamped_list : (s : Shape) (x : ℕ) (ids : List ℕ) (d : Data) → IsData s d → IsData s (restamped_all x ids 0 d) → x < length d.orders
+    → has_stamps (order_at d.orders x) ≡ true → ListsEach (as_table d) ids → list_of (as_table (restamped_all x ids 0 d)) x ≡ ids
+restamped_list s x ids d is after l has_ each =
+    let n : Data = restamped_all x ids 0 d in
+    let all = each_there d ids each in
+    let same : SameBut x d n = same_all x ids 0 d all in
+    let long = same.long in
+    let few : x < length n.orders = omega (arith, long, l) in
+    let has_now : has_stamps (order_at n.orders x) ≡ true = same.stamped ∙ has_ in
+    let list : list_of (as_table n) x ≡ ids_by_stamp x n.rows = list_is n x few ∙ one_stamped (order_at n.orders x) x n.rows has_now in
+    let whole : ListsEach (as_table n) (list_of (as_table n) x) =
+    all_get (ListsEach (as_table n)) (as_table n).lists x after.table.complete (let f = long_lists 0 n.rows n.orders in omega (arith, f, few)) in
+    let mine : ListsEach (as_table n) (ids_by_stamp x n.rows) = subst (ListsEach (as_table n)) list whole in
+    let given : ListsEach (as_table n) ids = each_by_rows d n same.rows ids each in
+    list ∙ rises_once (on (stamp_of n.rows x) nat_cmp) (on_total (stamp_of n.rows x) nat_cmp_total) (ids_by_stamp x n.rows) ids
+    (stamps_rise_in s n after x few has_now) (rises_all x ids 0 d (each_once (as_table d) ids each) all (long_of s d is x l))
+    (λ e. mine e ∙ sym (given e))
+
+-- The list of a sequenced index
+
+times_lacks : (e : ℕ) (ids : List ℕ) → Lacks e ids → times e ids ≡ 0
+times_lacks e [] lacks = refl
+times_lacks e (a ∷ ids) lacks =
+    let none : cond {A = ℕ} (a == e) 1 0 ≡ 0 = ap (λ b. cond {A = ℕ} b 1 0) (is_other a e lacks.0) in
+    let rest = times_lacks e ids lacks.1 in omega (arith, none, rest)
+
+lacks_push : (b e : ℕ) (ids : List ℕ) → e ≢ b → Lacks b ids → Lacks b (ids ++ e ∷ [])
+lacks_push b e [] ne lacks = (ne, tt)
+lacks_push b e (a ∷ ids) ne lacks = (lacks.0, lacks_push b e ids ne lacks.1)
+
+without_append : (e : ℕ) (xs ys : List ℕ) → without e (xs ++ ys) ≡ without e xs ++ without e ys
+without_append e [] ys = refl
+without_append e (a ∷ xs) ys =
+    elim (eqb_tells a e) [
+      | inl same ↦ drop_is e a (xs ++ ys) same.0 ∙ without_append e xs ys ∙ ap (λ q. q ++ without e ys) (sym (drop_is e a xs same.0))
+      | inr other ↦ drop_isnt e a (xs ++ ys) other.0 ∙ ap (λ q. a ∷ q) (without_append e xs ys) ∙ ap (λ q. q ++ without e ys) (sym (drop_isnt e a xs other.0))
+    ]
+
+without_times : (b e : ℕ) (ids : List ℕ) → times b (without e ids) ≡ cond (e == b) 0 (times b ids)
+without_times b e [] = elim (e == b) as (λ t. 0 ≡ cond {A = ℕ} t 0 0) [ true ↦ refl | false ↦ refl ]
+without_times b e (a ∷ ids) =
+    elim (eqb_tells e b) [
+      | inl same ↦
+          elim (eqb_tells a e) [
+            | inl it ↦ ap (times b) (drop_is e a ids it.0) ∙ without_times b e ids
+                ∙ ap (λ t. cond t 0 (times b ids)) same.0 ∙ sym (ap (λ t. cond t 0 (times b (a ∷ ids))) same.0)
+            | inr isnt ↦ ap (times b) (drop_isnt e a ids isnt.0)
+                ∙ (let rest = without_times b e ids ∙ ap (λ t. cond t 0 (times b ids)) same.0 in
+                let none : cond {A = ℕ} (a == b) 1 0 ≡ 0 = ap (λ t. cond {A = ℕ} t 1 0) (is_other a b (λ h. isnt.1 (h ∙ sym same.1))) in
+                let all : cond {A = ℕ} (a == b) 1 0 + times b (without e ids) ≡ 0 = omega (arith, rest, none) in all)
+                ∙ sym (ap (λ t. cond t 0 (times b (a ∷ ids))) same.0)
+          ]
+      | inr other ↦
+          elim (eqb_tells a e) [
+            | inl it ↦ ap (times b) (drop_is e a ids it.0) ∙ without_times b e ids ∙ ap (λ t. cond t 0 (times b ids)) other.0
+                ∙ (let none : cond {A = ℕ} (a == b) 1 0 ≡ 0 = ap (λ t. cond {A = ℕ} t 1 0) (is_other a b (λ h. other.1 (sym it.1 ∙ h))) in
+                let all : times b ids ≡ cond {A = ℕ} (a == b) 1 0 + times b ids = omega (arith, none) in all)
+                ∙ sym (ap (λ t. cond t 0 (times b (a ∷ ids))) other.0)
+            | inr isnt ↦ ap (times b) (drop_isnt e a ids isnt.0)
+                ∙ ap (λ n. cond {A = ℕ} (a == b) 1 0 + n) (without_times b e ids ∙ ap (λ t. cond t 0 (times b ids)) other.0)
+                ∙ sym (ap (λ t. cond t 0 (times b (a ∷ ids))) other.0)
+          ]
+    ]
+
+-- each goes to the end of a list
+abbrev pub all_last : List ℕ → List ℕ → List ℕ
+all_last [] l = l
+all_last (e ∷ ids) l = all_last ids (without e l ++ e ∷ [])
+
+all_last_is : (ids l done : List ℕ) → Once ids → ((b : ℕ) → times b l ≡ times b ids) → ((b : ℕ) → 0 < times b ids → Lacks b done)
+    → all_last ids (l ++ done) ≡ done ++ ids
+all_last_is [] [] done once same apart = sym (append-nil done)
+all_last_is [] (a ∷ l) done once same apart = absurd (let n : times a (a ∷ l) ≡ 0 = same a in let p = times_first a l in omega (arith, n, p))
+all_last_is (e ∷ ids) l done once same apart =
+    let step : without e (l ++ done) ++ e ∷ [] ≡ without e l ++ (done ++ e ∷ []) =
+    ap (λ q. q ++ e ∷ []) (without_append e l done ∙ ap (λ q. without e l ++ q) (without_lacks e done (apart e (times_first e ids))))
+    ∙ append_assoc (without e l) done (e ∷ []) in
+    let none : times e ids ≡ 0 = times_lacks e ids once.0 in
+    ap (all_last ids) step
+    ∙ all_last_is ids (without e l) (done ++ e ∷ []) once.1
+    (λ b. without_times b e l ∙ elim (eqb_tells e b) [
+      | inl it ↦ ap (λ t. cond t 0 (times b l)) it.0 ∙ sym (ap (λ q. times q ids) (sym it.1) ∙ none)
+      | inr isnt ↦ ap (λ t. cond t 0 (times b l)) isnt.0
+          ∙ (let h : times b l ≡ cond {A = ℕ} (e == b) 1 0 + times b ids = same b in
+          let z : cond {A = ℕ} (e == b) 1 0 ≡ 0 = ap (λ t. cond {A = ℕ} t 1 0) isnt.0 in
+          let q : times b l ≡ times b ids = omega (arith, h, z) in q)
+    ])
+    (λ b some. lacks_push b e done (λ it. absurd (let z : times b ids ≡ 0 = ap (λ q. times q ids) (sym it) ∙ none in omega (arith, z, some)))
+    (apart b (omega (arith, some))))
+    ∙ append_assoc done (e ∷ []) ids
+
+one_has : (f : List ℕ → List ℕ) (o : Order) → has_stamps (in_order f o) ≡ has_stamps o
+one_has f ById = refl
+one_has f (ByKey ps) = refl
+one_has f (ByHash ps) = refl
+one_has f (Listed l) = refl
+
+module _ (x : ℕ) where
+  same_move : (e : ℕ) (d : Data) → x < length d.orders → SameBut x d (relocated_in x e None d)
+  same_move e d l = record {
+    rows = refl; next = refl; arrivals = refl; kept = refl;
+    long = length-set d.orders x (in_order (relocated None e) (order_at d.orders x));
+    orders = λ y ne. get_or-set_other d.orders x y (in_order (relocated None e) (order_at d.orders x)) ById ne;
+    stamped = ap has_stamps (get_or-set_same d.orders x (in_order (relocated None e) (order_at d.orders x)) ById l) ∙ one_has (relocated None e) (order_at d.orders x);
+    stamps = λ y b ne. refl;
+  }
+
+  few_moved : (e : ℕ) (d : Data) → x < length d.orders → x < length (relocated_in x e None d).orders
+  few_moved e d l = subst (λ n. x < n) (sym (length-set d.orders x (in_order (relocated None e) (order_at d.orders x)))) l
+
+  pub same_moved : (ids : List ℕ) (d : Data) → x < length d.orders → SameBut x d (moved_all x ids d)
+  same_moved [] d l = same_itself x d
+  same_moved (e ∷ ids) d l =
+      same_both x d (relocated_in x e None d) (moved_all x ids (relocated_in x e None d)) (same_move e d l)
+      (same_moved ids (relocated_in x e None d) (few_moved e d l))
+
+  moved_order_is : (ids l : List ℕ) (d : Data) → x < length d.orders → order_at d.orders x ≡ Listed l
+      → order_at (moved_all x ids d).orders x ≡ Listed (all_last ids l)
+  moved_order_is [] l d few is = is
+  moved_order_is (e ∷ ids) l d few is =
+      moved_order_is ids (without e l ++ e ∷ []) (relocated_in x e None d) (few_moved e d few)
+      (get_or-set_same d.orders x (in_order (relocated None e) (order_at d.orders x)) ById few ∙ ap (in_order (relocated None e)) is)
+
+  pub moved_more : (ids : List ℕ) (e : ℕ) (d : Data) → moved_all x (ids ++ e ∷ []) d ≡ relocated_in x e None (moved_all x ids d)
+  moved_more [] e d = refl
+  moved_more (b ∷ ids) e d = moved_more ids e (relocated_in x b None d)
+
+-- the list of the index is the given one
+pub moved_list : (s : Shape) (x : ℕ) (ids l : List ℕ) (d : Data) → IsData s d → x < length d.orders → order_at d.orders x ≡ Listed l
+    → ListsEach (as_table d) ids → list_of (as_table (moved_all x ids d)) x ≡ ids
+moved_list s x ids l d is few listed_ each =
+    let n : Data = moved_all x ids d in
+    let long = (same_moved x ids d few).long in
+    let whole : ListsEach (as_table d) (list_of (as_table d) x) =
+    all_get (ListsEach (as_table d)) (as_table d).lists x is.table.complete (let f = long_lists 0 d.rows d.orders in omega (arith, f, few)) in
+    let mine : ListsEach (as_table d) l = subst (ListsEach (as_table d)) (list_is d x few ∙ ap (listed x d.rows) listed_) whole in
+    list_is n x (omega (arith, long, few)) ∙ ap (listed x n.rows) (moved_order_is x ids l d few listed_)
+    ∙ ap (all_last ids) (sym (append-nil l))
+    ∙ all_last_is ids l [] (each_once (as_table d) ids each) (λ b. mine b ∙ sym (each b)) (λ b some. tt)
+
+-- Counters
+
+fits_low : (old new : ℕ) (os : List Order) (stamps : List ℕ) → StampsFit old os stamps
+    → ((x : ℕ) → has_stamps (get_or os x ById) ≡ true → get_or stamps x 0 < new) → StampsFit new os stamps
+fits_low old new [] [] fit low = tt
+fits_low old new [] (a ∷ stamps) fit low = absurd fit
+fits_low old new (o ∷ os) [] fit low = absurd fit
+fits_low old new (o ∷ os) (a ∷ stamps) fit low = (one_low o fit.0 (low 0), fits_low old new os stamps fit.1 (λ x h. low (suc x) h))
+  where
+    one_low : (o : Order) → StampFits old o a → (has_stamps o ≡ true → a < new) → StampFits new o a
+    one_low ById f l = f
+    one_low (ByKey ps) f l = l refl
+    one_low (ByHash ps) f l = l refl
+    one_low (Listed ids) f l = f
+
+-- every stamp is below that count
+abbrev pub AllLow : ℕ → Data → Type 0
+AllLow n d = (x b : ℕ) → has_stamps (order_at d.orders x) ≡ true → IsThere d.rows b → stamp_of d.rows x b < n
+
+-- other counters that are beyond the ids and the stamps
+pub is_data_counted : (s : Shape) (d : Data) (a n : ℕ) → IsData s d → d.kept ≡ [] → Rise a (map plain_row d.rows) → AllLow n d
+    → IsData s (record d { next = a; arrivals = n })
+is_data_counted s d a n is none_kept rise low = record {
+  table = record { ordered = rise; one_each = is.table.one_each; complete = is.table.complete };
+  unique_keys = is.unique_keys;
+  kinds = is.kinds;
+  stamped = λ e k h. fits_low d.arrivals n d.orders k.content.stamps (is.stamped e k h)
+      (λ x has_. subst (λ q. q < n) (stamp_there d.rows x e (k, h)) (low x e has_ (k, h)));
+  apart = is.apart;
+  names = is.names;
+  kept = subst (Climbs a) (sym none_kept) tt;
+  gone = is.gone;
+}
+
+pub rise_more : (a n : ℕ) (rows : List (ℕ × List Value)) → a ≤ n → Rise a rows → Rise n rows
+rise_more a n [] l up = tt
+rise_more a n (r ∷ rows) l up = (let f = up.0 in omega (arith, f, l), up.1, rise_more a n rows l up.2)
