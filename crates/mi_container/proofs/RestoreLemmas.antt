@@ -1,7 +1,7 @@
 -- Rows that get rising stamps in one index stand there in the order of their list, and rows that go to the end of a list one
 -- after another stand in it in their order. Nothing else changes.
 use Rattle.std.proofs.Common.{◌≡◌, ◌≢◌, ℕ, ◌+◌, ◌<◌, ◌≤◌, zero, suc, true, false, cond, ◌⊎◌, inl, inr, List}
-use Rattle.std.proofs.Common.{[], ◌∷◌, ◌++◌, map, length, get_or, set, refl, ap, sym, ◌∙◌, subst, arith}
+use Rattle.std.proofs.Common.{[], ◌∷◌, ◌++◌, map, length, get_or, set, take, refl, ap, sym, ◌∙◌, subst, arith}
 use Rattle.std.specs.Prelude.{◌==◌}
 use Rattle.std.specs.List.{AllByRecursion}
 use Rattle.std.specs.Ordering.{on, nat_cmp}
@@ -11,7 +11,7 @@ use Rattle.std.specs.Map.{lookup}
 use Rattle.std.proofs.lemmas.Cmp.{nat_cmp_total}
 use Rattle.std.proofs.lemmas.Bool.{false≢true}
 use Rattle.std.proofs.lemmas.Bool.Decides.{eqb_tells, nat_tests}
-use Rattle.std.proofs.lemmas.List.{length-set, get_or-set_same, get_or-set_other, set-set, append-nil, append_assoc}
+use Rattle.std.proofs.lemmas.List.{length-set, get_or-set_same, get_or-set_other, length-take-le, take_more, append-nil, append_assoc}
 use Rattle.std.specs.declared.cmp.Ordering.TheVariants.{Less}
 use Rattle.std.specs.declared.option.Option.TheVariants.{None, Some}
 use Rattle.mi_catalog.specs.Shape.{Shape}
@@ -27,7 +27,7 @@ use Rattle.mi_container.specs.Data.{ids_by_stamp, listed, lists_from, order_at, 
 use Rattle.mi_container.specs.Data.Order.{ById, ByKey, ByHash, Listed}
 use Rattle.mi_container.specs.Changes.{with_content, in_order, moved_order, relocated_in}
 use Rattle.mi_container.specs.Fits.{IsThere}
-use Rattle.mi_container.specs.Restore.{with_stamp, restamped_in, restamped_all, moved_all, SameBut}
+use Rattle.mi_container.specs.Restore.{with_stamp, restamped_in, restamped_all, moved_all, High, Low, SameBut}
 use Rattle.mi_container.proofs.PairLemmas.{is_itself, is_other}
 use Rattle.mi_container.proofs.SequenceLemmas.{Once, drop_is, drop_isnt, without_lacks}
 use Rattle.mi_container.proofs.ContentLemmas.{node_with, node_beside}
@@ -190,12 +190,8 @@ module _ (x : ℕ) where
       let same : suc a + length ids ≡ a + suc (length ids) = omega arith in
       restamped_more ids e (suc a) (restamped_in x b a d) ∙ ap (λ n. restamped_in x e n (restamped_all x ids (suc a) (restamped_in x b a d))) same
 
-  -- what is asked of stamps before the first row gets another: no row has one of those that are given
-  abbrev pub High : ℕ → Data → Type 0
-  High n d = (b : ℕ) → IsThere d.rows b → n ≤ stamp_of d.rows x b
-
-  -- then the next stamp is free
-  pub next_free : (ids : List ℕ) (n : ℕ) (d : Data) → AllByRecursion (IsThere d.rows) ids → Long x d → High n d → length ids < n
+  -- where no row has one of the stamps that are given, the next one is free
+  pub next_free : (ids : List ℕ) (n : ℕ) (d : Data) → AllByRecursion (IsThere d.rows) ids → Long x d → High x n d → length ids < n
       → (b : ℕ) → IsThere (restamped_all x ids 0 d).rows b → stamp_of (restamped_all x ids 0 d).rows x b ≢ length ids
   next_free ids n d all long high l b there same =
       elim (given_all ids 0 d all long b) [
@@ -207,7 +203,7 @@ module _ (x : ℕ) where
 
   -- and in the end all rows have low ones
   pub all_low : (ids : List ℕ) (d : Data) → ListsEach (as_table d) ids → Long x d
-      → (b : ℕ) → IsThere (restamped_all x ids 0 d).rows b → stamp_of (restamped_all x ids 0 d).rows x b < length ids
+      → Low x (length ids) (restamped_all x ids 0 d)
   all_low ids d each long b there =
       let all = each_there d ids each in
       elim (given_all ids 0 d all long b) [
@@ -388,7 +384,7 @@ fits_low old new (o ∷ os) (a ∷ stamps) fit low = (one_low o fit.0 (low 0), f
 
 -- every stamp is below that count
 abbrev pub AllLow : ℕ → Data → Type 0
-AllLow n d = (x b : ℕ) → has_stamps (order_at d.orders x) ≡ true → IsThere d.rows b → stamp_of d.rows x b < n
+AllLow n d = (x : ℕ) → has_stamps (order_at d.orders x) ≡ true → Low x n d
 
 -- other counters that are beyond the ids and the stamps
 pub is_data_counted : (s : Shape) (d : Data) (a n : ℕ) → IsData s d → d.kept ≡ [] → Rise a (map plain_row d.rows) → AllLow n d
@@ -398,7 +394,7 @@ is_data_counted s d a n is none_kept rise low = record {
   unique_keys = is.unique_keys;
   kinds = is.kinds;
   stamped = λ e k h. fits_low d.arrivals n d.orders k.content.stamps (is.stamped e k h)
-      (λ x has_. subst (λ q. q < n) (stamp_there d.rows x e (k, h)) (low x e has_ (k, h)));
+      (λ x has_. subst (λ q. q < n) (stamp_there d.rows x e (k, h)) (low x has_ e (k, h)));
   apart = is.apart;
   names = is.names;
   kept = subst (Climbs a) (sym none_kept) tt;
@@ -408,3 +404,57 @@ is_data_counted s d a n is none_kept rise low = record {
 pub rise_more : (a n : ℕ) (rows : List (ℕ × List Value)) → a ≤ n → Rise a rows → Rise n rows
 rise_more a n [] l up = tt
 rise_more a n (r ∷ rows) l up = (let f = up.0 in omega (arith, f, l), up.1, rise_more a n rows l up.2)
+
+-- As far as a loop over the ids has come
+
+all_take : (P : ℕ → Type 0) (k : ℕ) (ids : List ℕ) → AllByRecursion P ids → AllByRecursion P (take k ids)
+all_take P zero ids all = tt
+all_take P (suc k) [] all = tt
+all_take P (suc k) (e ∷ ids) all = (all.0, all_take P k ids all.1)
+
+all_at : (P : ℕ → Type 0) (k : ℕ) (ids : List ℕ) → k < length ids → AllByRecursion P ids → P (get_or ids k 0)
+all_at P k [] l all = absurd (omega arith)
+all_at P zero (e ∷ ids) l all = all.0
+all_at P (suc k) (e ∷ ids) l all = all_at P k ids (omega arith) all.1
+
+module _ (x : ℕ) (ids : List ℕ) (d : Data) (each : ListsEach (as_table d) ids) (k : ℕ) (few : k < length ids) where
+  there_so_far : AllByRecursion (IsThere d.rows) (take k ids)
+  there_so_far = all_take (IsThere d.rows) k ids (each_there d ids each)
+
+  id_there : (n : Data) → map plain_row n.rows ≡ map plain_row d.rows → IsThere n.rows (get_or ids k 0)
+  id_there n same = there_has n (get_or ids k 0)
+      (has_by_rows d n same (get_or ids k 0) ∙ has_there d (get_or ids k 0) (all_at (IsThere d.rows) k ids few (each_there d ids each)))
+
+  long_take : length (take k ids) ≡ k
+  long_take = length-take-le k ids (omega (arith, few))
+
+  module _ (n : Data) (is : n ≡ restamped_all x (take k ids) 0 d) where
+    pub same_so_far : SameBut x d n
+    same_so_far = subst (SameBut x d) (sym is) (same_all x (take k ids) 0 d there_so_far)
+
+    pub id_stays : IsThere n.rows (get_or ids k 0)
+    id_stays = id_there n same_so_far.rows
+
+    pub free_so_far : Long x d → High x (length ids) d → (b : ℕ) → IsThere n.rows b → stamp_of n.rows x b ≢ k
+    free_so_far long high b there same =
+        next_free x (take k ids) (length ids) d there_so_far long high (let l = long_take in omega (arith, l, few)) b
+        (subst (λ (q : Data). IsThere q.rows b) is there) (ap (λ (q : Data). stamp_of q.rows x b) (sym is) ∙ same ∙ sym long_take)
+
+    pub restamped_next : (o : Data) → o ≡ restamped_in x (get_or ids k 0) k n → o ≡ restamped_all x (take (k + 1) ids) 0 d
+    restamped_next o h =
+        let l = long_take in
+        let at : k ≡ 0 + length (take k ids) = omega (arith, l) in
+        h ∙ (λ i. restamped_in x (get_or ids k 0) (at i) (is i)) ∙ sym (restamped_more x (take k ids) (get_or ids k 0) 0 d)
+        ∙ ap (λ q. restamped_all x q 0 d) (sym (take_more ids k 0 few))
+
+  module _ (l : x < length d.orders) (n : Data) (is : n ≡ moved_all x (take k ids) d) where
+    pub moved_so_far : SameBut x d n
+    moved_so_far = subst (SameBut x d) (sym is) (same_moved x (take k ids) d l)
+
+    pub id_moves : IsThere n.rows (get_or ids k 0)
+    id_moves = id_there n moved_so_far.rows
+
+    pub moved_next : (o : Data) → o ≡ relocated_in x (get_or ids k 0) None n → o ≡ moved_all x (take (k + 1) ids) d
+    moved_next o h =
+        h ∙ ap (relocated_in x (get_or ids k 0) None) is ∙ sym (moved_more x (take k ids) (get_or ids k 0) d)
+        ∙ ap (λ q. moved_all x q d) (sym (take_more ids k 0 few))

@@ -1,11 +1,13 @@
 -- A container that is restored from a table: its rows come in by their ids, and then each index is put in the order of its list.
 --     restamped_in, restamped_all      rows get other stamps in one index
 --     moved_all      rows go to the end of the list of one index, one after another
+--     High, Low      no row has a stamp there that is below a count, or each has
 --     SameBut      only one index may have changed
-use Rattle.std.specs.Prelude.{◌≡◌, ◌≢◌, ℕ, List, [], ◌∷◌, map, length, slice_set, suc}
+use Rattle.std.specs.Prelude.{◌≡◌, ◌≢◌, ℕ, ◌<◌, ◌≤◌, List, [], ◌∷◌, map, length, slice_set, suc}
 use Rattle.std.specs.declared.option.Option.TheVariants.{None}
 use Rattle.mi_container.specs.Data.{Content, Data, has_stamps, order_at, content_of, stamp_of, plain_row}
 use Rattle.mi_container.specs.Changes.{with_content, relocated_in}
+use Rattle.mi_container.specs.Fits.{IsThere}
 
 -- another stamp in the index of number x
 abbrev pub with_stamp : ℕ → ℕ → Content → Content
@@ -24,6 +26,14 @@ restamped_all x (e ∷ ids) a d = restamped_all x ids (suc a) (restamped_in x e 
 abbrev pub moved_all : ℕ → List ℕ → Data → Data
 moved_all x [] d = d
 moved_all x (e ∷ ids) d = moved_all x ids (relocated_in x e None d)
+
+-- no row has a stamp below n in the index of number x
+abbrev pub High : ℕ → ℕ → Data → Type 0
+High x n d = (b : ℕ) → IsThere d.rows b → n ≤ stamp_of d.rows x b
+
+-- each row has one
+abbrev pub Low : ℕ → ℕ → Data → Type 0
+Low x n d = (b : ℕ) → IsThere d.rows b → stamp_of d.rows x b < n
 
 -- all but the index of number x is the same
 pub record SameBut (x : ℕ) (d n : Data) : Type 0 where

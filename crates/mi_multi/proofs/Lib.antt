@@ -48,3 +48,4 @@ pub mod OldPlaceLemmas
 pub mod PutCallLemmas
 pub mod WalkLemmas
 pub mod RestampLemmas
+pub mod RestoringLemmas

@@ -1,14 +1,42 @@
 //! A container that is restored from a table: its rows come in by their ids, and then each index is put in the order of its
 //! list. No stamp crosses the border, only order.
-ghost use Rattle.std.specs.Prelude.{◌≡◌, ◌≢◌, ◌<◌, ◌==◌, ℕ, true};
+ghost use Rattle.std.specs.Prelude.{◌≡◌, ◌≢◌, ◌<◌, ◌≤◌, ◌==◌, ℕ, true, length};
+ghost use Rattle.mi_value.specs.declared.limits.TheConstants.{LAST_COUNT as last_count};
+ghost use Rattle.mi_model.specs.Table.{ListsEach, list_of};
 ghost use Rattle.mi_index.specs.Places.{mark_at};
-ghost use Rattle.mi_container.specs.Data.{has_stamps, order_at, stamp_of};
+ghost use Rattle.mi_container.specs.Asked.{IsSequenced};
+ghost use Rattle.mi_container.specs.Changes.{relocated_in, sorted_order};
+ghost use Rattle.std.specs.declared.option.Option.TheVariants.{None};
+ghost use Rattle.mi_container.specs.Data.{IsData, as_table, has_stamps, order_at, stamp_of, ids_of};
+ghost use Rattle.mi_container.specs.Data.Order.{ById};
 ghost use Rattle.mi_container.specs.Fits.{IsLive, IsThere};
 ghost use Rattle.mi_container.specs.Backs.{row_seen};
-ghost use Rattle.mi_container.specs.Restore.{restamped_in};
+ghost use Rattle.mi_container.specs.Restore.{restamped_in, restamped_all, moved_all, High, Low, SameBut};
+ghost use Rattle.mi_multi.specs.Restoring.{keeping_of};
 
 use crate::multi::MultiIndex;
+use mi_catalog::IndexKind;
 use mi_container::RowRef;
+use mi_value::KeyPart;
+
+/// How an index keeps the order of its rows: by their ids, by stamps, or by a list of its own.
+#[derive(Clone, Copy)]
+enum Keeping {
+    Ids,
+    Stamps,
+    List,
+}
+
+/// How a sorted index of these parts keeps it: without parts it goes by the ids.
+fn by_parts(parts: &[KeyPart]) -> Keeping
+    ensures { result ≡ keeping_of (sorted_order parts.now) }
+{
+    if parts.is_empty() {
+        Keeping::Ids
+    } else {
+        Keeping::Stamps
+    }
+}
 
 impl MultiIndex {
     /// A row goes in an index that has stamps to the place of another stamp, which no other row has there. The index alone is
@@ -25,5 +53,92 @@ impl MultiIndex {
     {
         let _ = index;
         self.nodes.restamp(row.node, marks, stamp);
+    }
+
+    /// The same of the row of an id.
+    fn restamp_id(&mut self, index: usize, id: u64, stamp: u64, marks: &[bool])
+        requires row { IsThere self.old.plain.rows id }
+        requires stamped { has_stamps (order_at self.old.plain.orders index) ≡ true }
+        requires early { stamp < self.old.plain.arrivals }
+        requires free { (b : ℕ) → b ≢ id → IsThere self.old.plain.rows b → stamp_of self.old.plain.rows index b ≢ stamp }
+        requires marks { (k : ℕ) → mark_at marks.now k ≡ (k == index) }
+        ensures plain { self.new.plain ≡ restamped_in index id stamp self.old.plain }
+        ensures shape { self.new.shape ≡ self.old.shape }
+        ensures secrets { self.new.secrets ≡ self.old.secrets }
+    {
+        if let Some(row) = self.live_row(id) {
+            self.restamp(index, row, stamp, marks);
+        }
+    }
+
+    /// Gives the rows of these ids rising stamps in an index that has stamps, from 0 on. Takes no memory.
+    fn restamp_rows(&mut self, index: usize, ids: &[u64], marks: &[bool])
+        requires index { index < length self.old.plain.orders }
+        requires each { ListsEach (as_table self.old.plain) ids.now }
+        requires stamped { has_stamps (order_at self.old.plain.orders index) ≡ true }
+        requires high { High index (length ids.now) self.old.plain }
+        requires early { length ids.now ≤ self.old.plain.arrivals }
+        requires marks { (k : ℕ) → mark_at marks.now k ≡ (k == index) }
+        ensures plain { self.new.plain ≡ restamped_all index ids.now 0 self.old.plain }
+        ensures shape { self.new.shape ≡ self.old.shape }
+        ensures secrets { self.new.secrets ≡ self.old.secrets }
+    {
+        self.keeps_rules();
+        for place in 0..ids.len() {
+            self.restamp_id(index, ids[place], place as u64, marks);
+        }
+    }
+
+    /// The row of an id goes to the end of the list of a sequenced index. Takes no memory.
+    fn move_last(&mut self, index: usize, id: u64)
+        requires index { IsSequenced self.old.shape index }
+        requires row { IsThere self.old.plain.rows id }
+        ensures plain { self.new.plain ≡ relocated_in index id None self.old.plain }
+        ensures shape { self.new.shape ≡ self.old.shape }
+        ensures secrets { self.new.secrets ≡ self.old.secrets }
+    {
+        if let Some(row) = self.live_row(id) {
+            let _moved = self.move_row(index, row, None);
+        }
+    }
+
+    /// The rows of these ids go to the end of the list of a sequenced index, one after another. Takes no memory.
+    fn move_rows(&mut self, index: usize, ids: &[u64])
+        requires index { IsSequenced self.old.shape index }
+        requires few { index < length self.old.plain.orders }
+        requires each { ListsEach (as_table self.old.plain) ids.now }
+        ensures plain { self.new.plain ≡ moved_all index ids.now self.old.plain }
+        ensures shape { self.new.shape ≡ self.old.shape }
+        ensures secrets { self.new.secrets ≡ self.old.secrets }
+    {
+        for place in 0..ids.len() {
+            self.move_last(index, ids[place]);
+        }
+    }
+
+    /// How an index keeps the order of its rows.
+    fn keeping(&self, index: usize) -> Keeping
+        requires { index < length self.now.shape.indexes }
+        ensures { result ≡ keeping_of (order_at self.now.plain.orders index) }
+    {
+        match self.schema.kind(index) {
+            IndexKind::Sequenced => Keeping::List,
+            IndexKind::Hashed => Keeping::Stamps,
+            IndexKind::Ordered => by_parts(self.schema.parts(index)),
+            IndexKind::Ranked => by_parts(self.schema.parts(index)),
+        }
+    }
+
+    /// Sets both counters.
+    fn set_counters(&mut self, next: u64, arrivals: u64)
+        requires next { next ≤ last_count }
+        requires arrivals { arrivals ≤ last_count }
+        requires data { IsData self.old.shape (record self.old.plain { next = next; arrivals = arrivals }) }
+        ensures plain { self.new.plain ≡ record self.old.plain { next = next; arrivals = arrivals } }
+        ensures shape { self.new.shape ≡ self.old.shape }
+        ensures secrets { self.new.secrets ≡ self.old.secrets }
+    {
+        self.next = next;
+        self.arrivals = arrivals;
     }
 }
