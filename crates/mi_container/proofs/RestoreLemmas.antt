@@ -14,6 +14,7 @@ use Rattle.std.proofs.lemmas.Bool.Decides.{eqb_tells, nat_tests}
 use Rattle.std.proofs.lemmas.List.{length-set, get_or-set_same, get_or-set_other, length-take-le, take_more, append-nil, append_assoc}
 use Rattle.std.specs.declared.cmp.Ordering.TheVariants.{Less}
 use Rattle.std.specs.declared.option.Option.TheVariants.{None, Some}
+use Rattle.mi_catalog.specs.declared.index.Index.{Index}
 use Rattle.mi_catalog.specs.Shape.{Shape}
 use Rattle.mi_value.specs.declared.value.Value.{Value}
 use Rattle.mi_model.specs.Table.{Table, ListsEach, Rise, times, has, list_of}
@@ -23,11 +24,11 @@ use Rattle.mi_model.proofs.StampLaws.{Rises, rises_once, times_first}
 use Rattle.mi_model.proofs.TableLaws.{all_get}
 use Rattle.mi_model.proofs.ViewLaws.{Lacks}
 use Rattle.mi_container.specs.Data.{Content, Node, Order, Data, has_stamps, node_of, content_in, content_of, stamp_of, ids_of}
-use Rattle.mi_container.specs.Data.{ids_by_stamp, listed, lists_from, order_at, plain_row, as_table, StampFits, StampsFit, Climbs, IsData}
+use Rattle.mi_container.specs.Data.{ids_by_stamp, listed, lists_from, order_at, plain_row, as_table, StampFits, StampsFit, KindsFit, Climbs, IsData}
 use Rattle.mi_container.specs.Data.Order.{ById, ByKey, ByHash, Listed}
 use Rattle.mi_container.specs.Changes.{with_content, in_order, moved_order, relocated_in}
 use Rattle.mi_container.specs.Fits.{IsThere}
-use Rattle.mi_container.specs.Restore.{with_stamp, restamped_in, restamped_all, moved_all, High, Low, SameBut}
+use Rattle.mi_container.specs.Restore.{with_stamp, restamped_in, restamped_all, moved_all, High, Low, SameBut, InOrderTo}
 use Rattle.mi_container.proofs.PairLemmas.{is_itself, is_other}
 use Rattle.mi_container.proofs.SequenceLemmas.{Once, drop_is, drop_isnt, without_lacks}
 use Rattle.mi_container.proofs.ContentLemmas.{node_with, node_beside}
@@ -458,3 +459,87 @@ module _ (x : ℕ) (ids : List ℕ) (d : Data) (each : ListsEach (as_table d) id
     moved_next o h =
         h ∙ ap (relocated_in x (get_or ids k 0) None) is ∙ sym (moved_more x (take k ids) (get_or ids k 0) d)
         ∙ ap (λ q. moved_all x q d) (sym (take_more ids k 0 few))
+
+-- All indexes, one after another
+
+pub kinds_long : (is : List Index) (os : List Order) → KindsFit is os → length is ≡ length os
+kinds_long [] [] k = refl
+kinds_long [] (o ∷ os) k = absurd k
+kinds_long (i ∷ is) [] k = absurd k
+kinds_long (i ∷ is) (o ∷ os) k = ap suc (kinds_long is os k.1)
+
+pub none_ordered : (n : ℕ) (lists : List (List ℕ)) (d : Data) → InOrderTo 0 n lists d d
+none_ordered n lists d = record {
+  within = omega arith;
+  rows = refl; next = refl; arrivals = refl; kept = refl; long = refl;
+  done = λ y l. absurd (omega (arith, l));
+  low = λ y l has_. absurd (omega (arith, l));
+  left = λ y l. refl;
+  stamps = λ y b l. refl;
+}
+
+below_or_at : (y i : ℕ) → y < i + 1 → (y < i) ⊎ (y ≡ i)
+below_or_at y i l = elim (eqb_tells y i) [ inl same ↦ inr same.1 | inr other ↦ inl (let ne = other.1 in omega (arith, l, ne)) ]
+
+-- one index more
+pub ordered_more : (i n : ℕ) (lists : List (List ℕ)) (d c o : Data) → InOrderTo i n lists d c → i < length d.orders → SameBut i c o
+    → list_of (as_table o) i ≡ get_or lists i [] → (has_stamps (order_at o.orders i) ≡ true → Low i n o) → InOrderTo (i + 1) n lists d o
+ordered_more i n lists d c o to few same list low_ = record {
+  within = omega (arith, few);
+  rows = same.rows ∙ to.rows;
+  next = same.next ∙ to.next;
+  arrivals = same.arrivals ∙ to.arrivals;
+  kept = same.kept ∙ to.kept;
+  long = same.long ∙ to.long;
+  done = λ y l. elim (below_or_at y i l) [
+    | inl below ↦ list_beside i c o same y (λ h. absurd (omega (arith, h, below)))
+        (let g = to.long in omega (arith, g, few, below)) ∙ to.done y below
+    | inr at ↦ subst (λ q. list_of (as_table o) q ≡ get_or lists q []) (sym at) list
+  ];
+  low = λ y l. elim (below_or_at y i l) [
+    | inl below ↦ λ has_ b there.
+        let ne : y ≢ i = (λ h. absurd (omega (arith, h, below))) in
+        subst (λ q. q < n) (sym (same.stamps y b ne))
+        (to.low y below (ap has_stamps (sym (same.orders y ne)) ∙ has_) b (there_by_rows c o same.rows b there))
+    | inr at ↦ subst (λ q. has_stamps (order_at o.orders q) ≡ true → Low q n o) (sym at) low_
+  ];
+  left = λ y l. same.orders y (λ h. absurd (omega (arith, h, l))) ∙ to.left y (omega (arith, l));
+  stamps = λ y b l. same.stamps y b (λ h. absurd (omega (arith, h, l))) ∙ to.stamps y b (omega (arith, l));
+}
+
+-- what is asked of the next index
+module _ (i n : ℕ) (lists : List (List ℕ)) (d c : Data) (to : InOrderTo i n lists d c) where
+  pub ordered_each : (ids : List ℕ) → ListsEach (as_table d) ids → ListsEach (as_table c) ids
+  ordered_each ids each = each_by_rows d c to.rows ids each
+
+  pub ordered_ids : (ids : List ℕ) → (order_at d.orders i ≡ ById → ids ≡ ids_of d.rows) → order_at c.orders i ≡ ById → ids ≡ ids_of c.rows
+  ordered_ids ids by here = by (sym (to.left i (omega arith)) ∙ here) ∙ sym (ids_by_rows d c to.rows)
+
+  pub ordered_high : (k : ℕ) → (has_stamps (order_at d.orders i) ≡ true → High i k d) → has_stamps (order_at c.orders i) ≡ true → High i k c
+  ordered_high k high has_ b there =
+      subst (λ q. k ≤ q) (sym (to.stamps i b (omega arith)))
+      (high (ap has_stamps (sym (to.left i (omega arith))) ∙ has_) b (there_by_rows d c to.rows b there))
+
+lists_alike : (xs ys : List (List ℕ)) → length xs ≡ length ys → ((y : ℕ) → y < length xs → get_or xs y [] ≡ get_or ys y []) → xs ≡ ys
+lists_alike [] [] long same = refl
+lists_alike [] (b ∷ ys) long same = absurd (omega (arith, long))
+lists_alike (a ∷ xs) [] long same = absurd (omega (arith, long))
+lists_alike (a ∷ xs) (b ∷ ys) long same =
+    let head = same 0 (omega arith) in
+    let tail = lists_alike xs ys (omega (arith, long)) (λ y l. same (suc y) (omega (arith, l))) in
+    λ i. head i ∷ tail i
+
+stamps_within : (os : List Order) (x : ℕ) → has_stamps (get_or os x ById) ≡ true → x < length os
+stamps_within [] x has_ = absurd (false≢true has_)
+stamps_within (o ∷ os) zero has_ = omega arith
+stamps_within (o ∷ os) (suc x) has_ = let l = stamps_within os x has_ in omega (arith, l)
+
+-- in the end all lists are the given ones
+module _ (i n : ℕ) (lists : List (List ℕ)) (d c : Data) (to : InOrderTo i n lists d c) (all : length d.orders ≤ i) (long : length lists ≡ length d.orders) where
+  pub ordered_lists : lists_from 0 c.rows c.orders ≡ lists
+  ordered_lists =
+      let l = long_lists 0 c.rows c.orders in let g = to.long in
+      lists_alike (lists_from 0 c.rows c.orders) lists (omega (arith, l, g, long)) (λ y f. to.done y (omega (arith, l, g, f, all)))
+
+  pub ordered_low : AllLow n c
+  ordered_low x has_ = to.low x (let f = stamps_within c.orders x has_ in let g = to.long in omega (arith, f, g, all)) has_

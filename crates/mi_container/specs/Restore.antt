@@ -3,9 +3,11 @@
 --     moved_all      rows go to the end of the list of one index, one after another
 --     High, Low      no row has a stamp there that is below a count, or each has
 --     SameBut      only one index may have changed
-use Rattle.std.specs.Prelude.{◌≡◌, ◌≢◌, ℕ, ◌<◌, ◌≤◌, List, [], ◌∷◌, map, length, slice_set, suc}
+--     InOrderTo      the indexes below a number are in the order of their lists
+use Rattle.std.specs.Prelude.{◌≡◌, ◌≢◌, ℕ, ◌<◌, ◌≤◌, List, [], ◌∷◌, true, map, length, slice_set, slice_index_or, suc}
 use Rattle.std.specs.declared.option.Option.TheVariants.{None}
-use Rattle.mi_container.specs.Data.{Content, Data, has_stamps, order_at, content_of, stamp_of, plain_row}
+use Rattle.mi_model.specs.Table.{list_of}
+use Rattle.mi_container.specs.Data.{Content, Data, has_stamps, order_at, content_of, stamp_of, plain_row, as_table}
 use Rattle.mi_container.specs.Changes.{with_content, relocated_in}
 use Rattle.mi_container.specs.Fits.{IsThere}
 
@@ -45,3 +47,16 @@ pub record SameBut (x : ℕ) (d n : Data) : Type 0 where
   pub orders : (y : ℕ) → y ≢ x → order_at n.orders y ≡ order_at d.orders y
   pub stamped : has_stamps (order_at n.orders x) ≡ has_stamps (order_at d.orders x)
   pub stamps : (y b : ℕ) → y ≢ x → stamp_of n.rows y b ≡ stamp_of d.rows y b
+
+-- the indexes below number i are in the order of their lists, with stamps below n; the others are as they were
+pub record InOrderTo (i n : ℕ) (lists : List (List ℕ)) (d c : Data) : Type 0 where
+  pub within : i ≤ length d.orders
+  pub rows : map plain_row c.rows ≡ map plain_row d.rows
+  pub next : c.next ≡ d.next
+  pub arrivals : c.arrivals ≡ d.arrivals
+  pub kept : c.kept ≡ d.kept
+  pub long : length c.orders ≡ length d.orders
+  pub done : (y : ℕ) → y < i → list_of (as_table c) y ≡ slice_index_or lists y []
+  pub low : (y : ℕ) → y < i → has_stamps (order_at c.orders y) ≡ true → Low y n c
+  pub left : (y : ℕ) → i ≤ y → order_at c.orders y ≡ order_at d.orders y
+  pub stamps : (y b : ℕ) → i ≤ y → stamp_of c.rows y b ≡ stamp_of d.rows y b

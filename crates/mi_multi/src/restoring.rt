@@ -1,6 +1,7 @@
 //! A container that is restored from a table: its rows come in by their ids, and then each index is put in the order of its
 //! list. No stamp crosses the border, only order.
-ghost use Rattle.std.specs.Prelude.{◌≡◌, ◌≢◌, ◌<◌, ◌≤◌, ◌==◌, ℕ, true, length};
+ghost use Rattle.std.specs.Prelude.{◌≡◌, ◌≢◌, ◌<◌, ◌≤◌, ◌==◌, ℕ, true, [], map, length, slice_index_or};
+ghost use Rattle.std.specs.List.{AllByRecursion};
 ghost use Rattle.mi_value.specs.declared.limits.TheConstants.{LAST_COUNT as last_count};
 ghost use Rattle.mi_model.specs.Table.{ListsEach, list_of};
 ghost use Rattle.mi_index.specs.Places.{mark_at};
@@ -9,14 +10,14 @@ ghost use Rattle.mi_container.specs.Changes.{relocated_in, sorted_order};
 ghost use Rattle.std.specs.declared.option.Option.TheVariants.{None};
 ghost use Rattle.mi_container.specs.Data.{IsData, as_table, has_stamps, order_at, stamp_of, ids_of};
 ghost use Rattle.mi_container.specs.Data.Order.{ById};
-ghost use Rattle.mi_container.specs.Fits.{IsLive, IsThere};
+ghost use Rattle.mi_container.specs.Fits.{IsLive, IsThere, HasOwnList};
 ghost use Rattle.mi_container.specs.Backs.{row_seen};
-ghost use Rattle.mi_container.specs.Restore.{restamped_in, restamped_all, moved_all, High, Low, SameBut};
+ghost use Rattle.mi_container.specs.Restore.{restamped_in, restamped_all, moved_all, High, Low, SameBut, InOrderTo};
 ghost use Rattle.mi_multi.specs.Restoring.{keeping_of};
 
 use crate::multi::MultiIndex;
 use mi_catalog::IndexKind;
-use mi_container::RowRef;
+use mi_container::{MAX_PLACES, RowRef};
 use mi_value::KeyPart;
 
 /// How an index keeps the order of its rows: by their ids, by stamps, or by a list of its own.
@@ -36,6 +37,16 @@ fn by_parts(parts: &[KeyPart]) -> Keeping
     } else {
         Keeping::Stamps
     }
+}
+
+/// A mark for each index that a table may have; that of one index is set.
+fn only(index: usize) -> [bool; MAX_PLACES]
+    requires { index < 16 }
+    ensures { (k : ℕ) → mark_at result k ≡ (k == index) }
+{
+    let mut marks = [false; MAX_PLACES];
+    marks[index] = true;
+    marks
 }
 
 impl MultiIndex {
@@ -126,6 +137,82 @@ impl MultiIndex {
             IndexKind::Hashed => Keeping::Stamps,
             IndexKind::Ordered => by_parts(self.schema.parts(index)),
             IndexKind::Ranked => by_parts(self.schema.parts(index)),
+        }
+    }
+
+    /// An index that has stamps is put in the order of a list. Takes no memory.
+    fn put_by_stamps(&mut self, index: usize, ids: &[u64])
+        requires index { index < length self.old.shape.indexes }
+        requires each { ListsEach (as_table self.old.plain) ids.now }
+        requires stamped { has_stamps (order_at self.old.plain.orders index) ≡ true }
+        requires high { High index (length ids.now) self.old.plain }
+        requires early { length ids.now ≤ self.old.plain.arrivals }
+        ensures same { SameBut index self.old.plain self.new.plain }
+        ensures list { list_of (as_table self.new.plain) index ≡ ids.now }
+        ensures low { Low index (length ids.now) self.new.plain }
+        ensures shape { self.new.shape ≡ self.old.shape }
+        ensures secrets { self.new.secrets ≡ self.old.secrets }
+    {
+        self.keeps_rules();
+        self.schema.keeps_rules();
+        let marks = only(index);
+        self.restamp_rows(index, ids, &marks);
+        self.keeps_rules();
+    }
+
+    /// A sequenced index is put in the order of a list. Takes no memory.
+    fn put_by_list(&mut self, index: usize, ids: &[u64])
+        requires index { index < length self.old.shape.indexes }
+        requires sequenced { IsSequenced self.old.shape index }
+        requires each { ListsEach (as_table self.old.plain) ids.now }
+        requires listed { HasOwnList (order_at self.old.plain.orders index) }
+        ensures same { SameBut index self.old.plain self.new.plain }
+        ensures list { list_of (as_table self.new.plain) index ≡ ids.now }
+        ensures shape { self.new.shape ≡ self.old.shape }
+        ensures secrets { self.new.secrets ≡ self.old.secrets }
+    {
+        self.keeps_rules();
+        self.move_rows(index, ids);
+    }
+
+    /// An index is put in the order of a list, which is that of the ids where the index goes by them alone. Takes no memory.
+    fn put_in_order(&mut self, index: usize, ids: &[u64])
+        requires index { index < length self.old.shape.indexes }
+        requires each { ListsEach (as_table self.old.plain) ids.now }
+        requires by_id { order_at self.old.plain.orders index ≡ ById → ids.now ≡ ids_of self.old.plain.rows }
+        requires high { has_stamps (order_at self.old.plain.orders index) ≡ true → High index (length ids.now) self.old.plain }
+        requires early { length ids.now ≤ self.old.plain.arrivals }
+        ensures same { SameBut index self.old.plain self.new.plain }
+        ensures list { list_of (as_table self.new.plain) index ≡ ids.now }
+        ensures low { has_stamps (order_at self.new.plain.orders index) ≡ true → Low index (length ids.now) self.new.plain }
+        ensures shape { self.new.shape ≡ self.old.shape }
+        ensures secrets { self.new.secrets ≡ self.old.secrets }
+    {
+        self.keeps_rules();
+        match self.keeping(index) {
+            Keeping::Ids => {}
+            Keeping::Stamps => self.put_by_stamps(index, ids),
+            Keeping::List => self.put_by_list(index, ids),
+        }
+    }
+
+    /// Each index is put in the order of its list. No row has a stamp yet that is below how many rows there are. Takes no memory.
+    fn put_all_in_order(&mut self, lists: &[Vec<u64>], count: u64)
+        requires long { length lists.now ≡ length self.old.shape.indexes }
+        requires counts { AllByRecursion (λ l. length l ≡ count) (map (λ l. l.items) lists.now) }
+        requires each { AllByRecursion (ListsEach (as_table self.old.plain)) (map (λ l. l.items) lists.now) }
+        requires by_id { (x : ℕ) → x < length self.old.shape.indexes → order_at self.old.plain.orders x ≡ ById
+            → slice_index_or (map (λ l. l.items) lists.now) x [] ≡ ids_of self.old.plain.rows }
+        requires high { (x : ℕ) → has_stamps (order_at self.old.plain.orders x) ≡ true → High x count self.old.plain }
+        requires early { count ≤ self.old.plain.arrivals }
+        ensures ordered { InOrderTo (length lists.now) count (map (λ l. l.items) lists.now) self.old.plain self.new.plain }
+        ensures shape { self.new.shape ≡ self.old.shape }
+        ensures secrets { self.new.secrets ≡ self.old.secrets }
+    {
+        self.keeps_rules();
+        let _ = count;
+        for index in 0..lists.len() {
+            self.put_in_order(index, lists[index].as_slice());
         }
     }
 
