@@ -1,5 +1,5 @@
 -- What the order of an index is, by its kind and its parts.
-use Rattle.std.proofs.Common.{◌≡◌, ℕ, ◌<◌, zero, suc, true, false, inl, inr, List, [], ◌∷◌, length, get_or, set, replicate, refl, sym, ap, ◌∙◌, subst, arith}
+use Rattle.std.proofs.Common.{◌≡◌, ℕ, ◌<◌, zero, suc, true, false, inl, inr, Vec, Global, List, [], ◌∷◌, map, length, get_or, set, replicate, refl, sym, ap, ◌∙◌, subst, arith}
 use Rattle.std.specs.Prelude.{◌==◌}
 use Rattle.std.proofs.lemmas.Bool.Decides.{eqb_tells}
 use Rattle.std.proofs.lemmas.List.{get_or-set_same, get_or-set_other}
@@ -90,3 +90,19 @@ one_mark x l k =
       | inl same ↦ ap (λ q. get_or (set (replicate 16 false) x true) q false) same.1 ∙ get_or-set_same (replicate 16 false) x true false l ∙ sym same.0
       | inr other ↦ get_or-set_other (replicate 16 false) x k true false other.1 ∙ no_mark 16 k ∙ sym other.0
     ]
+
+-- The list of an index
+
+item_at : (xs : List (Vec ℕ Global)) (x : ℕ) (v : Vec ℕ Global) → x < length xs → v ≡ get_or xs x v
+    → get_or (map (λ (w : Vec ℕ Global). w.items) xs) x [] ≡ v.items
+item_at [] x v l is = absurd (omega (arith, l))
+item_at (w ∷ xs) zero v l is = ap (λ (q : Vec ℕ Global). q.items) (sym is)
+item_at (w ∷ xs) (suc x) v l is = item_at xs x v (omega (arith, l)) is
+
+pub list_given : (xs : List (Vec ℕ Global)) (x : ℕ) (v : Vec ℕ Global) (ids : List ℕ) → x < length xs → v ≡ get_or xs x v → ids ≡ v.items
+    → ids ≡ get_or (map (λ (w : Vec ℕ Global). w.items) xs) x []
+list_given xs x v ids l is same = same ∙ sym (item_at xs x v l is)
+
+pub long_given : (xs : List (Vec ℕ Global)) → length (map (λ (w : Vec ℕ Global). w.items) xs) ≡ length xs
+long_given [] = refl
+long_given (w ∷ xs) = ap suc (long_given xs)
