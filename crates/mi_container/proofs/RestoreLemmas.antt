@@ -26,13 +26,15 @@ use Rattle.mi_model.proofs.ViewLaws.{Lacks}
 use Rattle.mi_container.specs.Data.{Content, Node, Order, Data, has_stamps, node_of, content_in, content_of, stamp_of, ids_of}
 use Rattle.mi_container.specs.Data.{ids_by_stamp, listed, lists_from, order_at, plain_row, as_table, StampFits, StampsFit, KindsFit, Climbs, IsData}
 use Rattle.mi_container.specs.Data.Order.{ById, ByKey, ByHash, Listed}
-use Rattle.mi_container.specs.Changes.{with_content, in_order, moved_order, relocated_in}
+use Rattle.mi_node.specs.Refs.{Ref}
+use Rattle.mi_container.specs.Changes.{with_content, in_order, moved_order, relocated_in, new_node, inserted}
 use Rattle.mi_container.specs.Fits.{IsThere}
-use Rattle.mi_container.specs.Restore.{with_stamp, restamped_in, restamped_all, moved_all, High, Low, SameBut, InOrderTo}
-use Rattle.mi_container.proofs.PairLemmas.{is_itself, is_other}
+use Rattle.mi_container.specs.Restore.{with_stamp, restamped_in, restamped_all, moved_all, High, Low, SameBut, InOrderTo, HasRows}
+use Rattle.mi_container.proofs.PairLemmas.{is_other, lookup_push, lookup_push_same}
+use Rattle.mi_container.proofs.StampLemmas.{new_at, stamps_with}
 use Rattle.mi_container.proofs.SequenceLemmas.{Once, drop_is, drop_isnt, without_lacks}
 use Rattle.mi_container.proofs.ContentLemmas.{node_with, node_beside}
-use Rattle.mi_container.proofs.InvariantLemmas.{there_has, has_there, each_there, each_once, stamp_there, stamps_long}
+use Rattle.mi_container.proofs.InvariantLemmas.{there_has, has_there, each_there, each_once, stamp_there, stamp_early, stamps_long, no_next}
 use Rattle.mi_container.proofs.ViewLemmas.{stamps_rise_in}
 use Rattle.mi_container.proofs.RestampLemmas.{rows_plain, there_still, there_was, stamp_beside, stamp_here, stamp_other, long_lists}
 
@@ -47,7 +49,11 @@ less_is a b l = grind (arith, nat_tests)
 
 pub same_itself : (x : ℕ) (d : Data) → SameBut x d d
 same_itself x d = record {
-  rows = refl; next = refl; arrivals = refl; kept = refl; long = refl;
+  rows = refl;
+  next = refl;
+  arrivals = refl;
+  kept = refl;
+  long = refl;
   orders = λ y ne. refl;
   stamped = refl;
   stamps = λ y b ne. refl;
@@ -110,7 +116,11 @@ Long x d = (b : ℕ) → IsThere d.rows b → x < length (content_of d.rows b).s
 module _ (x : ℕ) where
   same_one : (e a : ℕ) (d : Data) → IsThere d.rows e → SameBut x d (restamped_in x e a d)
   same_one e a d there = record {
-    rows = rows_plain x e a d; next = refl; arrivals = refl; kept = refl; long = refl;
+    rows = rows_plain x e a d;
+    next = refl;
+    arrivals = refl;
+    kept = refl;
+    long = refl;
     orders = λ y ne. refl;
     stamped = refl;
     stamps = λ y b ne. stamp_other x e a d there y b ne;
@@ -179,9 +189,9 @@ module _ (x : ℕ) where
               | inl same ↦ inl (let h = own.1 in let g = ap (λ q. stamp_of (restamped_in x e a d).rows x q) (sym same.1) ∙ stamp_here x e a d all.0 (long e all.0) in
                   omega (arith, h, g))
               | inr other ↦ inr (
-                  (let n : cond {A = ℕ} (e == b) 1 0 ≡ 0 = ap (λ t. cond {A = ℕ} t 1 0) other.0 in let z = own.0 in omega (arith, n, z)),
-                  own.1 ∙ stamp_beside x e a d x b (λ same. other.1 (sym same)),
-                )
+                (let n : cond {A = ℕ} (e == b) 1 0 ≡ 0 = ap (λ t. cond {A = ℕ} t 1 0) other.0 in let z = own.0 in omega (arith, n, z)),
+                own.1 ∙ stamp_beside x e a d x b (λ same. other.1 (sym same)),
+              )
             ]
       ]
 
@@ -328,7 +338,10 @@ one_has f (Listed l) = refl
 module _ (x : ℕ) where
   same_move : (e : ℕ) (d : Data) → x < length d.orders → SameBut x d (relocated_in x e None d)
   same_move e d l = record {
-    rows = refl; next = refl; arrivals = refl; kept = refl;
+    rows = refl;
+    next = refl;
+    arrivals = refl;
+    kept = refl;
     long = length-set d.orders x (in_order (relocated None e) (order_at d.orders x));
     orders = λ y ne. get_or-set_other d.orders x y (in_order (relocated None e) (order_at d.orders x)) ById ne;
     stamped = ap has_stamps (get_or-set_same d.orders x (in_order (relocated None e) (order_at d.orders x)) ById l) ∙ one_has (relocated None e) (order_at d.orders x);
@@ -471,7 +484,11 @@ kinds_long (i ∷ is) (o ∷ os) k = ap suc (kinds_long is os k.1)
 pub none_ordered : (n : ℕ) (lists : List (List ℕ)) (d : Data) → InOrderTo 0 n lists d d
 none_ordered n lists d = record {
   within = omega arith;
-  rows = refl; next = refl; arrivals = refl; kept = refl; long = refl;
+  rows = refl;
+  next = refl;
+  arrivals = refl;
+  kept = refl;
+  long = refl;
   done = λ y l. absurd (omega (arith, l));
   low = λ y l has_. absurd (omega (arith, l));
   left = λ y l. refl;
@@ -543,3 +560,52 @@ module _ (i n : ℕ) (lists : List (List ℕ)) (d c : Data) (to : InOrderTo i n 
 
   pub ordered_low : AllLow n c
   ordered_low x has_ = to.low x (let f = stamps_within c.orders x has_ in let g = to.long in omega (arith, f, g, all)) has_
+
+-- A row comes in
+
+map_push : {A B : Type 0} (f : A → B) (xs : List A) (a : A) → map f (xs ++ a ∷ []) ≡ map f xs ++ f a ∷ []
+map_push f [] a = refl
+map_push f (b ∷ xs) a = ap (λ q. f b ∷ q) (map_push f xs a)
+
+length_push : {A : Type 0} (xs : List A) (a : A) → length (xs ++ a ∷ []) ≡ length xs + 1
+length_push [] a = refl
+length_push (b ∷ xs) a = let h = length_push xs a in omega (arith, h)
+
+module _ (s : Shape) (n : ℕ) (rows : List (ℕ × List Value)) (d o : Data) (e : ℕ) (r : List Value) (at : Ref) (has_rows : HasRows n rows d)
+    (is : IsData s (record d { next = e })) (o_is : o ≡ inserted None at r (record d { next = e })) where
+  abbrev new : Node
+  new = new_node at r (record d { next = e })
+
+  none : node_of d.rows e ≡ None
+  none = no_next s (record d { next = e }) is
+
+  high_there : (x : ℕ) → has_stamps (order_at d.orders x) ≡ true → (b : ℕ) → IsThere (d.rows ++ (e, new) ∷ []) b → n ≤ stamp_of (d.rows ++ (e, new) ∷ []) x b
+  high_there x has_ b there =
+      elim (eqb_tells b e) [
+        | inl same ↦
+            let own : stamp_of (d.rows ++ (e, new) ∷ []) x b ≡ d.arrivals =
+            ap (λ q. stamp_of (d.rows ++ (e, new) ∷ []) x q) same.1
+            ∙ ap (λ q. get_or (content_in q).stamps x 0) (lookup_push_same e new d.rows none) ∙ new_at d.arrivals d.orders x has_ in
+            let a = has_rows.arrivals in omega (arith, own, a)
+        | inr other ↦
+            let old = lookup_push b e new d.rows other.1 in
+            subst (λ q. n ≤ q) (sym (ap (λ q. get_or (content_in q).stamps x 0) old))
+            (has_rows.high x has_ b (there.0, sym old ∙ there.1))
+      ]
+
+  pub row_added : HasRows n (rows ++ (e, r) ∷ []) o
+  row_added = subst (HasRows n (rows ++ (e, r) ∷ [])) (sym o_is) (record {
+    rows_are = map_push plain_row d.rows (e, new) ∙ ap (λ q. q ++ (e, r) ∷ []) has_rows.rows_are;
+    high = λ x has_ b there. high_there x (sym (stamps_with None e d.orders x) ∙ has_) b there;
+    arrivals = let a = has_rows.arrivals in let l = length_push rows (e, r) in omega (arith, a, l);
+    kept = has_rows.kept;
+  })
+
+-- the next row's id may be next
+pub next_data : (s : Shape) (d : Data) (e : ℕ) → IsData s d → d.kept ≡ [] → d.next ≤ e → IsData s (record d { next = e })
+next_data s d e is none_kept l =
+    is_data_counted s d e d.arrivals is none_kept (rise_more d.next e (map plain_row d.rows) l is.table.ordered)
+    (λ x has_ b there. stamp_early s d is x has_ b there)
+
+pub size_is : (n : ℕ) (rows : List (ℕ × List Value)) (d : Data) → HasRows n rows d → length (map plain_row d.rows) ≡ length rows
+size_is n rows d h = ap (λ (q : List (ℕ × List Value)). length q) h.rows_are

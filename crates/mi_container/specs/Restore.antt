@@ -4,8 +4,10 @@
 --     High, Low      no row has a stamp there that is below a count, or each has
 --     SameBut      only one index may have changed
 --     InOrderTo      the indexes below a number are in the order of their lists
-use Rattle.std.specs.Prelude.{◌≡◌, ◌≢◌, ℕ, ◌<◌, ◌≤◌, List, [], ◌∷◌, true, map, length, slice_set, slice_index_or, suc}
+--     HasRows      rows that have come in, with stamps from a count on
+use Rattle.std.specs.Prelude.{◌≡◌, ◌≢◌, ℕ, ◌+◌, ◌<◌, ◌≤◌, List, [], ◌∷◌, true, map, length, slice_set, slice_index_or, suc}
 use Rattle.std.specs.declared.option.Option.TheVariants.{None}
+use Rattle.mi_value.specs.declared.value.Value.{Value}
 use Rattle.mi_model.specs.Table.{list_of}
 use Rattle.mi_container.specs.Data.{Content, Data, has_stamps, order_at, content_of, stamp_of, plain_row, as_table}
 use Rattle.mi_container.specs.Changes.{with_content, relocated_in}
@@ -60,3 +62,10 @@ pub record InOrderTo (i n : ℕ) (lists : List (List ℕ)) (d c : Data) : Type 0
   pub low : (y : ℕ) → y < i → has_stamps (order_at c.orders y) ≡ true → Low y n c
   pub left : (y : ℕ) → i ≤ y → order_at c.orders y ≡ order_at d.orders y
   pub stamps : (y b : ℕ) → i ≤ y → stamp_of c.rows y b ≡ stamp_of d.rows y b
+
+-- these rows have come in, with stamps from n on
+pub record HasRows (n : ℕ) (rows : List (ℕ × List Value)) (d : Data) : Type 0 where
+  pub rows_are : map plain_row d.rows ≡ rows
+  pub high : (x : ℕ) → has_stamps (order_at d.orders x) ≡ true → High x n d
+  pub arrivals : d.arrivals ≡ n + length rows
+  pub kept : d.kept ≡ []
