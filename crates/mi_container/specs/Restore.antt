@@ -5,13 +5,19 @@
 --     SameBut      only one index may have changed
 --     InOrderTo      the indexes below a number are in the order of their lists
 --     HasRows      rows that have come in, with stamps from a count on
-use Rattle.std.specs.Prelude.{◌≡◌, ◌≢◌, ℕ, ◌+◌, ◌<◌, ◌≤◌, List, [], ◌∷◌, true, map, length, slice_set, slice_index_or, suc}
-use Rattle.std.specs.declared.option.Option.TheVariants.{None}
+--     IsRowFault, IsRowsFault      why a row, or one of many, doesn't come in
+use Rattle.std.specs.Prelude.{◌≡◌, ◌≢◌, ℕ, ◌+◌, ◌<◌, ◌≤◌, List, [], ◌∷◌, ◌++◌, true, map, drop, length, slice_set, slice_index_or, suc}
+use Rattle.std.specs.declared.option.Option.TheVariants.{None, Some}
 use Rattle.mi_value.specs.declared.value.Value.{Value}
-use Rattle.mi_model.specs.Table.{list_of}
+use Rattle.mi_catalog.specs.Shape.{Shape}
+use Rattle.mi_catalog.specs.Key.{Row}
+use Rattle.mi_model.specs.Table.{list_of, Rise}
+use Rattle.mi_model.specs.Conflict.{conflict_from}
 use Rattle.mi_container.specs.Data.{Content, Data, has_stamps, order_at, content_of, stamp_of, plain_row, as_table}
 use Rattle.mi_container.specs.Changes.{with_content, relocated_in}
 use Rattle.mi_container.specs.Fits.{IsThere}
+use Rattle.mi_container.specs.declared.restore.RestoreFault.{RestoreFault}
+use Rattle.mi_container.specs.declared.restore.RestoreFault.TheVariants as fault
 
 -- another stamp in the index of number x
 abbrev pub with_stamp : ℕ → ℕ → Content → Content
@@ -69,3 +75,29 @@ pub record HasRows (n : ℕ) (rows : List (ℕ × List Value)) (d : Data) : Type
   pub high : (x : ℕ) → has_stamps (order_at d.orders x) ≡ true → High x n d
   pub arrivals : d.arrivals ≡ n + length rows
   pub kept : d.kept ≡ []
+
+-- why the row of e doesn't come in behind these: a unique index refuses it, or memory
+abbrev pub IsRowFault : Shape → List Row → ℕ → List Value → RestoreFault → Type 0
+IsRowFault s rows e r fault.Full = ⊥
+IsRowFault s rows e r fault.Counters = ⊥
+IsRowFault s rows e r fault.Lists = ⊥
+IsRowFault s rows e r (fault.Id a) = ⊥
+IsRowFault s rows e r (fault.List x) = ⊥
+IsRowFault s rows e r (fault.Unique x a b) = (b ≡ e) × (conflict_from 1 (drop 1 s.indexes) rows r None ≡ Some (x, a))
+IsRowFault s rows e r fault.Memory = Unit {0}
+
+-- why one of these doesn't: the ids don't rise, or below the next one
+abbrev pub IsRowsFault : Shape → ℕ → List Row → RestoreFault → Type 0
+IsRowsFault s next rows fault.Full = ⊥
+IsRowsFault s next rows fault.Counters = ⊥
+IsRowsFault s next rows fault.Lists = ⊥
+IsRowsFault s next rows (fault.Id a) = Rise next rows → ⊥
+IsRowsFault s next rows (fault.List x) = ⊥
+IsRowsFault s next rows (fault.Unique x a b) = (before : List Row) × (r : List Value) × (behind : List Row) × (rows ≡ before ++ (b, r) ∷ behind)
+    × (conflict_from 1 (drop 1 s.indexes) before r None ≡ Some (x, a))
+IsRowsFault s next rows fault.Memory = Unit {0}
+
+-- the id behind the last one
+abbrev pub next_after : ℕ → List Row → ℕ
+next_after n [] = n
+next_after n (r ∷ rows) = next_after (r.0 + 1) rows

@@ -1,9 +1,10 @@
 //! A container that is restored from a table: its rows come in by their ids, and then each index is put in the order of its
 //! list. No stamp crosses the border, only order.
-ghost use Rattle.std.specs.Prelude.{◌≡◌, ◌≢◌, ◌<◌, ◌≤◌, ◌==◌, ℕ, true, [], map, length, slice_index_or};
+ghost use Rattle.std.specs.Prelude.{◌≡◌, ◌≢◌, ◌+◌, ◌^◌, ◌<◌, ◌≤◌, ◌==◌, ℕ, true, List, [], ◌∷◌, ◌++◌, map, length, slice_index_or, IfOk, IfErr};
 ghost use Rattle.std.specs.List.{AllByRecursion};
 ghost use Rattle.mi_value.specs.declared.limits.TheConstants.{LAST_COUNT as last_count};
-ghost use Rattle.mi_model.specs.Table.{ListsEach, list_of};
+ghost use Rattle.mi_model.specs.Table.{ListsEach, list_of, size as size_of};
+ghost use Rattle.mi_value.specs.declared.value.Value.{Value};
 ghost use Rattle.mi_index.specs.Places.{mark_at};
 ghost use Rattle.mi_container.specs.Asked.{IsSequenced};
 ghost use Rattle.mi_container.specs.Changes.{relocated_in, sorted_order};
@@ -12,13 +13,14 @@ ghost use Rattle.mi_container.specs.Data.{IsData, as_table, has_stamps, order_at
 ghost use Rattle.mi_container.specs.Data.Order.{ById};
 ghost use Rattle.mi_container.specs.Fits.{IsLive, IsThere, HasOwnList};
 ghost use Rattle.mi_container.specs.Backs.{row_seen};
-ghost use Rattle.mi_container.specs.Restore.{restamped_in, restamped_all, moved_all, High, Low, SameBut, InOrderTo};
+ghost use Rattle.mi_container.specs.Restore.{restamped_in, restamped_all, moved_all, High, Low, SameBut, InOrderTo, HasRows, IsRowFault, IsRowsFault};
 ghost use Rattle.mi_multi.specs.Restoring.{keeping_of};
 
 use crate::multi::MultiIndex;
 use mi_catalog::IndexKind;
-use mi_container::{MAX_PLACES, RowRef};
-use mi_value::KeyPart;
+use mi_container::{MAX_PLACES, RestoreFault, RowRef};
+use mi_value::{KeyPart, Record};
+use std::alloc::Global;
 
 /// How an index keeps the order of its rows: by their ids, by stamps, or by a list of its own.
 #[derive(Clone, Copy)]
@@ -227,5 +229,62 @@ impl MultiIndex {
     {
         self.next = next;
         self.arrivals = arrivals;
+    }
+
+    /// A row comes in with the next stamp, if no unique index refuses it.
+    fn add_row(&mut self, alloc: Global, id: u64, row: Record) -> Result<(), RestoreFault>
+        requires id { self.old.plain.next ≤ id }
+        requires last { id < last_count }
+        requires arrivals { self.old.plain.arrivals < last_count }
+        requires room { size_of (as_table self.old.plain) < self.old.shape.max_rows }
+        requires kept { self.old.plain.kept ≡ [] }
+        ensures added { (n : ℕ) (rows : List (ℕ × List Value)) → HasRows n rows self.old.plain
+            → IfOk result (λ _. HasRows n (rows ++ (id, row) ∷ []) self.new.plain) }
+        ensures next { IfOk result (λ _. self.new.plain.next ≡ id + 1) }
+        ensures fault { IfErr result (λ e. IsRowFault self.old.shape (as_table self.old.plain).rows id row e) }
+        ensures shape { self.new.shape ≡ self.old.shape }
+        ensures secrets { self.new.secrets ≡ self.old.secrets }
+    {
+        self.keeps_rules();
+        self.set_counters(id, self.arrivals);
+        self.keeps_rules();
+        if let Some((index, first)) = self.conflict(&row, None) {
+            return Err(RestoreFault::Unique {
+                index,
+                first,
+                second: id,
+            });
+        }
+        match self.insert_accepted(alloc, row, None) {
+            Ok(_row) => Ok(()),
+            Err(_row) => Err(RestoreFault::Memory),
+        }
+    }
+
+    /// Rows come in by their ids, which rise below the next one.
+    fn add_rows(
+        &mut self,
+        alloc: Global,
+        rows: Vec<(u64, Record)>,
+        next: u64,
+    ) -> Result<(), RestoreFault>
+        requires first { self.old.plain.next ≡ 0 }
+        requires none { HasRows (length rows.items) [] self.old.plain }
+        requires few { length rows.items ≤ self.old.shape.max_rows }
+        requires most { length rows.items < 2 ^ 62 }
+        requires next { next ≤ last_count }
+        ensures added { IfOk result (λ _. HasRows (length rows.items) rows.items self.new.plain) }
+        ensures next { IfOk result (λ _. self.new.plain.next ≤ next) }
+        ensures fault { IfErr result (λ e. IsRowsFault self.old.shape next rows.items e) }
+        ensures shape { self.new.shape ≡ self.old.shape }
+        ensures secrets { self.new.secrets ≡ self.old.secrets }
+    {
+        for (id, row) in rows {
+            if id < self.next || next <= id {
+                return Err(RestoreFault::Id(id));
+            }
+            self.add_row(alloc, id, row)?;
+        }
+        Ok(())
     }
 }
