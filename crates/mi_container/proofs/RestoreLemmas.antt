@@ -1,7 +1,7 @@
 -- Rows that get rising stamps in one index stand there in the order of their list, and rows that go to the end of a list one
 -- after another stand in it in their order. Nothing else changes.
 use Rattle.std.proofs.Common.{◌≡◌, ◌≢◌, ℕ, ◌+◌, ◌<◌, ◌≤◌, zero, suc, true, false, cond, ◌⊎◌, inl, inr, List}
-use Rattle.std.proofs.Common.{[], ◌∷◌, ◌++◌, map, length, get_or, set, take, refl, ap, sym, ◌∙◌, subst, arith}
+use Rattle.std.proofs.Common.{[], ◌∷◌, ◌++◌, map, length, get_or, set, take, reverse, refl, ap, sym, ◌∙◌, subst, arith}
 use Rattle.std.specs.Prelude.{◌==◌}
 use Rattle.std.specs.List.{AllByRecursion}
 use Rattle.std.specs.Ordering.{on, nat_cmp}
@@ -11,7 +11,7 @@ use Rattle.std.specs.Map.{lookup}
 use Rattle.std.proofs.lemmas.Cmp.{nat_cmp_total}
 use Rattle.std.proofs.lemmas.Bool.{false≢true}
 use Rattle.std.proofs.lemmas.Bool.Decides.{eqb_tells, nat_tests}
-use Rattle.std.proofs.lemmas.List.{length-set, get_or-set_same, get_or-set_other, length-take-le, take_more, append-nil, append_assoc}
+use Rattle.std.proofs.lemmas.List.{length-set, get_or-set_same, get_or-set_other, length-take-le, take_more, append-nil, append_assoc, reverse-append}
 use Rattle.std.specs.declared.cmp.Ordering.TheVariants.{Less}
 use Rattle.std.specs.declared.option.Option.TheVariants.{None, Some}
 use Rattle.mi_catalog.specs.declared.index.Index.{Index}
@@ -29,7 +29,7 @@ use Rattle.mi_container.specs.Data.Order.{ById, ByKey, ByHash, Listed}
 use Rattle.mi_node.specs.Refs.{Ref}
 use Rattle.mi_container.specs.Changes.{with_content, in_order, moved_order, relocated_in, new_node, inserted}
 use Rattle.mi_container.specs.Fits.{IsThere}
-use Rattle.mi_container.specs.Restore.{with_stamp, restamped_in, restamped_all, moved_all, High, Low, SameBut, InOrderTo, HasRows}
+use Rattle.mi_container.specs.Restore.{with_stamp, restamped_in, restamped_all, moved_all, High, Low, SameBut, InOrderTo, HasRows, next_after}
 use Rattle.mi_container.proofs.PairLemmas.{is_other, lookup_push, lookup_push_same}
 use Rattle.mi_container.proofs.StampLemmas.{new_at, stamps_with}
 use Rattle.mi_container.proofs.SequenceLemmas.{Once, drop_is, drop_isnt, without_lacks}
@@ -609,3 +609,41 @@ next_data s d e is none_kept l =
 
 pub size_is : (n : ℕ) (rows : List (ℕ × List Value)) (d : Data) → HasRows n rows d → length (map plain_row d.rows) ≡ length rows
 size_is n rows d h = ap (λ (q : List (ℕ × List Value)). length q) h.rows_are
+
+-- Rows that are left in reverse
+
+rows_map : {P Q : ℕ × List Value → Type 0} → ((q : ℕ × List Value) → P q → Q q) → (rows : List (ℕ × List Value)) → AllByRecursion P rows → AllByRecursion Q rows
+rows_map f [] all = tt
+rows_map f (q ∷ rows) all = (f q all.0, rows_map f rows all.1)
+
+least_rows : (rows : List (ℕ × List Value)) → AllByRecursion (λ (q : ℕ × List Value). 0 ≤ q.0) rows
+least_rows [] = tt
+least_rows (q ∷ rows) = (omega arith, least_rows rows)
+
+rise_after : (m n : ℕ) (xs : List (ℕ × List Value)) (r : ℕ × List Value) (ys : List (ℕ × List Value)) → Rise m (xs ++ r ∷ ys)
+    → AllByRecursion (λ (q : ℕ × List Value). n ≤ q.0) (xs ++ r ∷ ys) → next_after n xs ≤ r.0
+rise_after m n [] r ys up least = least.0
+rise_after m n (x ∷ xs) r ys up least =
+    rise_after m (x.0 + 1) xs r ys up.2
+    (rows_map {P = λ (q : ℕ × List Value). x.0 < q.0} {Q = λ (q : ℕ × List Value). x.0 + 1 ≤ q.0} (λ q l. omega (arith, l)) (xs ++ r ∷ ys) up.1)
+
+rise_below : (m : ℕ) (xs : List (ℕ × List Value)) (r : ℕ × List Value) (ys : List (ℕ × List Value)) → Rise m (xs ++ r ∷ ys) → r.0 < m
+rise_below m [] r ys up = up.0
+rise_below m (x ∷ xs) r ys up = rise_below m xs r ys up.2
+
+pub next_after_push : (n : ℕ) (xs : List (ℕ × List Value)) (r : ℕ × List Value) → next_after n (xs ++ r ∷ []) ≡ r.0 + 1
+next_after_push n [] r = refl
+next_after_push n (x ∷ xs) r = next_after_push (x.0 + 1) xs r
+
+module _ (all done rest new : List (ℕ × List Value)) (e : ℕ) (r : List Value) (parts : done ++ reverse rest ≡ all) (popped : rest ≡ new ++ (e, r) ∷ []) where
+  pub next_row : all ≡ done ++ (e, r) ∷ reverse new
+  next_row = sym parts ∙ ap (λ q. done ++ reverse q) popped ∙ ap (λ q. done ++ q) (reverse-append new ((e, r) ∷ []))
+
+  pub next_parts : (done ++ (e, r) ∷ []) ++ reverse new ≡ all
+  next_parts = append_assoc done ((e, r) ∷ []) (reverse new) ∙ sym next_row
+
+  -- where the ids rise the next one is above those in front of it, and below the last
+  pub next_rises : (m : ℕ) → Rise m all → (next_after 0 done ≤ e) × (e < m)
+  next_rises m up =
+      let here = subst (Rise m) next_row up in
+      (rise_after m 0 done (e, r) (reverse new) here (least_rows (done ++ (e, r) ∷ reverse new)), rise_below m done (e, r) (reverse new) here)

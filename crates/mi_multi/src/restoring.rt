@@ -279,7 +279,9 @@ impl MultiIndex {
         ensures shape { self.new.shape ≡ self.old.shape }
         ensures secrets { self.new.secrets ≡ self.old.secrets }
     {
-        for (id, row) in rows {
+        let mut rest = rows;
+        rest.reverse();
+        'rows: while let Some((id, row)) = rest.pop() {
             if id < self.next || next <= id {
                 return Err(RestoreFault::Id(id));
             }
