@@ -7,6 +7,10 @@ use Rattle.std.specs.List.{AllByRecursion}
 use Rattle.std.specs.Ordering.{on, nat_cmp}
 use Rattle.std.specs.Cmp.{on_total}
 use Rattle.std.specs.Option.{is_some}
+use Rattle.std.specs.List.{sum_by}
+use Rattle.std.specs.List.Sorted.{IsPermutation, IsNonDecreasing}
+use Rattle.std.proofs.lemmas.List.Sorted.{sum_by-IsPermutation}
+use Rattle.std.proofs.lemmas.List.Sums.{sum_by-cons}
 use Rattle.std.specs.Map.{lookup}
 use Rattle.std.proofs.lemmas.Cmp.{nat_cmp_total}
 use Rattle.std.proofs.lemmas.Bool.{false≢true}
@@ -30,11 +34,11 @@ use Rattle.mi_node.specs.Refs.{Ref}
 use Rattle.mi_container.specs.Changes.{with_content, in_order, moved_order, relocated_in, new_node, inserted}
 use Rattle.mi_container.specs.Fits.{IsThere}
 use Rattle.mi_container.specs.Restore.{with_stamp, restamped_in, restamped_all, moved_all, High, Low, SameBut, InOrderTo, HasRows, next_after}
-use Rattle.mi_container.proofs.PairLemmas.{is_other, lookup_push, lookup_push_same}
+use Rattle.mi_container.proofs.PairLemmas.{none_some, is_other, lookup_push, lookup_push_same}
 use Rattle.mi_container.proofs.StampLemmas.{new_at, stamps_with}
 use Rattle.mi_container.proofs.SequenceLemmas.{Once, drop_is, drop_isnt, without_lacks}
 use Rattle.mi_container.proofs.ContentLemmas.{node_with, node_beside}
-use Rattle.mi_container.proofs.InvariantLemmas.{there_has, has_there, each_there, each_once, stamp_there, stamp_early, stamps_long, no_next}
+use Rattle.mi_container.proofs.InvariantLemmas.{there_has, has_there, each_there, each_once, stamp_there, stamp_early, stamps_long, no_next, rows_climb}
 use Rattle.mi_container.proofs.ViewLemmas.{stamps_rise_in}
 use Rattle.mi_container.proofs.RestampLemmas.{rows_plain, there_still, there_was, stamp_beside, stamp_here, stamp_other, long_lists}
 
@@ -71,7 +75,7 @@ same_both x d n o f g = record {
   stamps = λ y b ne. g.stamps y b ne ∙ f.stamps y b ne;
 }
 
-plain_ids : (rows : List (ℕ × Node)) → map (λ r. r.0) (map plain_row rows) ≡ ids_of rows
+pub plain_ids : (rows : List (ℕ × Node)) → map (λ r. r.0) (map plain_row rows) ≡ ids_of rows
 plain_ids [] = refl
 plain_ids (r ∷ rows) = ap (λ q. r.0 ∷ q) (plain_ids rows)
 
@@ -647,3 +651,94 @@ module _ (all done rest new : List (ℕ × List Value)) (e : ℕ) (r : List Valu
   next_rises m up =
       let here = subst (Rise m) next_row up in
       (rise_after m 0 done (e, r) (reverse new) here (least_rows (done ++ (e, r) ∷ reverse new)), rise_below m done (e, r) (reverse new) here)
+
+-- The ids of the rows, in their order
+
+ids_above : (a : ℕ) (rows : List (ℕ × Node)) → AllByRecursion (λ (q : ℕ × Node). a < q.0) rows → AllByRecursion (λ b. nat_cmp a b ≡ Less) (ids_of rows)
+ids_above a [] all = tt
+ids_above a (q ∷ rows) all = (less_is a q.0 all.0, ids_above a rows all.1)
+
+ids_rise : (next : ℕ) (rows : List (ℕ × Node)) → Climbs next rows → Rises nat_cmp (ids_of rows)
+ids_rise next [] up = tt
+ids_rise next (r ∷ rows) up = (ids_above r.0 rows up.1, ids_rise next rows up.2)
+
+none_above : (e : ℕ) (rows : List (ℕ × Node)) → AllByRecursion (λ (q : ℕ × Node). e < q.0) rows → times e (ids_of rows) ≡ 0
+none_above e [] all = refl
+none_above e (q ∷ rows) all =
+    let l = all.0 in
+    let z : cond {A = ℕ} (q.0 == e) 1 0 ≡ 0 = ap (λ b. cond {A = ℕ} b 1 0) (is_other q.0 e (λ same. absurd (omega (arith, l, same)))) in
+    let rest = none_above e rows all.1 in omega (arith, z, rest)
+
+ids_counted : (next e : ℕ) (rows : List (ℕ × Node)) → Climbs next rows
+    → times e (ids_of rows) ≡ cond {A = ℕ} (is_some (lookup (λ k. k == e) (map plain_row rows))) 1 0
+ids_counted next e [] up = refl
+ids_counted next e (r ∷ rows) up =
+    elim (eqb_tells r.0 e) [
+      | inl same ↦
+          let rest : times e (ids_of rows) ≡ 0 = none_above e rows (subst (λ k. AllByRecursion (λ (q : ℕ × Node). k < q.0) rows) same.1 up.1) in
+          let one_ : cond {A = ℕ} (r.0 == e) 1 0 ≡ 1 = ap (λ b. cond {A = ℕ} b 1 0) same.0 in
+          let all : times e (ids_of (r ∷ rows)) ≡ 1 = omega (arith, rest, one_) in
+          all ∙ sym (ap (λ b. cond {A = ℕ} (is_some (cond b (Some r.1.content.values) (lookup (λ k. k == e) (map plain_row rows)))) 1 0) same.0)
+      | inr other ↦
+          let zero_ : cond {A = ℕ} (r.0 == e) 1 0 ≡ 0 = ap (λ b. cond {A = ℕ} b 1 0) other.0 in
+          let rest = ids_counted next e rows up.2 in
+          let all : times e (ids_of (r ∷ rows)) ≡ cond {A = ℕ} (is_some (lookup (λ k. k == e) (map plain_row rows))) 1 0 = omega (arith, zero_, rest) in
+          all ∙ sym (ap (λ b. cond {A = ℕ} (is_some (cond b (Some r.1.content.values) (lookup (λ k. k == e) (map plain_row rows)))) 1 0) other.0)
+    ]
+
+pub ids_each : (s : Shape) (d : Data) → IsData s d → ListsEach (as_table d) (ids_of d.rows)
+ids_each s d is e = ids_counted d.next e d.rows (rows_climb s d is)
+
+-- A list that is sorted
+
+times_sum : (e : ℕ) (ids : List ℕ) → times e ids ≡ sum_by (λ a. cond {A = ℕ} (a == e) 1 0) ids
+times_sum e [] = refl
+times_sum e (a ∷ ids) = ap (λ n. cond {A = ℕ} (a == e) 1 0 + n) (times_sum e ids) ∙ sym (sum_by-cons (λ a. cond {A = ℕ} (a == e) 1 0) a ids)
+
+times_moved : (xs ys : List ℕ) → IsPermutation xs ys → (e : ℕ) → times e ys ≡ times e xs
+times_moved xs ys p e = times_sum e ys ∙ sum_by-IsPermutation (λ a. cond {A = ℕ} (a == e) 1 0) xs ys p ∙ sym (times_sum e xs)
+
+above_all : (a : ℕ) (xs : List ℕ) → ((j : ℕ) → j < length xs → a ≤ get_or xs j 0) → Lacks a xs → AllByRecursion (λ b. nat_cmp a b ≡ Less) xs
+above_all a [] f lacks = tt
+above_all a (b ∷ xs) f lacks = (
+  (let l = f 0 (omega arith) in let ne = lacks.0 in less_is a b (omega (arith, l, ne))),
+  above_all a xs (λ j l. f (suc j) (omega (arith, l))) lacks.1,
+)
+
+sorted_rises : (xs : List ℕ) → ((i j : ℕ) → i ≤ j → j < length xs → get_or xs i 0 ≤ get_or xs j 0) → Once xs → Rises nat_cmp xs
+sorted_rises [] f once = tt
+sorted_rises (a ∷ xs) f once = (
+  above_all a xs (λ j l. f 0 (suc j) (omega arith) (omega (arith, l))) once.0,
+  sorted_rises xs (λ i j le l. f (suc i) (suc j) (omega (arith, le)) (omega (arith, l))) once.1,
+)
+
+module _ (s : Shape) (d : Data) (is : IsData s d) (ids list copy : List ℕ) (ids_are : ids ≡ ids_of d.rows) (moved : IsPermutation list copy) where
+  pub list_has_ids : copy ≡ ids → ListsEach (as_table d) list
+  list_has_ids same e = sym (times_moved list copy moved e) ∙ ap (times e) (same ∙ ids_are) ∙ ids_each s d is e
+
+  pub list_has_others : IsNonDecreasing copy → (copy ≡ ids → ⊥) → ListsEach (as_table d) list → ⊥
+  list_has_others sorted_ other each =
+      let here : ListsEach (as_table d) copy = λ e. times_moved list copy moved e ∙ each e in
+      other (rises_once nat_cmp nat_cmp_total copy (ids_of d.rows)
+      (sorted_rises copy (λ i j le l. sorted_ i j 0 le l) (each_once (as_table d) copy here)) (ids_rise d.next d.rows (rows_climb s d is))
+      (λ e. here e ∙ sym (ids_each s d is e)) ∙ sym ids_are)
+
+-- a claim on each list
+pub each_list : (P : List ℕ → Type 0) (lists : List (List ℕ)) → ((x : ℕ) → x < length lists → P (get_or lists x [])) → AllByRecursion P lists
+each_list P [] f = tt
+each_list P (ids ∷ lists) f = (f 0 (omega arith), each_list P lists (λ x l. f (suc x) (omega (arith, l))))
+
+-- What a container opens with, with other counters
+
+pub opened_counted : (s : Shape) (d : Data) (n : ℕ) → IsData s d → d.rows ≡ [] → d.kept ≡ [] → IsData s (record d { next = 0; arrivals = n })
+opened_counted s d n is none_ none_kept =
+    is_data_counted s d 0 n is none_kept (subst (λ (q : List (ℕ × Node)). Rise 0 (map plain_row q)) (sym none_) tt)
+    (λ x has_ b there. absurd (none_some (sym (ap (λ (q : List (ℕ × Node)). node_of q b) none_) ∙ there.1)))
+
+pub opened_rows : (d : Data) (n : ℕ) → d.rows ≡ [] → d.kept ≡ [] → HasRows n [] (record d { next = 0; arrivals = n })
+opened_rows d n none_ none_kept = record {
+  rows_are = ap (map plain_row) none_;
+  high = λ x has_ b there. absurd (none_some (sym (ap (λ (q : List (ℕ × Node)). node_of q b) none_) ∙ there.1));
+  arrivals = omega arith;
+  kept = none_kept;
+}

@@ -6,12 +6,16 @@
 --     InOrderTo      the indexes below a number are in the order of their lists
 --     HasRows      rows that have come in, with stamps from a count on
 --     IsRowFault, IsRowsFault      why a row, or one of many, doesn't come in
-use Rattle.std.specs.Prelude.{◌≡◌, ◌≢◌, ℕ, ◌+◌, ◌<◌, ◌≤◌, List, [], ◌∷◌, ◌++◌, true, map, drop, length, slice_set, slice_index_or, suc}
+--     IsListFault, IsListsFault      why a list, or one of many, is none of an index
+--     IsRestoreFault      why a table isn't restored
+use Rattle.std.specs.Prelude.{◌≡◌, ◌≢◌, ℕ, ◌+◌, ◌<◌, ◌≤◌, ◌⊎◌, List, [], ◌∷◌, ◌++◌, true, map, drop, length, slice_set, slice_index_or, suc}
 use Rattle.std.specs.declared.option.Option.TheVariants.{None, Some}
 use Rattle.mi_value.specs.declared.value.Value.{Value}
-use Rattle.mi_catalog.specs.Shape.{Shape}
+use Rattle.mi_value.specs.declared.limits.TheConstants.{LAST_COUNT}
+use Rattle.mi_catalog.specs.Kinds.{is_sorted}
+use Rattle.mi_catalog.specs.Shape.{Shape, index_at}
 use Rattle.mi_catalog.specs.Key.{Row}
-use Rattle.mi_model.specs.Table.{list_of, Rise}
+use Rattle.mi_model.specs.Table.{Table, ListsEach, list_of, size, Rise}
 use Rattle.mi_model.specs.Conflict.{conflict_from}
 use Rattle.mi_container.specs.Data.{Content, Data, has_stamps, order_at, content_of, stamp_of, plain_row, as_table}
 use Rattle.mi_container.specs.Changes.{with_content, relocated_in}
@@ -101,3 +105,31 @@ IsRowsFault s next rows fault.Memory = Unit {0}
 abbrev pub next_after : ℕ → List Row → ℕ
 next_after n [] = n
 next_after n (r ∷ rows) = next_after (r.0 + 1) rows
+
+-- the index of number x goes by the ids alone
+abbrev pub GoesByIds : Shape → ℕ → Type 0
+GoesByIds s x = (is_sorted (index_at s x).kind ≡ true) × ((index_at s x).parts ≡ [])
+
+-- why a list is none of the index of number x: it hasn't each id once and nothing else, or the index goes by the ids
+abbrev pub IsListFault : Shape → Table → ℕ → List ℕ → RestoreFault → Type 0
+IsListFault s t x ids fault.Full = ⊥
+IsListFault s t x ids fault.Counters = ⊥
+IsListFault s t x ids fault.Lists = ⊥
+IsListFault s t x ids (fault.Id a) = ⊥
+IsListFault s t x ids (fault.List y) = (y ≡ x) × ((ListsEach t ids → ⊥) ⊎ (GoesByIds s x × (ids ≡ map (λ r. r.0) t.rows → ⊥)))
+IsListFault s t x ids (fault.Unique y a b) = ⊥
+IsListFault s t x ids fault.Memory = Unit {0}
+
+-- why these are none of the indexes
+abbrev pub IsListsFault : Shape → Table → List (List ℕ) → RestoreFault → Type 0
+IsListsFault s t lists e = (x : ℕ) × (x < length lists) × IsListFault s t x (slice_index_or lists x []) e
+
+-- why a table isn't restored; other than memory each is a fact of the table
+abbrev pub IsRestoreFault : Shape → Table → RestoreFault → Type 0
+IsRestoreFault s t fault.Full = s.max_rows < size t
+IsRestoreFault s t fault.Counters = (LAST_COUNT < t.next) ⊎ ((LAST_COUNT < t.arrivals) ⊎ (t.arrivals < size t))
+IsRestoreFault s t fault.Lists = length t.lists ≢ length s.indexes
+IsRestoreFault s t (fault.Id a) = IsRowsFault s t.next t.rows (fault.Id a)
+IsRestoreFault s t (fault.List x) = IsListsFault s t t.lists (fault.List x)
+IsRestoreFault s t (fault.Unique x a b) = IsRowsFault s t.next t.rows (fault.Unique x a b)
+IsRestoreFault s t fault.Memory = Unit {0}

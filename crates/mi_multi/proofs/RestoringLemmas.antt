@@ -6,12 +6,13 @@ use Rattle.std.proofs.lemmas.List.{get_or-set_same, get_or-set_other}
 use Rattle.mi_catalog.specs.declared.index.Index.{Index}
 use Rattle.mi_catalog.specs.declared.index.IndexKind.{IndexKind}
 use Rattle.mi_catalog.specs.declared.index.IndexKind.TheVariants as kinds
-use Rattle.mi_catalog.specs.Kinds.{is_sequenced}
+use Rattle.mi_catalog.specs.Kinds.{is_sequenced, is_sorted}
 use Rattle.mi_catalog.specs.Shape.{Shape, index_at}
 use Rattle.mi_container.specs.Asked.{IsSequenced}
 use Rattle.mi_container.specs.Data.{Order, order_at, KindFits, KindsFit}
 use Rattle.mi_container.specs.Data.Order.{ById, ByKey, ByHash, Listed}
 use Rattle.mi_container.specs.Fits.{HasOwnList}
+use Rattle.mi_container.specs.Restore.{GoesByIds}
 use Rattle.mi_multi.specs.Physical.{order_of, orders_of}
 use Rattle.mi_multi.specs.Multi.{own_lists}
 use Rattle.mi_multi.specs.Restoring.{keeping_of}
@@ -106,3 +107,11 @@ list_given xs x v ids l is same = same ∙ sym (item_at xs x v l is)
 pub long_given : (xs : List (Vec ℕ Global)) → length (map (λ (w : Vec ℕ Global). w.items) xs) ≡ length xs
 long_given [] = refl
 long_given (w ∷ xs) = ap suc (long_given xs)
+
+fits_ids : (i : Index) (o : Order) → KindFits i o → o ≡ ById → (is_sorted i.kind ≡ true) × (i.parts ≡ [])
+fits_ids i o f is = subst (KindFits i) is f
+
+-- an index that keeps its rows by their ids goes by them alone
+pub ids_alone : (s : Shape) (os : List Order) (x : ℕ) (k : Keeping) → KindsFit s.indexes os → x < length s.indexes
+    → k ≡ keeping_of (order_at os x) → k ≡ keeping.Ids → GoesByIds s x
+ids_alone s os x k fit few h is = fits_ids (index_at s x) (order_at os x) (kinds_at s.indexes os x _ fit few) (goes_by_ids (order_at os x) k h is)

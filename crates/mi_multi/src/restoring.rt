@@ -1,6 +1,6 @@
 //! A container that is restored from a table: its rows come in by their ids, and then each index is put in the order of its
 //! list. No stamp crosses the border, only order.
-ghost use Rattle.std.specs.Prelude.{◌≡◌, ◌≢◌, ◌+◌, ◌^◌, ◌<◌, ◌≤◌, ◌==◌, ℕ, true, List, [], ◌∷◌, ◌++◌, map, length, slice_index_or, IfOk, IfErr};
+ghost use Rattle.std.specs.Prelude.{◌≡◌, ◌≢◌, ◌+◌, ◌^◌, ◌<◌, ◌≤◌, ◌==◌, ℕ, true, false, List, [], ◌∷◌, ◌++◌, map, length, slice_index_or, IfOk, IfErr};
 ghost use Rattle.std.specs.List.{AllByRecursion};
 ghost use Rattle.mi_value.specs.declared.limits.TheConstants.{LAST_COUNT as last_count};
 ghost use Rattle.mi_model.specs.Table.{ListsEach, list_of, size as size_of};
@@ -13,14 +13,14 @@ ghost use Rattle.mi_container.specs.Data.{IsData, as_table, has_stamps, order_at
 ghost use Rattle.mi_container.specs.Data.Order.{ById};
 ghost use Rattle.mi_container.specs.Fits.{IsLive, IsThere, HasOwnList};
 ghost use Rattle.mi_container.specs.Backs.{row_seen};
-ghost use Rattle.mi_container.specs.Restore.{restamped_in, restamped_all, moved_all, High, Low, SameBut, InOrderTo, HasRows, IsRowFault, IsRowsFault};
+ghost use Rattle.mi_container.specs.Restore.{restamped_in, restamped_all, moved_all, High, Low, SameBut, InOrderTo, HasRows, IsRowFault, IsRowsFault, IsListFault, IsListsFault};
 ghost use Rattle.mi_multi.specs.Restoring.{keeping_of};
 
 use crate::multi::MultiIndex;
 use mi_catalog::IndexKind;
 use mi_container::{MAX_PLACES, RestoreFault, RowRef};
 use mi_value::{KeyPart, Record};
-use std::alloc::Global;
+use std::alloc::{AllocError, Global};
 
 /// How an index keeps the order of its rows: by their ids, by stamps, or by a list of its own.
 #[derive(Clone, Copy)]
@@ -39,6 +39,14 @@ fn by_parts(parts: &[KeyPart]) -> Keeping
     } else {
         Keeping::Stamps
     }
+}
+
+/// Whether two lists of ids are the same.
+fn are_same(left: &[u64], right: &[u64]) -> bool
+    ensures yes { result ≡ true → left.now ≡ right.now }
+    ensures no { result ≡ false → left.now ≡ right.now → ⊥ }
+{
+    left == right
 }
 
 /// A mark for each index that a table may have; that of one index is set.
@@ -289,4 +297,71 @@ impl MultiIndex {
         }
         Ok(())
     }
+
+    /// Whether a list has each id once and nothing else. The ids are those of the rows.
+    fn has_each(&self, alloc: Global, ids: &[u64], list: &[u64]) -> Result<bool, AllocError>
+        requires { ids.now ≡ ids_of self.now.plain.rows }
+        ensures yes { IfOk result (λ b. b ≡ true → ListsEach (as_table self.now.plain) list.now) }
+        ensures other { IfOk result (λ b. b ≡ false → ListsEach (as_table self.now.plain) list.now → ⊥) }
+    {
+        self.keeps_rules();
+        let mut copy = Vec::from_slice(alloc, list)?;
+        copy.sort()?;
+        Ok(are_same(copy.as_slice(), ids))
+    }
+
+    /// Refuses a list that is none of the index of a number.
+    fn check_list(
+        &self,
+        alloc: Global,
+        index: usize,
+        ids: &[u64],
+        list: &[u64],
+    ) -> Result<(), RestoreFault>
+        requires index { index < length self.now.shape.indexes }
+        requires ids { ids.now ≡ ids_of self.now.plain.rows }
+        ensures each { IfOk result (λ _. ListsEach (as_table self.now.plain) list.now) }
+        ensures by_id { IfOk result (λ _. order_at self.now.plain.orders index ≡ ById → list.now ≡ ids_of self.now.plain.rows) }
+        ensures fault { IfErr result (λ e. IsListFault self.now.shape (as_table self.now.plain) index list.now e) }
+    {
+        self.keeps_rules();
+        if !self.has_each(alloc, ids, list)? {
+            return Err(RestoreFault::List(index));
+        }
+        match self.keeping(index) {
+            Keeping::Ids if !are_same(list, ids) => Err(RestoreFault::List(index)),
+            _ => Ok(()),
+        }
+    }
+
+    /// Refuses lists of which one is none of its index.
+    fn check_lists(
+        &self,
+        alloc: Global,
+        ids: &[u64],
+        lists: &[Vec<u64>],
+    ) -> Result<(), RestoreFault>
+        requires long { length lists.now ≡ length self.now.shape.indexes }
+        requires ids { ids.now ≡ ids_of self.now.plain.rows }
+        ensures each { IfOk result (λ _. AllByRecursion (ListsEach (as_table self.now.plain)) (map (λ l. l.items) lists.now)) }
+        ensures by_id { IfOk result (λ _. (x : ℕ) → x < length self.now.shape.indexes → order_at self.now.plain.orders x ≡ ById
+            → slice_index_or (map (λ l. l.items) lists.now) x [] ≡ ids_of self.now.plain.rows) }
+        ensures fault { IfErr result (λ e. IsListsFault self.now.shape (as_table self.now.plain) (map (λ l. l.items) lists.now) e) }
+    {
+        for index in 0..lists.len() {
+            self.check_list(alloc, index, ids, lists[index].as_slice())?;
+        }
+        Ok(())
+    }
+}
+
+/// The ids of rows.
+fn row_ids(alloc: Global, rows: &[(u64, Record)]) -> Result<Vec<u64>, AllocError>
+    ensures { IfOk result (λ ids. ids.items ≡ map (λ r. r.0) rows.now) }
+{
+    let mut ids = Vec::new(alloc);
+    for (id, _row) in rows {
+        ids.push(*id)?;
+    }
+    Ok(ids)
 }
