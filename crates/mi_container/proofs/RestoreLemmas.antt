@@ -9,7 +9,7 @@ use Rattle.std.specs.Cmp.{on_total}
 use Rattle.std.specs.Option.{is_some}
 use Rattle.std.specs.List.{sum_by}
 use Rattle.std.specs.List.Sorted.{IsPermutation, IsNonDecreasing}
-use Rattle.std.proofs.lemmas.List.Sorted.{sum_by-IsPermutation}
+use Rattle.std.proofs.lemmas.List.Sorted.{sum_by-IsPermutation, length_permutation}
 use Rattle.std.proofs.lemmas.List.Sums.{sum_by-cons}
 use Rattle.std.specs.Map.{lookup}
 use Rattle.std.proofs.lemmas.Cmp.{nat_cmp_total}
@@ -33,7 +33,9 @@ use Rattle.mi_container.specs.Data.Order.{ById, ByKey, ByHash, Listed}
 use Rattle.mi_node.specs.Refs.{Ref}
 use Rattle.mi_container.specs.Changes.{with_content, in_order, moved_order, relocated_in, new_node, inserted}
 use Rattle.mi_container.specs.Fits.{IsThere}
-use Rattle.mi_container.specs.Restore.{with_stamp, restamped_in, restamped_all, moved_all, High, Low, SameBut, InOrderTo, HasRows, next_after}
+use Rattle.mi_container.specs.Restore.{with_stamp, restamped_in, restamped_all, moved_all, High, Low, SameBut, InOrderTo, HasRows, next_after, IsRowsFault, IsListsFault, IsRestoreFault}
+use Rattle.mi_container.specs.declared.restore.RestoreFault.{RestoreFault}
+use Rattle.mi_container.specs.declared.restore.RestoreFault.TheVariants as fault
 use Rattle.mi_container.proofs.PairLemmas.{none_some, is_other, lookup_push, lookup_push_same}
 use Rattle.mi_container.proofs.StampLemmas.{new_at, stamps_with}
 use Rattle.mi_container.proofs.SequenceLemmas.{Once, drop_is, drop_isnt, without_lacks}
@@ -716,6 +718,9 @@ module _ (s : Shape) (d : Data) (is : IsData s d) (ids list copy : List ℕ) (id
   pub list_has_ids : copy ≡ ids → ListsEach (as_table d) list
   list_has_ids same e = sym (times_moved list copy moved e) ∙ ap (times e) (same ∙ ids_are) ∙ ids_each s d is e
 
+  pub list_long : copy ≡ ids → length list ≡ length ids
+  list_long same = sym (length_permutation list copy moved) ∙ ap (λ (q : List ℕ). length q) same
+
   pub list_has_others : IsNonDecreasing copy → (copy ≡ ids → ⊥) → ListsEach (as_table d) list → ⊥
   list_has_others sorted_ other each =
       let here : ListsEach (as_table d) copy = λ e. times_moved list copy moved e ∙ each e in
@@ -742,3 +747,56 @@ opened_rows d n none_ none_kept = record {
   arrivals = omega arith;
   kept = none_kept;
 }
+
+-- Faults
+
+pub rows_fault : (s : Shape) (t : Table) (e : RestoreFault) → IsRowsFault s t.next t.rows e → IsRestoreFault s t e
+rows_fault s t fault.Full h = absurd h
+rows_fault s t fault.Counters h = absurd h
+rows_fault s t fault.Lists h = absurd h
+rows_fault s t (fault.Id a) h = h
+rows_fault s t (fault.List x) h = absurd h
+rows_fault s t (fault.Unique x a b) h = h
+rows_fault s t fault.Memory h = tt
+
+pub lists_fault : (s : Shape) (t u : Table) → u.rows ≡ t.rows → (e : RestoreFault) → IsListsFault s u t.lists e → IsRestoreFault s t e
+lists_fault s t u same fault.Full h = absurd h.2
+lists_fault s t u same fault.Counters h = absurd h.2
+lists_fault s t u same fault.Lists h = absurd h.2
+lists_fault s t u same (fault.Id a) h = absurd h.2
+lists_fault s t u same (fault.List x) h =
+    subst (λ rows. IsListsFault s (record { rows = rows; lists = u.lists; next = u.next; arrivals = u.arrivals }) t.lists (fault.List x)) same h
+lists_fault s t u same (fault.Unique x a b) h = absurd h.2
+lists_fault s t u same fault.Memory h = tt
+
+-- the ids of rows that have come in
+pub ids_of_rows : (n : ℕ) (rows : List (ℕ × List Value)) (d : Data) (ids : List ℕ) → HasRows n rows d → ids ≡ map (λ r. r.0) rows → ids ≡ ids_of d.rows
+ids_of_rows n rows d ids h is = is ∙ ap (map (λ (r : ℕ × List Value). r.0)) (sym h.rows_are) ∙ plain_ids d.rows
+
+length_map : {A B : Type 0} (f : A → B) (xs : List A) → length (map f xs) ≡ length xs
+length_map f [] = refl
+length_map f (a ∷ xs) = ap suc (length_map f xs)
+
+pub ids_long : (n : ℕ) (rows : List (ℕ × List Value)) (d : Data) → HasRows n rows d → length (ids_of d.rows) ≡ length rows
+ids_long n rows d h = length_map (λ (r : ℕ × Node). r.0) d.rows ∙ sym (length_map plain_row d.rows) ∙ ap (λ (q : List (ℕ × List Value)). length q) h.rows_are
+
+-- All in order, with the counters
+
+module _ (s : Shape) (n : ℕ) (rows : List (ℕ × List Value)) (lists : List (List ℕ)) (next arrivals : ℕ) (d c : Data)
+    (h : HasRows n rows d) (i : ℕ) (to : InOrderTo i n lists d c) (is : IsData s c) (all : length d.orders ≤ i) (long : length lists ≡ length d.orders)
+    (below : d.next ≤ next) (enough : n ≤ arrivals) where
+  pub filled_kept : c.kept ≡ []
+  filled_kept = to.kept ∙ h.kept
+
+  pub filled_data : IsData s (record c { next = next; arrivals = arrivals })
+  filled_data =
+      is_data_counted s c next arrivals is filled_kept
+      (rise_more c.next next (map plain_row c.rows) (let e = to.next in omega (arith, e, below)) is.table.ordered)
+      (λ x has_ b there. let l = ordered_low i n lists d c to all long x has_ b there in omega (arith, l, enough))
+
+  pub filled_table : (o : Data) → o ≡ record c { next = next; arrivals = arrivals }
+      → as_table o ≡ record { rows = rows; lists = lists; next = next; arrivals = arrivals }
+  filled_table o o_is =
+      let rows_are = to.rows ∙ h.rows_are in
+      let lists_are = ordered_lists i n lists d c to all long in
+      ap as_table o_is ∙ (λ j. record { rows = rows_are j; lists = lists_are j; next = next; arrivals = arrivals })

@@ -13,7 +13,7 @@ ghost use Rattle.mi_container.specs.Data.{IsData, as_table, has_stamps, order_at
 ghost use Rattle.mi_container.specs.Data.Order.{ById};
 ghost use Rattle.mi_container.specs.Fits.{IsLive, IsThere, HasOwnList};
 ghost use Rattle.mi_container.specs.Backs.{row_seen};
-ghost use Rattle.mi_container.specs.Restore.{restamped_in, restamped_all, moved_all, High, Low, SameBut, InOrderTo, HasRows, IsRowFault, IsRowsFault, IsListFault, IsListsFault};
+ghost use Rattle.mi_container.specs.Restore.{restamped_in, restamped_all, moved_all, High, Low, SameBut, InOrderTo, HasRows, IsRowFault, IsRowsFault, IsListFault, IsListsFault, IsRestoreFault};
 ghost use Rattle.mi_multi.specs.Restoring.{keeping_of};
 
 use crate::multi::MultiIndex;
@@ -302,6 +302,7 @@ impl MultiIndex {
     fn has_each(&self, alloc: Global, ids: &[u64], list: &[u64]) -> Result<bool, AllocError>
         requires { ids.now ≡ ids_of self.now.plain.rows }
         ensures yes { IfOk result (λ b. b ≡ true → ListsEach (as_table self.now.plain) list.now) }
+        ensures long { IfOk result (λ b. b ≡ true → length list.now ≡ length ids.now) }
         ensures other { IfOk result (λ b. b ≡ false → ListsEach (as_table self.now.plain) list.now → ⊥) }
     {
         self.keeps_rules();
@@ -321,6 +322,7 @@ impl MultiIndex {
         requires index { index < length self.now.shape.indexes }
         requires ids { ids.now ≡ ids_of self.now.plain.rows }
         ensures each { IfOk result (λ _. ListsEach (as_table self.now.plain) list.now) }
+        ensures long { IfOk result (λ _. length list.now ≡ length ids.now) }
         ensures by_id { IfOk result (λ _. order_at self.now.plain.orders index ≡ ById → list.now ≡ ids_of self.now.plain.rows) }
         ensures fault { IfErr result (λ e. IsListFault self.now.shape (as_table self.now.plain) index list.now e) }
     {
@@ -344,6 +346,7 @@ impl MultiIndex {
         requires long { length lists.now ≡ length self.now.shape.indexes }
         requires ids { ids.now ≡ ids_of self.now.plain.rows }
         ensures each { IfOk result (λ _. AllByRecursion (ListsEach (as_table self.now.plain)) (map (λ l. l.items) lists.now)) }
+        ensures counts { IfOk result (λ _. AllByRecursion (λ l. length l ≡ length ids.now) (map (λ l. l.items) lists.now)) }
         ensures by_id { IfOk result (λ _. (x : ℕ) → x < length self.now.shape.indexes → order_at self.now.plain.orders x ≡ ById
             → slice_index_or (map (λ l. l.items) lists.now) x [] ≡ ids_of self.now.plain.rows) }
         ensures fault { IfErr result (λ e. IsListsFault self.now.shape (as_table self.now.plain) (map (λ l. l.items) lists.now) e) }
@@ -351,6 +354,44 @@ impl MultiIndex {
         for index in 0..lists.len() {
             self.check_list(alloc, index, ids, lists[index].as_slice())?;
         }
+        Ok(())
+    }
+
+    /// Has a container without rows hold these, each index in the order of its list.
+    fn fill(
+        &mut self,
+        alloc: Global,
+        rows: Vec<(u64, Record)>,
+        lists: &[Vec<u64>],
+        next: u64,
+        arrivals: u64,
+    ) -> Result<(), RestoreFault>
+        requires none { self.old.plain.rows ≡ [] }
+        requires kept { self.old.plain.kept ≡ [] }
+        requires few { length rows.items ≤ self.old.shape.max_rows }
+        requires most { length rows.items < 2 ^ 62 }
+        requires long { length lists.now ≡ length self.old.shape.indexes }
+        requires next { next ≤ last_count }
+        requires arrivals { arrivals ≤ last_count }
+        requires enough { length rows.items ≤ arrivals }
+        ensures table { IfOk result (λ _. as_table self.new.plain ≡
+            record { rows = rows.items; lists = map (λ l. l.items) lists.now; next = next; arrivals = arrivals }) }
+        ensures kept { IfOk result (λ _. self.new.plain.kept ≡ []) }
+        ensures fault { IfErr result (λ e. IsRestoreFault self.old.shape
+            (record { rows = rows.items; lists = map (λ l. l.items) lists.now; next = next; arrivals = arrivals }) e) }
+        ensures shape { self.new.shape ≡ self.old.shape }
+        ensures secrets { self.new.secrets ≡ self.old.secrets }
+    {
+        let count = rows.len() as u64;
+        let ids = row_ids(alloc, rows.as_slice())?;
+        self.keeps_rules();
+        self.set_counters(0, count);
+        self.add_rows(alloc, rows, next)?;
+        self.check_lists(alloc, ids.as_slice(), lists)?;
+        self.keeps_rules();
+        self.put_all_in_order(lists, count);
+        self.keeps_rules();
+        self.set_counters(next, arrivals);
         Ok(())
     }
 }

@@ -2,7 +2,7 @@
 use Rattle.std.proofs.Common.{◌≡◌, ◌∙◌, ap, sym, subst, List, ℕ}
 use Rattle.std.specs.List.Sorted.{IsPermutation, IsNonDecreasing}
 use Rattle.std.proofs.lemmas.List.Sorted.{IsNonDecreasingBy-from_sort}
-use Rattle.mi_container.proofs.RestoreLemmas.{list_has_ids, list_has_others}
+use Rattle.mi_container.proofs.RestoreLemmas.{list_has_ids, list_has_others, list_long}
 use Rattle.mi_multi.proofs.multi.MultiIndex.has_each.Goals as goal
 
 pub returns-clause-yes : goal.returns-clause-yes
@@ -17,3 +17,9 @@ returns-clause-other c h =
     (subst (λ (q : List ℕ). IsPermutation q c.sort.new.self.items) c.in_ok-copy.ensures.items c.sort.ensures.permutation)
     (IsNonDecreasingBy-from_sort (λ x. x) c.sort.new.self.items c.in_ok-sort.ensures.sorted)
     (λ same. c.are_same.ensures.no h (c.as_slice.ensures.value ∙ same))
+
+pub returns-clause-long : goal.returns-clause-long
+returns-clause-long c h =
+    list_long c.args.self.now.shape c.args.self.now.plain c.keeps_rules.ensures c.args.ids.now c.args.list.now c.sort.new.self.items c.requires
+    (subst (λ (q : List ℕ). IsPermutation q c.sort.new.self.items) c.in_ok-copy.ensures.items c.sort.ensures.permutation)
+    (sym c.as_slice.ensures.value ∙ c.are_same.ensures.yes h)
