@@ -3,6 +3,7 @@ use Rattle.std.proofs.Common.{◌≡◌, ℕ, ◌<◌, zero, suc, true, false, i
 use Rattle.std.specs.Prelude.{◌==◌}
 use Rattle.std.proofs.lemmas.Bool.Decides.{eqb_tells}
 use Rattle.std.proofs.lemmas.List.{get_or-set_same, get_or-set_other}
+use Rattle.mi_value.specs.declared.value.Value.{Value}
 use Rattle.mi_catalog.specs.declared.index.Index.{Index}
 use Rattle.mi_catalog.specs.declared.index.IndexKind.{IndexKind}
 use Rattle.mi_catalog.specs.declared.index.IndexKind.TheVariants as kinds
@@ -115,3 +116,8 @@ fits_ids i o f is = subst (KindFits i) is f
 pub ids_alone : (s : Shape) (os : List Order) (x : ℕ) (k : Keeping) → KindsFit s.indexes os → x < length s.indexes
     → k ≡ keeping_of (order_at os x) → k ≡ keeping.Ids → GoesByIds s x
 ids_alone s os x k fit few h is = fits_ids (index_at s x) (order_at os x) (kinds_at s.indexes os x _ fit few) (goes_by_ids (order_at os x) k h is)
+
+-- As many ids as rows
+pub ids_count : (rows : List (ℕ × List Value)) → length (map (λ (r : ℕ × List Value). r.0) rows) ≡ length rows
+ids_count [] = refl
+ids_count (r ∷ rows) = ap suc (ids_count rows)

@@ -13,12 +13,14 @@ ghost use Rattle.mi_container.specs.Data.{IsData, as_table, has_stamps, order_at
 ghost use Rattle.mi_container.specs.Data.Order.{ById};
 ghost use Rattle.mi_container.specs.Fits.{IsLive, IsThere, HasOwnList};
 ghost use Rattle.mi_container.specs.Backs.{row_seen};
+ghost use Rattle.mi_container.specs.Secrets.{opened_secrets};
 ghost use Rattle.mi_container.specs.Restore.{restamped_in, restamped_all, moved_all, High, Low, SameBut, InOrderTo, HasRows, IsRowFault, IsRowsFault, IsListFault, IsListsFault, IsRestoreFault};
 ghost use Rattle.mi_multi.specs.Restoring.{keeping_of};
 
 use crate::multi::MultiIndex;
-use mi_catalog::IndexKind;
+use mi_catalog::{IndexKind, Schema};
 use mi_container::{MAX_PLACES, RestoreFault, RowRef};
+use mi_value::limits::LAST_COUNT;
 use mi_value::{KeyPart, Record};
 use std::alloc::{AllocError, Global};
 
@@ -387,12 +389,56 @@ impl MultiIndex {
         self.keeps_rules();
         self.set_counters(0, count);
         self.add_rows(alloc, rows, next)?;
-        self.check_lists(alloc, ids.as_slice(), lists)?;
-        self.keeps_rules();
-        self.put_all_in_order(lists, count);
-        self.keeps_rules();
-        self.set_counters(next, arrivals);
-        Ok(())
+        match self.check_lists(alloc, ids.as_slice(), lists) {
+            Err(fault) => Err(fault),
+            Ok(()) => {
+                self.keeps_rules();
+                self.put_all_in_order(lists, count);
+                self.keeps_rules();
+                self.set_counters(next, arrivals);
+                Ok(())
+            }
+        }
+    }
+
+    /// A container that holds a table: these rows, by ids that rise below `next`, and each index in the order of its list, of
+    /// which there is one an index. A list has each id once; that of a sequenced index is its order, and that of an ordered, ranked
+    /// or hashed one with parts the order in which rows of one key stand. No session is open, and no node is kept.
+    ///
+    /// A refusal says what is wrong with the table, or that memory was refused; then nothing is left.
+    pub fn restored(
+        alloc: Global,
+        schema: Schema,
+        secret: u64,
+        rows: Vec<(u64, Record)>,
+        lists: &[Vec<u64>],
+        next: u64,
+        arrivals: u64,
+    ) -> Result<MultiIndex, RestoreFault>
+        ensures shape { IfOk result (λ made. made.shape ≡ schema) }
+        ensures table { IfOk result (λ made. as_table made.plain ≡
+            record { rows = rows.items; lists = map (λ l. l.items) lists.now; next = next; arrivals = arrivals }) }
+        ensures kept { IfOk result (λ made. made.plain.kept ≡ []) }
+        ensures secrets { IfOk result (λ made. made.secrets ≡ opened_secrets secret schema) }
+        ensures fault { IfErr result (λ e. IsRestoreFault schema
+            (record { rows = rows.items; lists = map (λ l. l.items) lists.now; next = next; arrivals = arrivals }) e) }
+    {
+        schema.keeps_rules();
+        let count = rows.len() as u64;
+        if next > LAST_COUNT || arrivals > LAST_COUNT || arrivals < count {
+            return Err(RestoreFault::Counters);
+        }
+        if count > schema.max_rows() {
+            return Err(RestoreFault::Full);
+        }
+        if lists.len() != schema.index_count() {
+            return Err(RestoreFault::Lists);
+        }
+        let mut made = MultiIndex::new(alloc, schema, secret)?;
+        match made.fill(alloc, rows, lists, next, arrivals) {
+            Ok(()) => Ok(made),
+            Err(fault) => Err(fault),
+        }
     }
 }
 
