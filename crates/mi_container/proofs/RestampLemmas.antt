@@ -1,5 +1,5 @@
 -- A row gets another stamp in one index: the data stay data, and all other stamps stay.
-use Rattle.std.proofs.Common.{◌≡◌, ◌≢◌, ℕ, ◌+◌, ◌<◌, ◌≤◌, zero, suc, true, false, cond, ◌⊎◌, inl, inr, List}
+use Rattle.std.proofs.Common.{◌≡◌, ◌≢◌, ℕ, ◌<◌, zero, suc, true, cond, ◌⊎◌, inl, inr, List}
 use Rattle.std.proofs.Common.{[], ◌∷◌, map, length, get_or, set, refl, ap, sym, ◌∙◌, subst, arith}
 use Rattle.std.specs.List.{AllByRecursion}
 use Rattle.std.specs.Ordering.{on, nat_cmp}
@@ -7,29 +7,24 @@ use Rattle.std.specs.Option.{is_some}
 use Rattle.std.specs.Map.{lookup}
 use Rattle.std.specs.Prelude.{◌==◌}
 use Rattle.std.proofs.lemmas.Bool.{false≢true}
-use Rattle.std.proofs.lemmas.Bool.Decides.{eqb_tells, nat_tests}
+use Rattle.std.proofs.lemmas.Bool.Decides.{eqb_tells}
 use Rattle.std.proofs.lemmas.List.{get_or-set_same, get_or-set_other}
-use Rattle.std.specs.declared.cmp.Ordering.TheVariants.{Less}
-use Rattle.std.specs.declared.option.Option.TheVariants.{None, Some}
+use Rattle.std.specs.declared.option.Option.TheVariants.{Some}
 use Rattle.mi_catalog.specs.Shape.{Shape}
-use Rattle.mi_model.specs.Table.{Table, IsTable, ListsEach, Rise, times, has}
+use Rattle.mi_model.specs.Table.{Table, ListsEach, Rise, times, has}
 use Rattle.mi_model.specs.Unique.{HasUniqueKeys}
 use Rattle.mi_model.proofs.LookUpLaws.{times-sorted}
-use Rattle.mi_model.proofs.StampLaws.{Rises}
-use Rattle.mi_model.proofs.ViewLaws.{Lacks}
 use Rattle.mi_container.specs.Data.{Content, Node, Order, Data, has_stamps, node_of, content_in, content_of, stamp_of, ids_of}
-use Rattle.mi_container.specs.Data.{ids_by_stamp, listed, lists_from, plain_row, as_table, StampFits, StampsFit, IsData}
+use Rattle.mi_container.specs.Data.{listed, lists_from, plain_row, as_table, StampFits, StampsFit, IsData}
 use Rattle.mi_container.specs.Data.Order.{ById, ByKey, ByHash, Listed}
 use Rattle.mi_container.specs.Changes.{with_content}
 use Rattle.mi_container.specs.Fits.{IsThere}
-use Rattle.mi_container.specs.Restore.{with_stamp, restamped_in, restamped_all}
-use Rattle.mi_container.proofs.PairLemmas.{none_some, some_is, is_itself}
+use Rattle.mi_container.specs.Restore.{with_stamp, restamped_in}
+use Rattle.mi_container.proofs.PairLemmas.{none_some}
 use Rattle.mi_container.proofs.ContentLemmas.{node_with, node_beside}
-use Rattle.mi_container.proofs.StampLemmas.{fits_early}
 use Rattle.mi_container.proofs.NameLemmas.{names_with}
 use Rattle.mi_container.proofs.StampedListLemmas.{ids_with}
 use Rattle.mi_container.proofs.InvariantLemmas.{stamp_there, stamps_long}
-use Rattle.mi_container.proofs.SequenceLemmas.{Once}
 
 -- Rows
 

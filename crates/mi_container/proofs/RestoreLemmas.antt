@@ -1,7 +1,7 @@
 -- Rows that get rising stamps in one index stand there in the order of their list, and rows that go to the end of a list one
 -- after another stand in it in their order. Nothing else changes.
 use Rattle.std.proofs.Common.{◌≡◌, ◌≢◌, ℕ, ◌+◌, ◌<◌, ◌≤◌, zero, suc, true, false, cond, ◌⊎◌, inl, inr, List}
-use Rattle.std.proofs.Common.{[], ◌∷◌, ◌++◌, map, length, get_or, set, take, reverse, refl, ap, sym, ◌∙◌, subst, arith}
+use Rattle.std.proofs.Common.{[], ◌∷◌, ◌++◌, map, length, get_or, take, reverse, refl, ap, sym, ◌∙◌, subst, arith}
 use Rattle.std.specs.Prelude.{◌==◌}
 use Rattle.std.specs.List.{AllByRecursion}
 use Rattle.std.specs.Ordering.{on, nat_cmp}
@@ -31,7 +31,7 @@ use Rattle.mi_container.specs.Data.{Content, Node, Order, Data, has_stamps, node
 use Rattle.mi_container.specs.Data.{ids_by_stamp, listed, lists_from, order_at, plain_row, as_table, StampFits, StampsFit, KindsFit, Climbs, IsData}
 use Rattle.mi_container.specs.Data.Order.{ById, ByKey, ByHash, Listed}
 use Rattle.mi_node.specs.Refs.{Ref}
-use Rattle.mi_container.specs.Changes.{with_content, in_order, moved_order, relocated_in, new_node, inserted}
+use Rattle.mi_container.specs.Changes.{in_order, relocated_in, new_node, inserted}
 use Rattle.mi_container.specs.Fits.{IsThere}
 use Rattle.mi_container.specs.Restore.{with_stamp, restamped_in, restamped_all, moved_all, High, Low, SameBut, InOrderTo, HasRows, next_after, IsRowsFault, IsListsFault, IsRestoreFault}
 use Rattle.mi_container.specs.declared.restore.RestoreFault.{RestoreFault}
