@@ -387,8 +387,6 @@ moved_list s x ids l d is few listed_ each =
     ∙ ap (all_last ids) (sym (append-nil l))
     ∙ all_last_is ids l [] (each_once (as_table d) ids each) (λ b. mine b ∙ sym (each b)) (λ b some. tt)
 
--- Counters
-
 fits_low : (old new : ℕ) (os : List Order) (stamps : List ℕ) → StampsFit old os stamps
     → ((x : ℕ) → has_stamps (get_or os x ById) ≡ true → get_or stamps x 0 < new) → StampsFit new os stamps
 fits_low old new [] [] fit low = tt
@@ -747,8 +745,6 @@ opened_rows d n none_ none_kept = record {
   arrivals = omega arith;
   kept = none_kept;
 }
-
--- Faults
 
 pub rows_fault : (s : Shape) (t : Table) (e : RestoreFault) → IsRowsFault s t.next t.rows e → IsRestoreFault s t e
 rows_fault s t fault.Full h = absurd h

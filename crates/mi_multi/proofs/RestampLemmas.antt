@@ -13,14 +13,13 @@ use Rattle.std.specs.declared.cmp.Ordering.TheVariants.{Equal}
 use Rattle.std.specs.declared.option.Option.TheVariants.{None, Some}
 use Rattle.mi_value.specs.declared.compare.KeyPart.{KeyPart}
 use Rattle.mi_catalog.specs.declared.index.Index.{Index}
-use Rattle.mi_catalog.specs.Kinds.{is_sequenced}
 use Rattle.mi_catalog.specs.Shape.{Shape}
 use Rattle.mi_model.proofs.ViewLaws.{Lacks}
 use Rattle.mi_node.specs.Pool.{Pooled, value_of, link_of, IsHeld}
 use Rattle.mi_node.specs.Refs.{Ref}
 use Rattle.mi_node.specs.declared.link.Link.{Link as Line}
 use Rattle.mi_node.proofs.EntryLemmas.{some_inj}
-use Rattle.mi_tree.specs.Sorted.{NoneAre, compared}
+use Rattle.mi_tree.specs.Sorted.{NoneAre}
 use Rattle.mi_chain.specs.Keying.{stamp_at}
 use Rattle.mi_order.specs.declared.stored.Stored.{Stored}
 use Rattle.mi_index.specs.declared.structure.Structure.{Structure}
@@ -31,7 +30,7 @@ use Rattle.mi_index.specs.Places.{mark_at, NoneHas}
 use Rattle.mi_index.specs.Rekeying.{side_of_value, HasPlaceFor, KeepsKey, CanMove, CanMoveIf, HasMovedIf, rekeying, rekeyed, IsRekeyed}
 use Rattle.mi_index.specs.Pass.{AllCan, AllStand, AllLike, AreReady}
 use Rattle.mi_index.proofs.FrameLemmas.{itself}
-use Rattle.mi_container.specs.Data.{Content, Order, Data, has_stamps, content_in, content_of, stamp_of, node_of, IsData}
+use Rattle.mi_container.specs.Data.{Order, Data, has_stamps, content_in, content_of, stamp_of, node_of, IsData}
 use Rattle.mi_container.specs.Data.Order.{ById, ByKey, ByHash, Listed}
 use Rattle.mi_container.specs.Changes.{new_stamp}
 use Rattle.mi_container.specs.declared.inverse.RowRef.{RowRef as Row}
@@ -40,13 +39,13 @@ use Rattle.mi_container.specs.Fits.{IsThere, IsLive}
 use Rattle.mi_container.specs.Restore.{with_stamp, restamped_in}
 use Rattle.mi_container.proofs.RestampLemmas.{is_data_restamped}
 use Rattle.mi_ids.specs.declared.entry.IdEntry.{IdEntry}
-use Rattle.mi_multi.specs.Physical.{record_in, stamp_in, stamps_in, order_of, orders_of, plan, node_in, live_in}
-use Rattle.mi_multi.specs.Multi.{id_at, ids_at, own_list, own_lists, AreLive, HasNode, IsMulti, plain_of}
+use Rattle.mi_multi.specs.Physical.{record_in, stamp_in, stamps_in, order_of, plan, node_in, live_in}
+use Rattle.mi_multi.specs.Multi.{id_at, ids_at, own_list, AreLive, HasNode, IsMulti, plain_of}
 use Rattle.mi_multi.specs.Seen.{Seen, seen_of, AreMulti}
 use Rattle.mi_multi.specs.declared.multi.MultiIndex.TheInside.{Inside}
 use Rattle.mi_multi.proofs.TakeBackInsertLemmas.{live_there}
 use Rattle.mi_multi.proofs.PickLemmas.{get_picked}
-use Rattle.mi_multi.proofs.EveryIndexLemmas.{Every, Known, one, none, sorted_parts, hashed_order, sequenced_order, has_plan, one_plan}
+use Rattle.mi_multi.proofs.EveryIndexLemmas.{Every, Known, one, none, sorted_parts, hashed_order, sequenced_order}
 use Rattle.mi_multi.proofs.LiveNodeLemmas.{IsLiveRef, holds, id_of, lacks_middle, node_live, all_left, all_right, all_append}
 use Rattle.mi_multi.proofs.StampLemmas.{stamp_row}
 use Rattle.mi_multi.proofs.CountLemmas.{no_longer}

@@ -1,5 +1,5 @@
 -- The index goes by the ids alone, and the list is another.
-use Rattle.std.proofs.Common.{◌≡◌, ◌∙◌, inr, refl, sym}
+use Rattle.std.proofs.Common.{◌∙◌, inr, refl, sym}
 use Rattle.mi_container.proofs.RestoreLemmas.{plain_ids}
 use Rattle.mi_multi.proofs.RestoringLemmas.{ids_alone}
 use Rattle.mi_multi.proofs.multi.MultiIndex.check_list.Goals as goal

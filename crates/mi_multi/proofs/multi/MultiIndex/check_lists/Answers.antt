@@ -1,5 +1,5 @@
 -- So are all.
-use Rattle.std.proofs.Common.{◌≡◌, List, ℕ, map, length, arith}
+use Rattle.std.proofs.Common.{◌≡◌, map, length, arith}
 use Rattle.mi_model.specs.Table.{ListsEach}
 use Rattle.mi_container.specs.Data.{as_table}
 use Rattle.mi_container.proofs.RestoreLemmas.{each_list}

@@ -1,5 +1,5 @@
 -- the lists so far are those of indexes
-use Rattle.std.proofs.Common.{◌≡◌, ◌<◌, ◌≤◌, ℕ, List, [], map, get_or, length}
+use Rattle.std.proofs.Common.{◌≡◌, ◌<◌, ℕ, [], map, get_or, length}
 use Rattle.mi_model.specs.Table.{ListsEach}
 use Rattle.mi_container.specs.Data.{as_table, order_at, ids_of}
 use Rattle.mi_container.specs.Data.Order.{ById}

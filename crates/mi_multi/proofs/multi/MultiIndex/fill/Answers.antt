@@ -1,5 +1,5 @@
 -- The rows are in, and each index is in the order of its list; then the counters are set.
-use Rattle.std.proofs.Common.{◌≡◌, ◌∙◌, ◌≤◌, ap, sym, subst, List, ℕ, map, length, arith}
+use Rattle.std.proofs.Common.{◌≡◌, ◌∙◌, ap, sym, subst, List, ℕ, map, length, arith}
 use Rattle.std.specs.List.{AllByRecursion}
 use Rattle.mi_container.specs.Restore.{HasRows, IsListsFault}
 use Rattle.mi_container.proofs.RestoreLemmas.{ids_of_rows, lists_fault, filled_data, filled_table, kinds_long}

@@ -1,6 +1,6 @@
 -- A list that is sorted has each id once where it is that of the ids.
-use Rattle.std.proofs.Common.{◌≡◌, ◌∙◌, ap, sym, subst, List, ℕ}
-use Rattle.std.specs.List.Sorted.{IsPermutation, IsNonDecreasing}
+use Rattle.std.proofs.Common.{◌∙◌, sym, subst, List, ℕ}
+use Rattle.std.specs.List.Sorted.{IsPermutation}
 use Rattle.std.proofs.lemmas.List.Sorted.{IsNonDecreasingBy-from_sort}
 use Rattle.mi_container.proofs.RestoreLemmas.{list_has_ids, list_has_others, list_long}
 use Rattle.mi_multi.proofs.multi.MultiIndex.has_each.Goals as goal

@@ -1,5 +1,5 @@
 -- The order of the index is that of its kind and its parts.
-use Rattle.std.proofs.Common.{◌≡◌, ◌∙◌, ap, sym, List, ℕ}
+use Rattle.std.proofs.Common.{◌∙◌, ap, sym}
 use Rattle.mi_catalog.specs.declared.index.IndexKind.{IndexKind}
 use Rattle.mi_catalog.specs.Shape.{index_at}
 use Rattle.mi_container.specs.Changes.{sorted_order}

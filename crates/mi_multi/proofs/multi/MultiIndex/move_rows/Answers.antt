@@ -1,5 +1,5 @@
 -- Each row is there.
-use Rattle.std.proofs.Common.{ap, sym, ◌∙◌, subst, arith}
+use Rattle.std.proofs.Common.{sym, ◌∙◌, subst, arith}
 use Rattle.mi_catalog.specs.Shape.{Shape}
 use Rattle.mi_container.specs.Asked.{IsSequenced}
 use Rattle.mi_container.proofs.RestoreLemmas.{id_moves, moved_next}

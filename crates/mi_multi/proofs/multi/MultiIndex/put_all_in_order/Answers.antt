@@ -1,8 +1,7 @@
 -- Each index is still as it was when its turn comes.
-use Rattle.std.proofs.Common.{◌≡◌, ◌<◌, ◌≤◌, ap, sym, ◌∙◌, subst, true, List, ℕ, [], map, length, get_or, arith}
-use Rattle.mi_model.specs.Table.{ListsEach, list_of}
+use Rattle.std.proofs.Common.{◌≡◌, ◌<◌, ap, sym, ◌∙◌, subst, true, List, ℕ, [], map, length, get_or, arith}
+use Rattle.mi_model.specs.Table.{ListsEach}
 use Rattle.mi_model.proofs.TableLaws.{all_get}
-use Rattle.mi_catalog.specs.Shape.{Shape}
 use Rattle.mi_container.specs.Data.{as_table, has_stamps, order_at, ids_of}
 use Rattle.mi_container.specs.Data.Order.{ById}
 use Rattle.mi_container.specs.Restore.{High, Low}

@@ -1,5 +1,5 @@
 -- Rows that go to the end one after another stand in their order.
-use Rattle.std.proofs.Common.{◌≡◌, ◌<◌, ap, sym, ◌∙◌, subst, length, arith}
+use Rattle.std.proofs.Common.{◌<◌, ap, sym, ◌∙◌, subst, length, arith}
 use Rattle.mi_model.specs.Table.{list_of}
 use Rattle.mi_container.specs.Data.{Data, as_table, order_at}
 use Rattle.mi_container.specs.Restore.{SameBut}

@@ -1,13 +1,11 @@
 -- Rising stamps are the order of the list.
-use Rattle.std.proofs.Common.{◌≡◌, ◌<◌, ap, sym, ◌∙◌, subst, length, arith}
+use Rattle.std.proofs.Common.{◌<◌, ap, sym, ◌∙◌, subst, length, arith}
 use Rattle.mi_catalog.specs.Shape.{Shape}
-use Rattle.mi_index.proofs.OpeningLemmas.{few_indexes}
 use Rattle.mi_model.specs.Table.{list_of}
 use Rattle.mi_container.specs.Data.{Data, as_table, IsData}
 use Rattle.mi_container.specs.Restore.{Low, SameBut}
 use Rattle.mi_container.proofs.InvariantLemmas.{each_there}
 use Rattle.mi_container.proofs.RestoreLemmas.{same_all, all_low, restamped_list, kinds_long, long_of}
-use Rattle.mi_multi.specs.Seen.{Seen}
 use Rattle.mi_multi.proofs.multi.MultiIndex.put_by_stamps.Goals as goal
 
 pub returns-clause-same : goal.returns-clause-same

@@ -1,5 +1,5 @@
 -- An index that goes by the ids alone is in order; a sequenced one is of that kind.
-use Rattle.std.proofs.Common.{◌≡◌, ◌<◌, ap, sym, ◌∙◌, length, arith}
+use Rattle.std.proofs.Common.{◌<◌, ap, sym, ◌∙◌, length, arith}
 use Rattle.mi_container.specs.Data.{listed, order_at}
 use Rattle.mi_container.proofs.RestoreLemmas.{list_is, kinds_long}
 use Rattle.mi_multi.proofs.RestoringLemmas.{goes_by_ids, sequenced_of}

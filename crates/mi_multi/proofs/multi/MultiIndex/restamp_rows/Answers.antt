@@ -1,6 +1,5 @@
 -- Each row is there, and its new stamp is free.
-use Rattle.std.proofs.Common.{ap, sym, ◌∙◌, arith}
-use Rattle.mi_container.specs.Data.{as_table}
+use Rattle.std.proofs.Common.{◌∙◌, arith}
 use Rattle.mi_container.proofs.RestoreLemmas.{same_so_far, id_stays, free_so_far, restamped_next, long_of}
 use Rattle.mi_multi.proofs.multi.MultiIndex.restamp_rows.Goals as goal
 
