@@ -15,3 +15,5 @@ pub mod OpeningLemmas
 pub mod LawLemmas
 pub mod ViewLemmas
 pub mod MadeLemmas
+pub mod RestampLemmas
+pub mod RestoreLemmas

@@ -11,3 +11,4 @@ pub mod Held
 pub mod Made
 pub mod Backs
 pub mod Secrets
+pub mod Restore

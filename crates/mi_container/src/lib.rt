@@ -7,6 +7,8 @@ mod container;
 pub mod examples;
 mod inverse;
 pub mod laws;
+mod restore;
 
 pub use container::Container;
 pub use inverse::{Inverse, MAX_PLACES, OldPlaces, RowRef, Undo};
+pub use restore::RestoreFault;

@@ -11,3 +11,4 @@ pub mod RekeyLemmas
 pub mod OpeningLemmas
 pub mod LookUpLemmas
 pub mod WalkLemmas
+pub mod RestampLemmas

@@ -10,6 +10,7 @@ ghost use Rattle.mi_index.specs.Rekeying as rekey;
 ghost use Rattle.mi_index.specs.Inserting as insert;
 ghost use Rattle.mi_index.specs.Opened as opened;
 ghost use Rattle.mi_index.specs.declared.moves.Moves.TheVariants.{All};
+ghost use Rattle.mi_order.specs.declared.stored.Stored.{Stored as Value};
 
 use crate::all::Joining;
 use crate::moves::Moves;
@@ -142,6 +143,30 @@ impl Nodes {
         let old = self.pool.swap_value(node, stored);
         self.structures.relink(&mut self.pool, node, &moves);
         old
+    }
+
+    /// Moves a node in each index that is marked, by another stamp than it has there, and last in a list. Its value stays.
+    /// Takes no memory.
+    pub fn restamp(&mut self, node: NodeRef, marks: &[bool], stamp: u64)
+        requires held { IsHeld self.old.pool node }
+        requires places { (v : Value) × (value_of self.old.pool node.name ≡ Some v)
+            × AreReady (rekey.rekeying marks.now node v stamp) 0 self.old.structures.items self.old.pool }
+        ensures restamped { (v : Value) → value_of self.old.pool node.name ≡ Some v
+            → (rss : Seq (Seq Ref)) → AllStand self.old.structures.items 0 self.old.pool rss
+            → AllCan (rekey.rekeying marks.now node v stamp) self.old.structures.items 0 self.old.pool rss
+            → rekey.IsRekeyed (rekey.rekeyed marks.now node stamp) node v
+            self.old.structures.items self.new.structures.items self.old.pool self.new.pool rss }
+        ensures like { AllLike self.old.structures.items self.new.structures.items }
+    {
+        let moves = Moves::Marked(marks);
+        self.structures.unlink(&mut self.pool, node, &moves);
+        let joining = Joining {
+            node,
+            moves,
+            stamp,
+            before: None,
+        };
+        self.structures.link(&mut self.pool, &joining);
     }
 
     /// Moves a node in the list of the index of this number directly before another one, or to the end. Nothing changes

@@ -47,3 +47,5 @@ pub mod NewRecordLemmas
 pub mod OldPlaceLemmas
 pub mod PutCallLemmas
 pub mod WalkLemmas
+pub mod RestampLemmas
+pub mod RestoringLemmas

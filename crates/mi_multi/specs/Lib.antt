@@ -10,3 +10,4 @@ pub mod Changed
 pub mod Walks
 pub mod Past
 pub mod Columns
+pub mod Restoring

@@ -60,7 +60,7 @@ impl MultiIndex {
     /// index that `before` names it stands directly before the record that `before` names.
     ///
     /// Where memory is refused, the record is handed back.
-    fn insert_accepted(
+    pub(crate) fn insert_accepted(
         &mut self,
         alloc: Global,
         row: Record,

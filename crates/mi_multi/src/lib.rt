@@ -33,6 +33,7 @@ mod putting;
 mod reading;
 mod relocating;
 mod replacing;
+mod restoring;
 mod unwinding;
 mod walking;
 

@@ -37,7 +37,7 @@ fn row_of(p: &Pool<Stored>, node: Option<NodeRef>) -> Option<RowRef>
 
 impl MultiIndex {
     /// The live row of an id, or none.
-    fn live_row(&self, id: u64) -> Option<RowRef>
+    pub(crate) fn live_row(&self, id: u64) -> Option<RowRef>
         ensures id { IfSome result (λ r. r.id ≡ id) }
         ensures live { IfSome result (λ r. IsLive self.now.plain.rows (row_seen r)) }
         ensures absent { result ≡ None → has_row (as_table self.now.plain) id ≡ false }
@@ -57,7 +57,7 @@ impl MultiIndex {
     }
 
     /// Moves a row in a sequenced index directly before another one, or to its end, and answers what takes that back.
-    fn move_row(&mut self, index: usize, row: RowRef, before: Option<RowRef>) -> Inverse
+    pub(crate) fn move_row(&mut self, index: usize, row: RowRef, before: Option<RowRef>) -> Inverse
         requires index { IsSequenced self.old.shape index }
         requires row { IsLive self.old.plain.rows (row_seen row) }
         requires before { IsOther self.old.plain.rows row.id (option_map row_seen before) }

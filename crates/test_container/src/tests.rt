@@ -6,6 +6,7 @@ mod container;
 mod fitting;
 mod journaled;
 mod reference;
+mod restored;
 mod undoable;
 mod views;
 mod walks;

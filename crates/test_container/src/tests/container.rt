@@ -13,7 +13,7 @@ use std::process::Abort;
 use std::test::Fail;
 
 /// A table with every kind of index, hashed and ordered ones both unique and not.
-const TABLE: &str = r#"table = "t"
+pub(super) const TABLE: &str = r#"table = "t"
 max_rows = 60
 column = [{name = "k", type = "int"}, {name = "s", type = "text"}, {name = "f", type = "flag"}, {name = "n", type = "int"}]
 index = [
