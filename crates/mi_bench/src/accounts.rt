@@ -2,12 +2,12 @@
 ghost use Rattle.std.specs.Prelude.{◌≡◌, ◌≤◌, IsTrue, IfOk, length};
 ghost use Rattle.mi_value.specs.declared.limits.TheConstants.{MAX_TEXT};
 ghost use Rattle.mi_catalog.specs.Accounts.{accounts};
-ghost use Rattle.mi_container.specs.Asked.{RecordFits, ShowsOneList};
+ghost use Rattle.mi_container.specs.Asked.{RecordFits, IsSorted};
 
 use mi_catalog::built_in;
 use mi_multi::MultiIndex;
 use mi_value::limits::MAX_TEXT;
-use mi_value::{Edit, Record, Steps, Text, Value, ValueRef};
+use mi_value::{Edit, Lower, Record, Steps, Text, Value, ValueRef};
 use std::alloc::{AllocError, Global};
 
 /// The columns.
@@ -123,36 +123,47 @@ impl Accounts {
         }
     }
 
-    /// What the ids and balances make, in the order of an index.
+    /// What the ids and balances make, in the order of an ordered index.
     fn digest_of(&self, alloc: Global, index: usize) -> Result<u64, AllocError>
-        requires { ShowsOneList accounts index }
+        requires { IsSorted accounts index }
     {
-        let mut sum = 0u64;
-        let Some(first) = self.rows.first(index) else {
-            return Ok(sum);
-        };
-        if self.rows.get(first, &mut Steps::new()).is_none() {
-            return Ok(sum);
-        }
         let rows = self
             .rows
-            .walk(alloc, index, false, first, usize::MAX, &mut Steps::new())?;
-        for (id, row) in rows.iter() {
-            let balance = balance_of(row).cast_unsigned();
-            sum = sum
-                .wrapping_mul(31)
-                .wrapping_add(*id)
-                .wrapping_mul(31)
-                .wrapping_add(balance);
+            .walk_up(alloc, index, &Lower::All, usize::MAX, &mut Steps::new())?;
+        Ok(digest_rows(rows.as_slice()))
+    }
+
+    /// What they make in the order of the line.
+    fn digest_of_line(&self, alloc: Global) -> Result<u64, AllocError> {
+        let Some(first) = self.rows.first(LINE) else {
+            return Ok(0);
+        };
+        if self.rows.get(first, &mut Steps::new()).is_none() {
+            return Ok(0);
         }
-        Ok(sum)
+        let rows = self.rows.walk(alloc, LINE, false, first, usize::MAX)?;
+        Ok(digest_rows(rows.as_slice()))
     }
 
     /// The same of the indexes by balance, by class and of the line.
     pub(crate) fn digest(&self, alloc: Global) -> Result<u64, AllocError> {
         let by_balance = self.digest_of(alloc, BY_BALANCE)?;
         let by_class = self.digest_of(alloc, BY_CLASS)?;
-        let line = self.digest_of(alloc, LINE)?;
+        let line = self.digest_of_line(alloc)?;
         Ok(by_balance ^ by_class.rotate_left(1) ^ line.rotate_left(2))
     }
+}
+
+/// What the ids and balances of rows make, one after another.
+fn digest_rows(rows: &[(u64, &Record)]) -> u64 {
+    let mut sum = 0u64;
+    for (id, row) in rows.iter() {
+        let balance = balance_of(row).cast_unsigned();
+        sum = sum
+            .wrapping_mul(31)
+            .wrapping_add(*id)
+            .wrapping_mul(31)
+            .wrapping_add(balance);
+    }
+    sum
 }

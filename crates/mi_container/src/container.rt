@@ -5,9 +5,10 @@ ghost use Rattle.std.specs.Prelude.{◌≡◌, ◌≢◌, ◌<◌, ◌≤◌, �
 ghost use Rattle.std.specs.Option.{option_copied};
 ghost use Rattle.mi_value.specs.declared.refusal.Refusal.TheVariants.{Memory};
 ghost use Rattle.mi_catalog.specs.Shape.{Shape};
-ghost use Rattle.mi_model.specs.Table.{get as get_row, has as has_row, size as size_of};
+ghost use Rattle.mi_model.specs.Table.{get as get_row, has as has_row, row as row_of, size as size_of};
 ghost use Rattle.mi_model.specs.LookUp as look;
 ghost use Rattle.mi_model.specs.Conflict as meaning;
+ghost use Rattle.mi_model.specs.Page.{ids_up, ids_down};
 ghost use Rattle.mi_model.specs.Walk.{rows_from};
 ghost use Rattle.mi_model.specs.Verdict.{insert_outcome, replace_outcome, modify_outcome, erase_outcome, relocate_outcome};
 ghost use Rattle.mi_container.specs.Asked.{IsKeyed, IsHashed, IsSorted, IsSequenced, ShowsOneList, RecordFits, EditsFit, WholeKey, KeyPrefix};
@@ -24,7 +25,7 @@ ghost use Rattle.mi_container.specs.Makes.{Makes, MakesInsert, MakesModify, Meet
 
 use crate::inverse::{Inverse, RowRef};
 use mi_catalog::Schema;
-use mi_value::{Edit, Record, Refusal, Steps, Value};
+use mi_value::{Edit, Lower, Record, Refusal, Steps, Upper, Value};
 use std::alloc::{AllocError, Global};
 
 /// The rows of one table under its indexes.
@@ -212,9 +213,9 @@ pub trait Container: Drop {
         requires id { IsTrue (has_row (as_table (plain self.now)) id) }
         ensures { result ≡ look.before (shape self.now) (as_table (plain self.now)) index id };
 
-    /// The rows that an index shows from one on, in its order or in the reverse of it, at most `limit` of them: their ids
-    /// with their records, lent. It is one walk from that row, which is found by at most one look-up, and the vector is the
-    /// one memory that it takes. Refusal: the vector's memory.
+    /// The rows that a sequenced index shows from one on, in its order or in the reverse of it, at most `limit` of them: their ids
+    /// with their records, lent. It is one walk from that row, and the vector is the one memory that it takes. Refusal: the vector's
+    /// memory.
     fn walk(
         &self,
         alloc: Global,
@@ -222,12 +223,41 @@ pub trait Container: Drop {
         reverse: bool,
         first: u64,
         limit: usize,
+    ) -> Result<Vec<(u64, &Record)>, AllocError>
+        requires index { IsSequenced (shape self.now) index }
+        requires first { IsTrue (has_row (as_table (plain self.now)) first) }
+        ensures { IfOk result (λ rows. map (λ r. (r.0, r.1.now)) rows.items ≡
+            rows_from (shape self.now) (as_table (plain self.now)) index reverse first limit) };
+
+    /// The rows that an ordered or ranked index shows from a lower bound up, at most `limit` of them: their ids with their records,
+    /// lent. It is one look-up and one walk, and the vector is the one memory that it takes. Refusal: the vector's memory.
+    fn walk_up(
+        &self,
+        alloc: Global,
+        index: usize,
+        lower: &Lower,
+        limit: usize,
         steps: &mut Steps,
     ) -> Result<Vec<(u64, &Record)>, AllocError>
-        requires index { ShowsOneList (shape self.now) index }
-        requires first { IsTrue (has_row (as_table (plain self.now)) first) }
+        requires index { IsSorted (shape self.now) index }
         ensures rows { IfOk result (λ rows. map (λ r. (r.0, r.1.now)) rows.items ≡
-            rows_from (shape self.now) (as_table (plain self.now)) index reverse first limit) }
+            map (row_of (as_table (plain self.now))) (ids_up (shape self.now) (as_table (plain self.now)) index lower.now limit)) }
+        ensures steps { (b : ℕ) → size_of (as_table (plain self.now)) < 2 ^ b → steps.new.count ≤ steps.old.count + (2 * b + 1) };
+
+    /// The rows that an ordered or ranked index shows from an upper bound down, in the reverse of its order, at most `limit` of them:
+    /// their ids with their records, lent. It is one look-up and one walk, and the vector is the one memory that it takes. Refusal: the
+    /// vector's memory.
+    fn walk_down(
+        &self,
+        alloc: Global,
+        index: usize,
+        upper: &Upper,
+        limit: usize,
+        steps: &mut Steps,
+    ) -> Result<Vec<(u64, &Record)>, AllocError>
+        requires index { IsSorted (shape self.now) index }
+        ensures rows { IfOk result (λ rows. map (λ r. (r.0, r.1.now)) rows.items ≡
+            map (row_of (as_table (plain self.now))) (ids_down (shape self.now) (as_table (plain self.now)) index upper.now limit)) }
         ensures steps { (b : ℕ) → size_of (as_table (plain self.now)) < 2 ^ b → steps.new.count ≤ steps.old.count + (2 * b + 1) };
 
     /// The first id of an ordered or ranked index whose key isn't less than a key or the first values of one, or none. At

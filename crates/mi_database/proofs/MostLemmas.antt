@@ -1,5 +1,5 @@
 -- How many places the inverse of a change has, and how many indexes beside `id` a table has.
-use Rattle.std.proofs.Common.{◌≡◌, ◌∙◌, ℕ, zero, suc, ◌-◌, ◌+◌, ◌<◌, ◌≤◌, ◌==◌, ◌⊎◌, inl, inr, Bool, true, false, Option, None, Some, List, [], ◌∷◌, length}
+use Rattle.std.proofs.Common.{◌≡◌, ◌∙◌, ℕ, zero, suc, ◌+◌, ◌<◌, ◌≤◌, ◌==◌, ◌⊎◌, inl, inr, Bool, true, false, Option, None, Some, List, [], ◌∷◌, length}
 use Rattle.std.proofs.Common.{take, get_or, add-one, refl, ap, sym, subst, arith}
 use Rattle.std.specs.Prelude.{if◌then◌else◌}
 use Rattle.std.specs.Ordering.{is_eq, ord_max, nat_cmp}
@@ -11,8 +11,7 @@ use Rattle.mi_value.specs.declared.compare.KeyPart.{KeyPart}
 use Rattle.mi_value.specs.Order.{compare_key}
 use Rattle.mi_catalog.specs.declared.index.Index.{Index}
 use Rattle.mi_catalog.specs.Shape.{Shape, CatalogShape, schema_at}
-use Rattle.mi_catalog.specs.Rules.{is_schema, are_indexes, is_id_index}
-use Rattle.mi_catalog.proofs.KeyLemmas.{no_parts}
+use Rattle.mi_catalog.specs.Rules.{is_schema, are_indexes}
 use Rattle.mi_container.specs.Data.{Node, Data, Order, KindFits, KindsFit, IsData, parts_of, order_at, content_of}
 use Rattle.mi_container.specs.Data.Order.{ById, ByKey, ByHash, Listed}
 use Rattle.mi_container.specs.Changes.{link_in}

@@ -21,7 +21,7 @@ use mi_catalog::Catalog;
 use mi_container::{Container, Inverse};
 use mi_sessions::Sessions;
 use mi_value::limits::{LAST_COUNT, MAX_SESSIONS};
-use mi_value::{Edit, NoSession, Record, Refusal, Steps, Value};
+use mi_value::{Edit, Lower, NoSession, Record, Refusal, Steps, Upper, Value};
 use std::alloc::Global;
 
 /// What a modify answers: done, or that it lost its record.
@@ -250,11 +250,34 @@ impl<C: Container> Sessions for Linked<C> {
         reverse: bool,
         first: u64,
         limit: usize,
+    ) -> Result<Vec<(u64, &Record)>, Refusal> {
+        let rows = self.at(table).walk(alloc, index, reverse, first, limit)?;
+        Ok(rows)
+    }
+
+    fn walk_up(
+        &self,
+        alloc: Global,
+        table: usize,
+        index: usize,
+        lower: &Lower,
+        limit: usize,
         steps: &mut Steps,
     ) -> Result<Vec<(u64, &Record)>, Refusal> {
-        let rows = self
-            .at(table)
-            .walk(alloc, index, reverse, first, limit, steps)?;
+        let rows = self.at(table).walk_up(alloc, index, lower, limit, steps)?;
+        Ok(rows)
+    }
+
+    fn walk_down(
+        &self,
+        alloc: Global,
+        table: usize,
+        index: usize,
+        upper: &Upper,
+        limit: usize,
+        steps: &mut Steps,
+    ) -> Result<Vec<(u64, &Record)>, Refusal> {
+        let rows = self.at(table).walk_down(alloc, index, upper, limit, steps)?;
         Ok(rows)
     }
 

@@ -1,7 +1,7 @@
 -- A walk along nodes, one after another.
 use Rattle.std.proofs.Common.{◌≡◌, ℕ, ◌+◌, ◌≤◌, zero, suc, ◌⊎◌, inl, inr, List, [], ◌∷◌, ◌++◌, map, length, take}
 use Rattle.std.proofs.Common.{drop, reverse, Option, Some, None, refl, ap, sym, ◌∙◌, subst, append_assoc, arith}
-use Rattle.std.proofs.lemmas.List.{take_all, map-append, reverse-append, reverse-reverse}
+use Rattle.std.proofs.lemmas.List.{take_all, take-append-drop, map-append, reverse-append, reverse-reverse}
 use Rattle.mi_node.specs.Pool.{Pooled, value_of, link_of, IsHeld}
 use Rattle.mi_node.specs.Refs.{Ref, first_of, last_of}
 use Rattle.mi_node.specs.Neighbours.{AreHeld, IsLinked}
@@ -9,7 +9,7 @@ use Rattle.mi_node.proofs.NeighbourLemmas.{linked_right}
 use Rattle.mi_list.specs.Listed.{IsListed}
 use Rattle.mi_list.specs.declared.list.List.{List as Listing}
 use Rattle.mi_list.proofs.ChangeLemmas.{knows}
-use Rattle.mi_tree.specs.Walking.{beyond, far_of}
+use Rattle.mi_tree.specs.Walking.{beyond, beyond_place, far_of}
 use Rattle.mi_tree.specs.declared.walk.Direction.{Direction}
 use Rattle.mi_tree.specs.declared.walk.Direction.TheVariants.{Ascending, Descending}
 use Rattle.mi_order.specs.declared.stored.Stored.{Stored}
@@ -103,26 +103,22 @@ follow_next m s d us k n r e h is = next us k h is ∙ ap (λ i. first_of (drop 
     next (u ∷ us) zero h is = let same : u ≡ r = cc in subst (λ (q : Ref). far_of d (link_of m q.name s) ≡ first_of us None) same h.1
     next (u ∷ us) (suc k) h is = next us k h.2 is
 
--- nodes of two parts of a list are held
-pub held_beyond : (m : Pooled Stored) (d : Direction) (xs : List Ref) (r : Ref) (ys : List Ref) → AreHeld m (xs ++ r ∷ ys) → AreHeld m (r ∷ beyond d xs ys)
-held_beyond m d xs r ys h = (at xs h, on d h)
+-- nodes of a list are held from a place on
+pub held_place : (m : Pooled Stored) (d : Direction) (n : ℕ) (rs : List Ref) → AreHeld m rs → AreHeld m (beyond_place d n rs)
+held_place m d n rs h = on d (subst (AreHeld m) (sym (take-append-drop n rs)) h)
   where
-    at : (us : List Ref) → AreHeld m (us ++ r ∷ ys) → IsHeld m r
-    at [] h = h.0
-    at (u ∷ us) h = at us h.1
-
-    behind : (us : List Ref) → AreHeld m (us ++ r ∷ ys) → AreHeld m ys
-    behind [] h = h.1
-    behind (u ∷ us) h = behind us h.1
+    behind : (us ys : List Ref) → AreHeld m (us ++ ys) → AreHeld m ys
+    behind [] ys h = h
+    behind (u ∷ us) ys h = behind us ys h.1
 
     push : (us : List Ref) (x : Ref) → AreHeld m us → IsHeld m x → AreHeld m (us ++ x ∷ [])
     push [] x h k = (k, tt)
     push (u ∷ us) x h k = (h.0, push us x h.1 k)
 
-    back : (us : List Ref) → AreHeld m (us ++ r ∷ ys) → AreHeld m (reverse us)
-    back [] h = tt
-    back (u ∷ us) h = subst (AreHeld m) (sym (reverse-append (u ∷ []) us)) (push (reverse us) u (back us h.1) h.0)
+    back : (us ys : List Ref) → AreHeld m (us ++ ys) → AreHeld m (reverse us)
+    back [] ys h = tt
+    back (u ∷ us) ys h = subst (AreHeld m) (sym (reverse-append (u ∷ []) us)) (push (reverse us) u (back us ys h.1) h.0)
 
-    on : (e : Direction) → AreHeld m (xs ++ r ∷ ys) → AreHeld m (beyond e xs ys)
-    on Ascending h = behind xs h
-    on Descending h = back xs h
+    on : (e : Direction) → AreHeld m (take n rs ++ drop n rs) → AreHeld m (beyond_place e n rs)
+    on Ascending h = behind (take n rs) (drop n rs) h
+    on Descending h = back (take n rs) (drop n rs) h

@@ -23,6 +23,11 @@ IsSortedStructure (Sorted t) = Unit {0}
 IsSortedStructure (Hashed c) = ⊥
 IsSortedStructure (Sequenced l) = ⊥
 
+abbrev pub IsListStructure : Structure → Type 0
+IsListStructure (Sorted t) = ⊥
+IsListStructure (Hashed c) = ⊥
+IsListStructure (Sequenced l) = Unit {0}
+
 abbrev pub IsHashedStructure : Structure → Type 0
 IsHashedStructure (Sorted t) = ⊥
 IsHashedStructure (Hashed c) = Unit {0}

@@ -1,6 +1,6 @@
 -- Look-ups and ranges over what a sorted index shows: the ids between two bounds stand between two ranks.
 use Rattle.std.proofs.Common.{◌≡◌, ℕ, ◌-◌, ◌<◌, ◌≤◌, zero, suc, Bool, true, false, cond, not, ◌&&◌, ◌≢◌, inl}
-use Rattle.std.proofs.Common.{inr, min, get_or, List, [], ◌∷◌, length, take, drop, refl, ap, sym, ◌∙◌, arith}
+use Rattle.std.proofs.Common.{inr, min, get_or, List, [], ◌∷◌, length, take, drop, reverse, refl, ap, sym, ◌∙◌, arith}
 use Rattle.std.specs.Prelude.{slice_get, IsTrue}
 use Rattle.std.specs.List.{filter, count_by, AllByRecursion}
 use Rattle.std.specs.Ordering.{is_lt, is_le, is_gt, is_ge, is_eq, ordering_reverse}
@@ -10,7 +10,7 @@ use Rattle.std.specs.declared.cmp.Ordering.TheVariants.{Less, Equal, Greater}
 use Rattle.std.specs.declared.option.Option.TheVariants.{None, Some}
 use Rattle.std.proofs.Math.Seq.{drop-nil}
 use Rattle.std.proofs.lemmas.Bool.{cases_lt}
-use Rattle.std.proofs.lemmas.List.{length-drop, length-take, drop_all}
+use Rattle.std.proofs.lemmas.List.{length-drop, length-take, take_all, drop_all}
 use Rattle.std.proofs.lemmas.Option.{slice_get-get_or}
 use Rattle.std.proofs.lemmas.List.Sums.{length-filter, count_by-le-length}
 use Rattle.mi_value.specs.declared.value.Value.{Value}
@@ -27,7 +27,7 @@ use Rattle.mi_model.specs.View.{compare_ids, compare_to_id, shown, view, of_key}
 use Rattle.mi_catalog.specs.Kinds.{is_sorted}
 use Rattle.mi_model.specs.LookUp as look
 use Rattle.mi_model.specs.LookUp.{rank_in}
-use Rattle.mi_model.specs.Page.{meets_lower, meets_upper, between}
+use Rattle.mi_model.specs.Page.{meets_lower, meets_upper, between, ids_up, ids_down}
 use Rattle.mi_model.proofs.SortLaws.{Ascends, ascends_sorted, each, both_ways}
 use Rattle.mi_model.proofs.ViewLaws.{compare_ids_total}
 use Rattle.mi_model.proofs.LookUpLaws.{rank_at}
@@ -187,11 +187,16 @@ not_le Less = refl
 not_le Equal = refl
 not_le Greater = refl
 
+not_lt : (o : Ordering) → not (is_lt o) ≡ is_ge o
+not_lt Less = refl
+not_lt Equal = refl
+not_lt Greater = refl
+
 -- the ranks at which a range begins and ends
 pub from_all : (s : Shape) (t : Table) (x : ℕ) → rank_from s t x lower.All ≡ 0
 from_all s t x = count_none (view s t x)
 
-from_key : (s : Shape) (t : Table) (x : ℕ) (key : List Value) → rank_from s t x (lower.From key) ≡ look.lower_rank s t x key
+pub from_key : (s : Shape) (t : Table) (x : ℕ) (key : List Value) → rank_from s t x (lower.From key) ≡ look.lower_rank s t x key
 from_key s t x key = count_same _ _ (λ id. not_le (compare_to_id (index_at s x) t key id)) (view s t x)
 
 pub to_all : (s : Shape) (t : Table) (x : ℕ) → rank_to s t x upper.All ≡ length (view s t x)
@@ -199,6 +204,25 @@ to_all s t x = count_all (view s t x)
 
 pub to_within : (s : Shape) (t : Table) (x : ℕ) (high : Upper) → rank_to s t x high ≤ length (view s t x)
 to_within s t x high = count_by-le-length _ (view s t x)
+
+pub from_beyond : (s : Shape) (t : Table) (x : ℕ) (key : List Value) → rank_from s t x (lower.Beyond key) ≡ look.upper_rank s t x key
+from_beyond s t x key = count_same _ _ (λ id. not_lt (compare_to_id (index_at s x) t key id)) (view s t x)
+
+-- the ids up from a lower bound stand behind its rank, and those down from an upper one in front of it
+pub up_is : (s : Shape) (t : Table) (x : ℕ) (low : Lower) (limit : ℕ) → IsTrue (is_sorted (index_at s x).kind)
+    → ids_up s t x low limit ≡ take limit (drop (rank_from s t x low) (view s t x))
+up_is s t x low limit is =
+    ap (take limit)
+    (between_ranks s t x low upper.All is
+    ∙ ap (λ n. drop (rank_from s t x low) (take n (view s t x))) (to_all s t x)
+    ∙ ap (drop (rank_from s t x low)) (take_all (length (view s t x)) (view s t x) (omega arith)))
+
+pub down_is : (s : Shape) (t : Table) (x : ℕ) (high : Upper) (limit : ℕ) → IsTrue (is_sorted (index_at s x).kind)
+    → ids_down s t x high limit ≡ take limit (reverse (take (rank_to s t x high) (view s t x)))
+down_is s t x high limit is =
+    ap (λ ids. take limit (reverse ids))
+    (between_ranks s t x lower.All high is
+    ∙ ap (λ n. drop n (take (rank_to s t x high) (view s t x))) (from_all s t x))
 
 le_and_ge : (o : Ordering) → is_eq o ≡ (is_le o && is_ge o)
 le_and_ge Less = refl

@@ -6,7 +6,7 @@ use Rattle.std.specs.Option.{unwrap_or}
 use Rattle.std.specs.declared.option.Option.{Option}
 use Rattle.std.specs.declared.option.Option.TheVariants.{None, Some}
 use Rattle.std.proofs.lemmas.Bool.{cases_lt}
-use Rattle.std.proofs.lemmas.List.{length-drop, take_all, take_more, get_or-drop, map-append, reverse-append}
+use Rattle.std.proofs.lemmas.List.{length-drop, length-reverse, take_all, take_more, take-append-drop, get_or-drop, map-append, reverse-append}
 use Rattle.std.proofs.Math.Seq.{drop-append_seam}
 use Rattle.std.proofs.lemmas.Option.{slice_get-get_or, slice_get_within, get_or_from_slice_get}
 use Rattle.mi_value.specs.declared.value.Value.{Value}
@@ -36,6 +36,14 @@ times-reverse id (x ∷ xs) =
 times-turned : (reversed : Bool) (id : ℕ) (ids : List ℕ) → times id (turned reversed ids) ≡ times id ids
 times-turned true id ids = times-reverse id ids
 times-turned false id ids = refl
+
+-- the first n ids in reverse end the reverse of all
+pub reverse_end : (n : ℕ) (ids : List ℕ) → n ≤ length ids → drop (length ids - n) (reverse ids) ≡ reverse (take n ids)
+reverse_end n ids le =
+    let ends : length (reverse (drop n ids)) ≡ length ids - n = length-reverse (drop n ids) ∙ length-drop n ids in
+    ap (λ k. drop k (reverse ids)) (sym ends)
+    ∙ ap (drop (length (reverse (drop n ids)))) (ap reverse (sym (take-append-drop n ids)) ∙ reverse-append (take n ids) (drop n ids))
+    ∙ drop-append_seam (reverse (drop n ids)) (reverse (take n ids))
 
 pub once_turned : (reversed : Bool) (ids : List ℕ) → IsOnce ids → IsOnce (turned reversed ids)
 once_turned reversed ids once id = subst (λ n. n ≤ 1) (sym (times-turned reversed id ids)) (once id)

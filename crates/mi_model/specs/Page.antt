@@ -1,5 +1,5 @@
 -- Ranges and lists, and their pages.
-use Rattle.std.specs.Prelude.{ℕ, Bool, true, ◌&&◌, ◌==◌, nat_lt, if◌then◌else◌, List, take, length, reverse}
+use Rattle.std.specs.Prelude.{ℕ, Bool, true, false, ◌&&◌, ◌==◌, nat_lt, if◌then◌else◌, List, take, length, reverse}
 use Rattle.std.specs.List.{filter, after_first}
 use Rattle.std.specs.Ordering.{is_le, is_lt, is_ge, is_gt}
 use Rattle.std.specs.declared.option.Option.{Option}
@@ -40,6 +40,13 @@ between s t x low high = filter (λ id. meets_lower (index_at s x) t low id && m
 abbrev pub range : Shape → Table → ℕ → Lower → Upper → Bool → ℕ → Page
 range s t x low high reversed limit =
     page_of limit (if reversed then reverse (between s t x low high) else between s t x low high)
+
+-- the first ids from a lower bound up, and from an upper one down
+abbrev pub ids_up : Shape → Table → ℕ → Lower → ℕ → List ℕ
+ids_up s t x low limit = (range s t x low upper.All false limit).ids
+
+abbrev pub ids_down : Shape → Table → ℕ → Upper → ℕ → List ℕ
+ids_down s t x high limit = (range s t x lower.All high true limit).ids
 
 -- the first ids of what a sequenced index shows, or of those behind an id
 abbrev pub list : Shape → Table → ℕ → Option ℕ → ℕ → Page

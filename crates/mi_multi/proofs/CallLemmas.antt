@@ -10,7 +10,7 @@ use Rattle.std.specs.declared.option.Option.TheVariants.{None, Some}
 use Rattle.mi_catalog.specs.declared.index.Index.{Index}
 use Rattle.mi_catalog.specs.declared.index.IndexKind.{IndexKind}
 use Rattle.mi_catalog.specs.declared.index.IndexKind.TheVariants as kinds
-use Rattle.mi_catalog.specs.Kinds.{is_sorted, is_ranked}
+use Rattle.mi_catalog.specs.Kinds.{is_sorted, is_ranked, shows_one_list}
 use Rattle.mi_catalog.specs.Rules.{is_schema, are_indexes}
 use Rattle.mi_catalog.specs.Shape.{Shape, index_at}
 use Rattle.mi_model.specs.Table.{Table, has, size}
@@ -24,7 +24,7 @@ use Rattle.mi_index.specs.declared.structure.Structure.{Structure}
 use Rattle.mi_index.specs.declared.structure.Structure.TheVariants.{Sorted, Hashed, Sequenced}
 use Rattle.mi_index.specs.Looks as nodes
 use Rattle.mi_index.specs.Standing.{Stands}
-use Rattle.mi_container.specs.Asked.{ShowsOneList, IsSorted}
+use Rattle.mi_container.specs.Asked.{ShowsOneList, IsSorted, IsSequenced}
 use Rattle.mi_container.specs.Data.{as_table}
 use Rattle.mi_ids.specs.IdMap.{live_node}
 use Rattle.mi_multi.specs.Multi.{id_at}
@@ -71,6 +71,10 @@ module _ (i : Inside) (is : AreMulti i) {w : Seen} (seen : seen_of i ≡ w) wher
 
   pub listed_reaches : (x : ℕ) → ShowsOneList w.shape x → x < length items
   listed_reaches x h = reaches i.schema i.ids.entries m items i.next i.arrivals is x (listed_within i.schema x (lists_shape x h))
+
+  -- a sequenced index shows one list
+  pub sequenced_lists : (x : ℕ) → IsSequenced w.shape x → ShowsOneList w.shape x
+  sequenced_lists x h = ap shows_one_list h
 
   pub sorted_reaches : (x : ℕ) → IsSorted w.shape x → x < length items
   sorted_reaches x h = reaches i.schema i.ids.entries m items i.next i.arrivals is x
@@ -163,6 +167,15 @@ module _ (i : Inside) (is : AreMulti i) {w : Seen} (seen : seen_of i ≡ w) wher
 
       pub between : ShowsOneList w.shape x → (xs : List Ref) × (ys : List Ref) × Stands y m (xs ++ r ∷ ys) × nodes.HasOneList y
       between h = (a.xs, a.ys, a.stands, (in_list h).2)
+
+      pub between_listed : IsSequenced w.shape x → (xs : List Ref) × (ys : List Ref) × Stands y m (xs ++ r ∷ ys) × nodes.IsListStructure y
+      between_listed h = (
+        a.xs,
+        a.ys,
+        a.stands,
+        known.listing i.schema i.ids.entries m items i.next i.arrivals is x y n
+            (subst (λ (v : Seen). IsSequenced v.shape x) (sym seen) h),
+      )
 
       pub ranked : IsSorted w.shape x → (xs : List Ref) × (ys : List Ref) × Stands y m (xs ++ r ∷ ys) × nodes.IsSortedStructure y
       ranked h = (a.xs, a.ys, a.stands, (in_order h).2)

@@ -94,18 +94,20 @@ module _ (i : Inside) (is : AreMulti i) {w : Seen} (seen : seen_of i ≡ w) wher
         (subst (λ (v : Seen). IsSorted v.shape x) (sym seen) sorted) (in_order i is seen x at sorted).2)
 
     -- as many stand in front of it
-    pub past_rank : IsSorted w.shape x → (past : Bool) (k : Bor (List Value)) {j : ℕ}
-        → ((qs : List Ref) → Stands y m qs → j ≡ position_or_len (nodes.is_past past y m (Key k)) qs) → j ≡ rank_past past w.shape t x k.now
-    past_rank sorted false k h =
-        h rs n.stood.stands
-        ∙ probes.lower_placed i.schema i.ids.entries m items i.next i.arrivals is x y n k
+    pub place_is : IsSorted w.shape x → (past : Bool) (k : Bor (List Value))
+        → position_or_len (nodes.is_past past y m (Key k)) rs ≡ rank_past past w.shape t x k.now
+    place_is sorted false k =
+        probes.lower_placed i.schema i.ids.entries m items i.next i.arrivals is x y n k
         (subst (λ (v : Seen). IsSorted v.shape x) (sym seen) sorted) (in_order i is seen x at sorted).2
         ∙ ap (λ (v : Seen). look.lower_rank v.shape (as_table v.plain) x k.now) seen
-    past_rank sorted true k h =
-        h rs n.stood.stands
-        ∙ probes.upper_placed i.schema i.ids.entries m items i.next i.arrivals is x y n k
+    place_is sorted true k =
+        probes.upper_placed i.schema i.ids.entries m items i.next i.arrivals is x y n k
         (subst (λ (v : Seen). IsSorted v.shape x) (sym seen) sorted) (in_order i is seen x at sorted).2
         ∙ ap (λ (v : Seen). look.upper_rank v.shape (as_table v.plain) x k.now) seen
+
+    pub past_rank : IsSorted w.shape x → (past : Bool) (k : Bor (List Value)) {j : ℕ}
+        → ((qs : List Ref) → Stands y m qs → j ≡ position_or_len (nodes.is_past past y m (Key k)) qs) → j ≡ rank_past past w.shape t x k.now
+    past_rank sorted past k h = h rs n.stood.stands ∙ place_is sorted past k
 
     -- whole keys
 

@@ -8,7 +8,7 @@ use Rattle.std.specs.FinMap.{FinMap}
 use Rattle.std.proofs.lemmas.Bool.{false≢true}
 use Rattle.std.specs.declared.option.Option.TheVariants.{None, Some}
 use Rattle.mi_catalog.specs.declared.index.IndexKind.{IndexKind}
-use Rattle.mi_catalog.specs.Kinds.{is_sorted, is_hashed, shows_one_list}
+use Rattle.mi_catalog.specs.Kinds.{is_sorted, is_hashed, is_sequenced, shows_one_list}
 use Rattle.mi_catalog.proofs.KindLaws.{hashed}
 use Rattle.mi_catalog.specs.Shape.{Shape, index_at}
 use Rattle.mi_model.specs.Table.{Table}
@@ -24,7 +24,7 @@ use Rattle.mi_index.specs.declared.structure.Structure.{Structure}
 use Rattle.mi_index.specs.declared.structure.Structure.TheVariants.{Sorted, Hashed, Sequenced}
 use Rattle.mi_index.specs.Looks as nodes
 use Rattle.mi_index.specs.Standing.{Stands}
-use Rattle.mi_container.specs.Asked.{ShowsOneList, IsSorted}
+use Rattle.mi_container.specs.Asked.{ShowsOneList, IsSorted, IsSequenced}
 use Rattle.mi_container.specs.Data.{as_table}
 use Rattle.mi_container.proofs.SequenceLemmas.{lacks_left}
 use Rattle.mi_ids.specs.declared.entry.IdEntry.{IdEntry}
@@ -32,7 +32,7 @@ use Rattle.mi_ids.specs.IdMap.{live_node}
 use Rattle.mi_multi.specs.Physical.{stored_id}
 use Rattle.mi_multi.specs.Multi.{id_at, ids_at, IsFor, AreLive, IsMulti, plain_of}
 use Rattle.mi_multi.proofs.AnswerLemmas.{live_is}
-use Rattle.mi_multi.proofs.EveryIndexLemmas.{sorted_not_sequenced}
+use Rattle.mi_multi.proofs.EveryIndexLemmas.{sorted_not_sequenced, hashed_not_sequenced}
 use Rattle.mi_multi.proofs.NeighbourLemmas.{ids_append}
 use Rattle.mi_multi.proofs.LiveNodeLemmas.{IsLiveRef, holds, lacks_middle}
 use Rattle.mi_multi.proofs.IndexNumberLemmas.{Numbered}
@@ -80,6 +80,14 @@ module _ (s : Shape) (ids : FinMap nat_cmp IdEntry) (m : Pooled Stored) (xs : Li
 
   pub sorts : IsSorted s x → nodes.IsSortedStructure y
   sorts h = is_tree y n.stood.for_ h
+
+  is_listing : (w : Structure) → IsFor (index_at s x) w → IsSequenced s x → nodes.IsListStructure w
+  is_listing (Sorted u) f h = absurd (sorted_not_sequenced (index_at s x).kind f.0 (ap is_sequenced h))
+  is_listing (Hashed c) f h = absurd (hashed_not_sequenced (index_at s x).kind f.0 (ap is_sequenced h))
+  is_listing (Sequenced l) f h = tt
+
+  pub listing : IsSequenced s x → nodes.IsListStructure y
+  listing h = is_listing y n.stood.for_ h
 
   held_of : (qs : List Ref) → AllByRecursion (IsLiveRef ids m) qs → AllByRecursion (IsHeld m) qs
   held_of [] all = tt

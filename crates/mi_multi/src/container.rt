@@ -2,7 +2,7 @@
 use crate::multi::MultiIndex;
 use mi_catalog::Schema;
 use mi_container::{Container, Inverse, RowRef};
-use mi_value::{Edit, Record, Refusal, Steps, Value};
+use mi_value::{Edit, Lower, Record, Refusal, Steps, Upper, Value};
 use std::alloc::{AllocError, Global};
 
 impl Container for MultiIndex {
@@ -117,9 +117,30 @@ impl Container for MultiIndex {
         reverse: bool,
         first: u64,
         limit: usize,
+    ) -> Result<Vec<(u64, &Record)>, AllocError> {
+        self.walk(alloc, index, reverse, first, limit)
+    }
+
+    fn walk_up(
+        &self,
+        alloc: Global,
+        index: usize,
+        lower: &Lower,
+        limit: usize,
         steps: &mut Steps,
     ) -> Result<Vec<(u64, &Record)>, AllocError> {
-        self.walk(alloc, index, reverse, first, limit, steps)
+        self.walk_up(alloc, index, lower, limit, steps)
+    }
+
+    fn walk_down(
+        &self,
+        alloc: Global,
+        index: usize,
+        upper: &Upper,
+        limit: usize,
+        steps: &mut Steps,
+    ) -> Result<Vec<(u64, &Record)>, AllocError> {
+        self.walk_down(alloc, index, upper, limit, steps)
     }
 
     fn lower(&self, index: usize, key: &[Value], steps: &mut Steps) -> Option<u64> {

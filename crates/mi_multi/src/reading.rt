@@ -39,7 +39,7 @@ pub(crate) fn id_of(p: &Pool<Stored>, node: Option<NodeRef>) -> Option<u64>
 }
 
 /// How many nodes a sorted index has.
-fn node_count(structure: &Structure, p: &Pool<Stored>) -> u32
+pub(crate) fn node_count(structure: &Structure, p: &Pool<Stored>) -> u32
     requires { (rs : Seq Ref) × Stands structure.now p.now rs × nodes.IsSortedStructure structure.now }
     ensures { (rs : Seq Ref) → Stands structure.now p.now rs → result ≡ length rs }
 {

@@ -7,3 +7,4 @@ pub mod ShownLemmas
 pub mod ScanLemmas
 pub mod SearchLemmas
 pub mod ChangeLemmas
+pub mod WalkLemmas

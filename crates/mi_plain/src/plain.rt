@@ -3,7 +3,7 @@ use crate::table::PlainTable;
 use mi_catalog::{Catalog, Schema};
 use mi_sessions::Sessions;
 use mi_value::limits::{LAST_COUNT, MAX_SESSIONS};
-use mi_value::{Edit, NoSession, Record, Refusal, Steps, Value};
+use mi_value::{Edit, Lower, NoSession, Record, Refusal, Steps, Upper, Value};
 use std::alloc::{AllocError, Global};
 use std::marker::Model;
 
@@ -213,11 +213,37 @@ impl Sessions for Plain {
         reverse: bool,
         first: u64,
         limit: usize,
+    ) -> Result<Vec<(u64, &Record)>, Refusal> {
+        let (schema, rows) = self.at(table);
+        rows.walk(alloc, schema, index, reverse, first, limit)
+    }
+
+    fn walk_up(
+        &self,
+        alloc: Global,
+        table: usize,
+        index: usize,
+        lower: &Lower,
+        limit: usize,
         steps: &mut Steps,
     ) -> Result<Vec<(u64, &Record)>, Refusal> {
         let _ = steps;
         let (schema, rows) = self.at(table);
-        rows.walk(alloc, schema, index, reverse, first, limit)
+        rows.walk_up(alloc, schema, index, lower, limit)
+    }
+
+    fn walk_down(
+        &self,
+        alloc: Global,
+        table: usize,
+        index: usize,
+        upper: &Upper,
+        limit: usize,
+        steps: &mut Steps,
+    ) -> Result<Vec<(u64, &Record)>, Refusal> {
+        let _ = steps;
+        let (schema, rows) = self.at(table);
+        rows.walk_down(alloc, schema, index, upper, limit)
     }
 
     fn lower(&self, table: usize, index: usize, key: &[Value], steps: &mut Steps) -> Option<u64> {

@@ -1,13 +1,15 @@
 -- Pages that are walked, and the segments that they are of.
 use Rattle.std.proofs.Common.{◌≡◌, ℕ, suc, ◌+◌, ◌-◌, ◌<◌, ◌≤◌, min, Bool, true, false, ◌⊎◌, inl, inr, List, []}
 use Rattle.std.proofs.Common.{◌∷◌, ◌++◌, map, length, take, drop, reverse, refl, ap, ap₂, sym, ◌∙◌, subst, arith}
-use Rattle.std.specs.Prelude.{if◌then◌else◌, nat_lt, slice_get, IsTrue}
+use Rattle.std.specs.Prelude.{if◌then◌else◌, ◌&&◌, nat_lt, slice_get, IsTrue}
 use Rattle.std.specs.declared.option.Option.{Option}
 use Rattle.std.specs.declared.option.Option.TheVariants.{None, Some}
 use Rattle.std.proofs.lemmas.Bool.{cases_lt, lt-ltb, le-ltb}
 use Rattle.std.proofs.lemmas.List.{length-drop, length-take, length-reverse, take_all, take-take, drop-take, take-map, take-append-drop, reverse-append}
-use Rattle.std.proofs.Math.Seq.{take-append_seam, drop-append_seam}
+use Rattle.std.proofs.Math.Seq.{take-append_seam}
+use Rattle.std.proofs.lemmas.List.Sums.{length-filter, count_by-le-length}
 use Rattle.mi_value.specs.declared.bound.Lower.{Lower}
+use Rattle.mi_value.specs.declared.bound.Lower.TheVariants as lower
 use Rattle.mi_value.specs.declared.bound.Upper.{Upper}
 use Rattle.mi_value.specs.declared.bound.Upper.TheVariants as upper
 use Rattle.mi_model.specs.Shape.{Shape, index_at}
@@ -16,12 +18,12 @@ use Rattle.mi_model.specs.View.{view}
 use Rattle.mi_model.specs.Kinds.{is_sorted}
 use Rattle.mi_model.specs.Page as page
 use Rattle.mi_model.specs.Page.{Page, page_of}
-use Rattle.mi_model.proofs.PlaceLaws.{IsOnce, slice_get-reverse}
-use Rattle.mi_model.proofs.QueryLaws.{rank_from, rank_to, between_ranks, to_all, to_within, segment_empty}
-use Rattle.mi_model.specs.Walk.{turned, from_in, ids_from, rows_from}
+use Rattle.mi_model.proofs.PlaceLaws.{IsOnce}
+use Rattle.mi_model.proofs.QueryLaws.{rank_from, rank_to, between_ranks, to_within, segment_empty, up_is, down_is}
+use Rattle.mi_model.specs.Walk.{turned, from_in, rows_from}
 use Rattle.mi_model.specs.LookUp.{rank_in}
-use Rattle.mi_model.proofs.WalkLaws.{once_turned, from_at}
-use Rattle.mi_query.specs.Pages.{place_behind}
+use Rattle.mi_model.proofs.WalkLaws.{from_at, reverse_end}
+use Rattle.mi_query.specs.Pages.{place_behind, ends_open, ids_begun}
 use Rattle.mi_query.proofs.LookUpLemmas.{none_means_past}
 
 same_page : (p q : Page) → p.ids ≡ q.ids → p.more ≡ q.more → p ≡ q
@@ -40,11 +42,8 @@ segment_back from to ids le within =
     let front : List ℕ = take to ids in
     let piece : List ℕ = drop from front in
     let long : length front ≡ min to (length ids) = length-take to ids in
-    let ends : length (reverse (drop to ids)) ≡ length ids - to = length-reverse (drop to ids) ∙ length-drop to ids in
     let mine : length (reverse piece) ≡ to - from = length-reverse piece ∙ length-drop from front ∙ omega arith in
-    let whole : reverse ids ≡ reverse (drop to ids) ++ reverse front = ap reverse (sym (take-append-drop to ids)) ∙ reverse-append front (drop to ids) in
-    let cut : drop (length ids - to) (reverse ids) ≡ reverse front = ap (drop (length ids - to)) whole
-    ∙ ap (λ n. drop n (reverse (drop to ids) ++ reverse front)) (sym ends) ∙ drop-append_seam (reverse (drop to ids)) (reverse front) in
+    let cut : drop (length ids - to) (reverse ids) ≡ reverse front = reverse_end to ids within in
     let parts : reverse front ≡ reverse piece ++ reverse (take from front) =
     ap reverse (sym (take-append-drop from front)) ∙ reverse-append (take from front) piece in
     sym (take-append_seam (reverse piece) (reverse (take from front)))
@@ -55,15 +54,6 @@ turned_segment : (reversed : Bool) (from to : ℕ) (ids : List ℕ) → from ≤
     → turned reversed (drop from (take to ids)) ≡ take (to - from) (drop (start reversed from to ids) (turned reversed ids))
 turned_segment true from to ids le within = segment_back from to ids le within
 turned_segment false from to ids le within = segment_forth from to ids le
-
--- the first id of a segment
-turned_first : (reversed : Bool) (from to : ℕ) (ids : List ℕ) → from < to → to ≤ length ids
-    → slice_get ids (if reversed then to - 1 else from) ≡ slice_get (turned reversed ids) (start reversed from to ids)
-turned_first true from to ids l within =
-    let inside : length ids - to < length ids = omega arith in
-    let place : to - 1 ≡ length ids - 1 - (length ids - to) = omega arith in
-    ap (slice_get ids) place ∙ sym (slice_get-reverse ids (length ids - to) inside)
-turned_first false from to ids l within = refl
 
 take_both : (m n : ℕ) (ids : List ℕ) → take m (take n ids) ≡ take (min m n) ids
 take_both m n ids =
@@ -103,6 +93,8 @@ empty_page false limit between is = ap (page_of limit) is ∙ page_of_none limit
 pub record Ranks (s : Shape) (t : Table) (x : ℕ) (low : Lower) (high : Upper) (from to : ℕ) : Type 0 where
   between : page.between s t x low high ≡ drop from (take to (view s t x))
   within : to ≤ length (view s t x)
+  begins : from ≡ rank_from s t x low
+  ends : to ≡ rank_to s t x high
 
 pub ranks_found : (s : Shape) (t : Table) (x : ℕ) (low : Lower) (high : Upper) → IsTrue (is_sorted (index_at s x).kind) → (from to : ℕ)
     → from ≡ rank_from s t x low → to ≡ rank_to s t x high → Ranks s t x low high from to
@@ -110,17 +102,14 @@ ranks_found s t x low high sorted from to from_is to_is =
     record {
       between = between_ranks s t x low high sorted ∙ sym (ap₂ (λ m n. drop m (take n (view s t x))) from_is to_is);
       within = subst (λ n. n ≤ length (view s t x)) (sym to_is) (to_within s t x high);
+      begins = from_is;
+      ends = to_is;
     }
 
 module _ {s : Shape} {t : Table} {x : ℕ} {low : Lower} {high : Upper} {from to : ℕ} (ranks : Ranks s t x low high from to) where
   -- a range that ends where it begins, or before
   pub range_empty : (reversed : Bool) (limit : ℕ) → to ≤ from → page.range s t x low high reversed limit ≡ record { ids = []; more = false }
   range_empty reversed limit le = empty_page reversed limit (page.between s t x low high) (ranks.between ∙ segment_empty from to (view s t x) le)
-
-  -- where the walk of a range begins
-  range_first : (reversed : Bool) → from < to
-      → slice_get (view s t x) (if reversed then to - 1 else from) ≡ slice_get (turned reversed (view s t x)) (start reversed from to (view s t x))
-  range_first reversed l = turned_first reversed from to (view s t x) l ranks.within
 
   -- the page of a range
   range_page : (reversed : Bool) (limit : ℕ) (ids : List ℕ) → from < to
@@ -129,26 +118,20 @@ module _ {s : Shape} {t : Table} {x : ℕ} {low : Lower} {high : Upper} {from to
   range_page reversed limit ids l given =
       segment_page reversed from to limit (view s t x) (page.between s t x low high) ids ranks.between l ranks.within given
 
-  -- there is a record where it begins
-  pub range_begins : (reversed : Bool) (n : ℕ) → from < to → n ≡ (if reversed then to - 1 else from) → slice_get (view s t x) n ≡ None → ⊥
-  range_begins true n l is none =
-      let past : length (view s t x) ≤ n = none_means_past (view s t x) n none in let few : to ≤ length (view s t x) = ranks.within in omega arith
-  range_begins false n l is none =
-      let past : length (view s t x) ≤ n = none_means_past (view s t x) n none in let few : to ≤ length (view s t x) = ranks.within in omega arith
+  module _ (reversed : Bool) (limit : ℕ) (sorted : IsTrue (is_sorted (index_at s x).kind)) (l : from < to) where
+    -- the ids from where it begins
+    begun : (r : Bool) (k : ℕ) → ids_begun s t x low high r k ≡ take k (drop (start r from to (view s t x)) (turned r (view s t x)))
+    begun true k =
+        down_is s t x high k sorted
+        ∙ ap (take k) (ap (λ n. reverse (take n (view s t x))) (sym ranks.ends) ∙ sym (reverse_end to (view s t x) ranks.within))
+    begun false k = up_is s t x low k sorted ∙ ap (λ n. take k (drop n (view s t x))) (sym ranks.begins)
 
-  module _ (reversed : Bool) (limit n first : ℕ) (l : from < to) (place : n ≡ (if reversed then to - 1 else from))
-      (at : slice_get (view s t x) n ≡ Some first) (once : IsOnce (view s t x)) where
-    same_page_is : record { ids = ids_from s t x reversed first (min limit (to - from)); more = nat_lt limit (to - from) }
+    same_page_is : record { ids = ids_begun s t x low high reversed (min limit (to - from)); more = nat_lt limit (to - from) }
         ≡ page.range s t x low high reversed limit
-    same_page_is =
-        let begins : slice_get (turned reversed (view s t x)) (start reversed from to (view s t x))
-        ≡ Some first = sym (range_first reversed l) ∙ ap (slice_get (view s t x)) (sym place) ∙ at in
-        range_page reversed limit (ids_from s t x reversed first (min limit (to - from))) l
-        (ap (take (min limit (to - from))) (from_at (turned reversed (view s t x))
-        (once_turned reversed (view s t x) once) (start reversed from to (view s t x)) first begins))
+    same_page_is = range_page reversed limit _ l (begun reversed (min limit (to - from)))
 
     -- the rows of the walk are those of the range
-    pub range_rows : rows_from s t x reversed first (min limit (to - from)) ≡ map (row t) (page.range s t x low high reversed limit).ids
+    pub range_rows : map (row t) (ids_begun s t x low high reversed (min limit (to - from))) ≡ map (row t) (page.range s t x low high reversed limit).ids
     range_rows = ap (λ (p : Page). map (row t) p.ids) same_page_is
 
     pub range_more : nat_lt limit (to - from) ≡ (page.range s t x low high reversed limit).more
@@ -196,13 +179,47 @@ pub list_is : (s : Shape) (t : Table) (x : ℕ) (after : Option ℕ) (limit : �
 list_is s t x None limit = refl
 list_is s t x (Some e) limit = refl
 
--- a range without an upper bound is the page from its rank on
-pub open_is : (s : Shape) (t : Table) (x : ℕ) (low : Lower) (limit : ℕ) → IsTrue (is_sorted (index_at s x).kind)
-    → page_of limit (drop (rank_from s t x low) (view s t x)) ≡ page.range s t x low upper.All false limit
-open_is s t x low limit sorted =
-    sym (ap (page_of limit) (between_ranks s t x low upper.All sorted
-    ∙ ap (λ n. drop (rank_from s t x low) (take n (view s t x))) (to_all s t x)
-    ∙ ap (drop (rank_from s t x low)) (take_all (length (view s t x)) (view s t x) (omega arith))))
+-- a range that ends where the index does
+module _ (s : Shape) (t : Table) (x : ℕ) (low : Lower) (high : Upper) (reversed : Bool) (limit more : ℕ) where
+  abbrev shown : List ℕ
+  shown = turned reversed (page.between s t x low high)
+
+  begun_open : (r : Bool) (l : Lower) (h : Upper) (k : ℕ) → ends_open r l h ≡ true → ids_begun s t x l h r k ≡ take k (turned r (page.between s t x l h))
+  begun_open true lower.All h k e = refl
+  begun_open true (lower.From key) h k e = absurd (cc)
+  begun_open true (lower.Beyond key) h k e = absurd (cc)
+  begun_open false l upper.All k e = refl
+  begun_open false l (upper.UpTo key) k e = absurd (cc)
+  begun_open false l (upper.Below key) k e = absurd (cc)
+
+  module _ (far : ends_open reversed low high ≡ true) where
+    pub open_rows : limit ≤ more → take limit (map (row t) (ids_begun s t x low high reversed more)) ≡ map (row t) (page.range s t x low high reversed limit).ids
+    open_rows le =
+        ap (λ ids. take limit (map (row t) ids)) (begun_open reversed low high more far)
+        ∙ take-map (row t) limit (take more shown) ∙ ap (map (row t)) (take-take limit more shown le ∙ same reversed)
+      where
+        same : (r : Bool) → take limit (turned r (page.between s t x low high)) ≡ (page.range s t x low high r limit).ids
+        same true = refl
+        same false = refl
+
+    pub open_more : (n : ℕ) → n ≡ length (map (row t) (ids_begun s t x low high reversed more)) → (limit < more) ⊎ (length (view s t x) ≤ limit)
+        → nat_lt limit n ≡ (page.range s t x low high reversed limit).more
+    open_more n is enough =
+        let few : length shown ≤ length (view s t x) = short reversed in
+        ap (nat_lt limit) (is ∙ length-map_rows (row t) (ids_begun s t x low high reversed more) ∙ ap length (begun_open reversed low high more far))
+        ∙ one_more limit more shown (elim enough [ inl beyond ↦ inl beyond | inr all ↦ inr (omega arith) ])
+        ∙ same reversed
+      where
+        short : (r : Bool) → length (turned r (page.between s t x low high)) ≤ length (view s t x)
+        short r =
+            let long : length (turned r (page.between s t x low high)) ≡ length (page.between s t x low high) = length-turned r (page.between s t x low high) in
+            let counted = length-filter (λ id. page.meets_lower (index_at s x) t low id && page.meets_upper (index_at s x) t high id) (view s t x) in
+            let le = count_by-le-length (λ id. page.meets_lower (index_at s x) t low id && page.meets_upper (index_at s x) t high id) (view s t x) in
+            omega arith
+
+        same : (r : Bool) → nat_lt limit (length (turned r (page.between s t x low high))) ≡ (page.range s t x low high r limit).more
+        same true = refl
+        same false = refl
 
 -- a walk of one row more than a page
 module _ (s : Shape) (t : Table) (x first limit more : ℕ) where

@@ -1,16 +1,17 @@
 //! Pages of ranges and lists. A page takes memory for its rows alone, which are lent: the index is walked once, from where
 //! the page begins.
-ghost use Rattle.std.specs.Prelude.{◌≡◌, not, length, map, false, IsTrue, IfOk, IfErr, Ok, Err, slice_get, if◌then◌else◌};
+ghost use Rattle.std.specs.Prelude.{◌≡◌, not, length, map, take, nat_lt, true, IsTrue, IfOk, IfErr, Ok, Err, slice_get, if◌then◌else◌};
 ghost use Rattle.std.specs.List.{count_by};
 ghost use Rattle.mi_value.specs.declared.refusal.Refusal.TheVariants.{Memory, NoId};
-ghost use Rattle.mi_sessions.specs.Fitting.{HasTable, index_of, IsSortedIndex, IsSequencedIndex, IsListedIndex, FitsLower, FitsUpper};
+ghost use Rattle.mi_sessions.specs.Fitting.{HasTable, index_of, IsSortedIndex, IsSequencedIndex, FitsLower, FitsUpper};
+ghost use Rattle.mi_catalog.specs.Key.{Row};
 ghost use Rattle.mi_sessions.specs.LookUps.{WithinLookUps};
 ghost use Rattle.mi_model.specs.Table.{has as has_row, row as row_of, size as size_of};
 ghost use Rattle.mi_model.specs.Verdict.{has_place};
 ghost use Rattle.mi_model.specs.Database.{schema_of, table_of};
 ghost use Rattle.mi_model.specs.Page.{meets_lower, meets_upper, page_of, range as range_of, list as list_of};
 ghost use Rattle.mi_model.specs.Walk.{from_in};
-ghost use Rattle.mi_query.specs.Pages.{shown_by, place_behind};
+ghost use Rattle.mi_query.specs.Pages.{shown_by, place_behind, ends_open, ids_begun};
 
 use crate::shown::shows_each;
 use mi_sessions::Sessions;
@@ -73,92 +74,86 @@ fn all_of<D: Sessions>(db: &D, table: usize, index: usize) -> u64
     db.size(table)
 }
 
-/// The first id of an ordered or ranked index that meets the bound at which a range begins, or none. At most one look-up.
-fn first_from<D: Sessions>(
-    db: &D,
-    table: usize,
-    index: usize,
-    lower: &Lower,
-    steps: &mut Steps,
-) -> Option<u64>
-    requires table { HasTable (D.state db.now).catalog table }
-    requires index { IsSortedIndex (D.state db.now).catalog table index }
-    requires key { FitsLower (D.state db.now).catalog table index lower.now }
-    ensures first { result ≡ slice_get (shown_by (D.state db.now) table index)
-        (count_by (λ id. not (meets_lower (index_of (D.state db.now).catalog table index) (table_of (D.state db.now) table) lower.now id))
-        (shown_by (D.state db.now) table index)) }
-    ensures steps { WithinLookUps D.bound 1 (size_of (table_of (D.state db.now) table)) steps.old.count steps.new.count }
+/// The page of a walk that has one row more than the page may have, where others remain.
+fn page_of_walk<'a>(rows: Vec<(u64, &'a Record)>, limit: usize) -> Page<'a>
+    ensures rows { map {B = Row} (λ r. (r.0, r.1.now)) result.rows.items ≡ take limit (map {B = Row} (λ r. (r.0, r.1.now)) rows.entry.items) }
+    ensures more { result.more ≡ nat_lt limit (length rows.entry.items) }
 {
-    match lower {
-        Lower::All => db.first(table, index),
-        Lower::From(key) => db.lower(table, index, key.values(), steps),
-        Lower::Beyond(key) => db.upper(table, index, key.values(), steps),
+    let more = rows.len() > limit;
+    let mut rows = rows;
+    rows.truncate(limit);
+    Page { rows, more }
+}
+
+/// Whether the end at which a range ends has no bound.
+fn is_open(lower: &Lower, upper: &Upper, reverse: bool) -> bool
+    ensures { result ≡ ends_open reverse lower.now upper.now }
+{
+    if reverse {
+        match lower {
+            Lower::All => true,
+            Lower::From(_) | Lower::Beyond(_) => false,
+        }
+    } else {
+        match upper {
+            Upper::All => true,
+            Upper::UpTo(_) | Upper::Below(_) => false,
+        }
     }
 }
 
-/// The first rows of those that an index shows from an id on, at most `limit` of them. It is one walk, of one row more than the
-/// page may have, and at most one look-up. Refusal: `Memory`.
-fn page_from<'a, D: Sessions>(
+/// The rows from where a range begins, wherever it ends: one look-up and one walk. Refusal: `Memory`.
+fn walk_range<'a, D: Sessions>(
     db: &'a D,
     alloc: Global,
     table: usize,
     index: usize,
-    first: u64,
+    lower: &Lower,
+    upper: &Upper,
+    reverse: bool,
     limit: usize,
     steps: &mut Steps,
-) -> Result<Page<'a>, Refusal>
+) -> Result<Vec<(u64, &'a Record)>, Refusal>
     requires table { HasTable (D.state db.now).catalog table }
-    requires index { IsListedIndex (D.state db.now).catalog table index }
-    requires first { IsTrue (has_row (table_of (D.state db.now) table) first) }
-    ensures rows { IfOk result (λ p. map (λ r. (r.0, r.1.now)) p.rows.items ≡ map (row_of (table_of (D.state db.now) table))
-        (page_of limit (from_in (shown_by (D.state db.now) table index) first)).ids) }
-    ensures more { IfOk result (λ p. p.more ≡ (page_of limit (from_in (shown_by (D.state db.now) table index) first)).more) }
+    requires index { IsSortedIndex (D.state db.now).catalog table index }
+    ensures rows { IfOk result (λ rows. map (λ r. (r.0, r.1.now)) rows.items ≡ map (row_of (table_of (D.state db.now) table))
+        (ids_begun (schema_of (D.state db.now) table) (table_of (D.state db.now) table) index lower.now upper.now reverse limit)) }
     ensures err { IfErr result (λ e. e ≡ Memory) }
     ensures steps { WithinLookUps D.bound 1 (size_of (table_of (D.state db.now) table)) steps.old.count steps.new.count }
 {
-    shows_each(db, table, index);
-    let mut rows = db.walk(
-        alloc,
-        table,
-        index,
-        false,
-        first,
-        limit.saturating_add(1),
-        steps,
-    )?;
-    let more = rows.len() > limit;
-    rows.truncate(limit);
-    Ok(Page { rows, more })
+    if reverse {
+        db.walk_down(alloc, table, index, upper, limit, steps)
+    } else {
+        db.walk_up(alloc, table, index, lower, limit, steps)
+    }
 }
 
-/// `range` without an upper bound, in the index's order: where it begins is one look-up, and no rank is counted.
+/// `range` that ends where the index does: one look-up and one walk, and no rank is counted.
 fn open_range<'a, D: Sessions>(
     db: &'a D,
     alloc: Global,
     table: usize,
     index: usize,
     lower: &Lower,
+    upper: &Upper,
+    reverse: bool,
     limit: usize,
     steps: &mut Steps,
 ) -> Result<Page<'a>, Refusal>
     requires table { HasTable (D.state db.now).catalog table }
     requires index { IsSortedIndex (D.state db.now).catalog table index }
-    requires lower { FitsLower (D.state db.now).catalog table index lower.now }
+    requires open { ends_open reverse lower.now upper.now ≡ true }
     ensures rows { IfOk result (λ p. map (λ r. (r.0, r.1.now)) p.rows.items ≡ map (row_of (table_of (D.state db.now) table))
-        (range_of (schema_of (D.state db.now) table) (table_of (D.state db.now) table) index lower.now Upper.All false limit).ids) }
+        (range_of (schema_of (D.state db.now) table) (table_of (D.state db.now) table) index lower.now upper.now reverse limit).ids) }
     ensures more { IfOk result (λ p. p.more ≡
-        (range_of (schema_of (D.state db.now) table) (table_of (D.state db.now) table) index lower.now Upper.All false limit).more) }
+        (range_of (schema_of (D.state db.now) table) (table_of (D.state db.now) table) index lower.now upper.now reverse limit).more) }
     ensures err { IfErr result (λ e. e ≡ Memory) }
-    ensures steps { WithinLookUps D.bound 2 (size_of (table_of (D.state db.now) table)) steps.old.count steps.new.count }
+    ensures steps { WithinLookUps D.bound 1 (size_of (table_of (D.state db.now) table)) steps.old.count steps.new.count }
 {
-    db.keeps_rules();
-    let Some(first) = first_from(db, table, index, lower, steps) else {
-        return Ok(Page {
-            rows: Vec::new(alloc),
-            more: false,
-        });
-    };
-    page_from(db, alloc, table, index, first, limit, steps)
+    shows_each(db, table, index);
+    let more = limit.saturating_add(1);
+    let rows = walk_range(db, alloc, table, index, lower, upper, reverse, more, steps)?;
+    Ok(page_of_walk(rows, limit))
 }
 
 /// `range` by the ranks of its ends: at most five look-ups, and one walk.
@@ -184,7 +179,6 @@ fn range_between<'a, D: Sessions>(
     ensures err { IfErr result (λ e. e ≡ Memory) }
     ensures steps { WithinLookUps D.bound 5 (size_of (table_of (D.state db.now) table)) steps.old.count steps.new.count }
 {
-    db.keeps_rules();
     let from = rank_from(db, table, index, lower, steps);
     let to = rank_to(db, table, index, upper, steps);
     if to <= from {
@@ -194,11 +188,8 @@ fn range_between<'a, D: Sessions>(
         });
     }
     let count = (to - from) as usize;
-    let place = if reverse { to - 1 } else { from };
-    let Some(first) = db.nth(table, index, place) else {
-        unreachable!()
-    };
-    let rows = db.walk(alloc, table, index, reverse, first, limit.min(count), steps)?;
+    let shown = limit.min(count);
+    let rows = walk_range(db, alloc, table, index, lower, upper, reverse, shown, steps)?;
     Ok(Page {
         rows,
         more: limit < count,
@@ -206,8 +197,8 @@ fn range_between<'a, D: Sessions>(
 }
 
 /// The first rows of those that an ordered or ranked index shows between two bounds, in its order or in the reverse of it,
-/// at most `limit` of them. The ends are found by at most five look-ups, however many rows there are; then the index is
-/// walked once, from where the page begins. Refusal: `Memory`.
+/// at most `limit` of them. Where it begins is one look-up; a bound at which it ends is up to four more, however many rows there are.
+/// Then the index is walked once, from where the page begins. Refusal: `Memory`.
 pub fn range<'a, D: Sessions>(
     db: &'a D,
     alloc: Global,
@@ -230,13 +221,37 @@ pub fn range<'a, D: Sessions>(
     ensures err { IfErr result (λ e. e ≡ Memory) }
     ensures steps { WithinLookUps D.bound 5 (size_of (table_of (D.state db.now) table)) steps.old.count steps.new.count }
 {
-    match upper {
-        Upper::All if !reverse => open_range(db, alloc, table, index, lower, limit, steps),
-        _ => range_between(db, alloc, table, index, lower, upper, reverse, limit, steps),
+    if is_open(lower, upper, reverse) {
+        open_range(db, alloc, table, index, lower, upper, reverse, limit, steps)
+    } else {
+        range_between(db, alloc, table, index, lower, upper, reverse, limit, steps)
     }
 }
 
-/// The first rows of a sequenced index, or of those behind an id, at most `limit` of them. At most two look-ups, and one walk.
+/// The first rows of those that a sequenced index shows from an id on, at most `limit` of them. It is one walk, of one row more than
+/// the page may have. Refusal: `Memory`.
+fn page_from<'a, D: Sessions>(
+    db: &'a D,
+    alloc: Global,
+    table: usize,
+    index: usize,
+    first: u64,
+    limit: usize,
+) -> Result<Page<'a>, Refusal>
+    requires table { HasTable (D.state db.now).catalog table }
+    requires index { IsSequencedIndex (D.state db.now).catalog table index }
+    requires first { IsTrue (has_row (table_of (D.state db.now) table) first) }
+    ensures rows { IfOk result (λ p. map (λ r. (r.0, r.1.now)) p.rows.items ≡ map (row_of (table_of (D.state db.now) table))
+        (page_of limit (from_in (shown_by (D.state db.now) table index) first)).ids) }
+    ensures more { IfOk result (λ p. p.more ≡ (page_of limit (from_in (shown_by (D.state db.now) table index) first)).more) }
+    ensures err { IfErr result (λ e. e ≡ Memory) }
+{
+    shows_each(db, table, index);
+    let rows = db.walk(alloc, table, index, false, first, limit.saturating_add(1))?;
+    Ok(page_of_walk(rows, limit))
+}
+
+/// The first rows of a sequenced index, or of those behind an id, at most `limit` of them. At most one look-up, and one walk.
 /// Refusals: `NoId`, exactly where that id isn't there, and `Memory`.
 pub fn list<'a, D: Sessions>(
     db: &'a D,
@@ -254,7 +269,7 @@ pub fn list<'a, D: Sessions>(
     ensures more { IfOk result (λ p. p.more ≡ (list_of (schema_of (D.state db.now) table) (table_of (D.state db.now) table) index after limit).more) }
     ensures there { IfOk result (λ _. IsTrue (has_place (table_of (D.state db.now) table) after)) }
     ensures err { IfErr result (λ e. e ≡ (if has_place (table_of (D.state db.now) table) after then Memory else NoId)) }
-    ensures steps { WithinLookUps D.bound 2 (size_of (table_of (D.state db.now) table)) steps.old.count steps.new.count }
+    ensures steps { WithinLookUps D.bound 1 (size_of (table_of (D.state db.now) table)) steps.old.count steps.new.count }
 {
     db.keeps_rules();
     shows_each(db, table, index);
@@ -264,7 +279,7 @@ pub fn list<'a, D: Sessions>(
             more: false,
         });
     };
-    page_from(db, alloc, table, index, first, limit, steps)
+    page_from(db, alloc, table, index, first, limit)
 }
 
 /// The id directly behind another in a sequenced index, or behind none the first. Refusal: `NoId`. At most one look-up.

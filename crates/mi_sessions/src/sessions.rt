@@ -6,8 +6,9 @@ ghost use Rattle.std.specs.Option.{option_copied};
 ghost use Rattle.mi_value.specs.declared.refusal.Refusal.TheVariants.{Memory};
 ghost use Rattle.mi_catalog.specs.Fitting.{HasTable, IsKeyedIndex, IsHashedIndex, IsSortedIndex, IsSequencedIndex, IsListedIndex};
 ghost use Rattle.mi_catalog.specs.Fitting.{FitsTable, FitsEdits, FitsWhole, FitsPrefix};
-ghost use Rattle.mi_model.specs.Table.{get as get_row, has as has_row, size as size_of};
+ghost use Rattle.mi_model.specs.Table.{get as get_row, has as has_row, row as row_of, size as size_of};
 ghost use Rattle.mi_model.specs.LookUp as look;
+ghost use Rattle.mi_model.specs.Page.{ids_up, ids_down};
 ghost use Rattle.mi_model.specs.Walk.{rows_from};
 ghost use Rattle.mi_model.specs.Database.{Database, IsDatabase, schema_of, table_of, depth as depth_of};
 ghost use Rattle.mi_model.specs.Database.{start_step, undo_step, squash_step, ending, committed, undone_times};
@@ -15,13 +16,13 @@ ghost use Rattle.mi_model.specs.DatabaseChange.{Meets, without_value, insert_ste
 ghost use Rattle.mi_sessions.specs.LookUps.{WithinLookUps};
 
 use mi_catalog::Catalog;
-use mi_value::{Edit, NoSession, Record, Refusal, Steps, Value};
+use mi_value::{Edit, Lower, NoSession, Record, Refusal, Steps, Upper, Value};
 use std::alloc::Global;
 
 /// Tables under one stack of nested sessions.
 ///
 /// The tables are named by their number in the catalog. A refused call changes nothing, but for a modify that loses its record
-/// (`Lost`). Where a growth is refused a call that can answer `Memory` does. Of the calls that read `walk` alone takes memory.
+/// (`Lost`). Where a growth is refused a call that can answer `Memory` does. Of the calls that read the walks alone take memory.
 /// `Memory` stands last where refusals have an order, but a database may ask for memory first: it may stand in the place of any
 /// other answer, and then nothing has changed.
 ///
@@ -162,9 +163,8 @@ pub trait Sessions {
         requires id { IsTrue (has_row (table_of (state self.now) table) id) }
         ensures { result ≡ look.before (schema_of (state self.now) table) (table_of (state self.now) table) index id };
 
-    /// The rows that an index shows from one on, in its order or in the reverse of it, at most `limit` of them: their ids
-    /// with their records, lent. It is one walk from that row, which is found by at most one look-up, and the vector is the
-    /// one memory that it takes. Refusal: `Memory`.
+    /// The rows that a sequenced index shows from one on, in its order or in the reverse of it, at most `limit` of them: their ids
+    /// with their records, lent. It is one walk from that row, and the vector is the one memory that it takes. Refusal: `Memory`.
     fn walk(
         &self,
         alloc: Global,
@@ -173,13 +173,48 @@ pub trait Sessions {
         reverse: bool,
         first: u64,
         limit: usize,
-        steps: &mut Steps,
     ) -> Result<Vec<(u64, &Record)>, Refusal>
         requires table { HasTable (state self.now).catalog table }
-        requires index { IsListedIndex (state self.now).catalog table index }
+        requires index { IsSequencedIndex (state self.now).catalog table index }
         requires first { IsTrue (has_row (table_of (state self.now) table) first) }
         ensures rows { IfOk result (λ rows. map (λ r. (r.0, r.1.now)) rows.items ≡
             rows_from (schema_of (state self.now) table) (table_of (state self.now) table) index reverse first limit) }
+        ensures err { IfErr result (λ e. e ≡ Memory) };
+
+    /// The rows that an ordered or ranked index shows from a lower bound up, at most `limit` of them: their ids with their records,
+    /// lent. It is one look-up and one walk, and the vector is the one memory that it takes. Refusal: `Memory`.
+    fn walk_up(
+        &self,
+        alloc: Global,
+        table: usize,
+        index: usize,
+        lower: &Lower,
+        limit: usize,
+        steps: &mut Steps,
+    ) -> Result<Vec<(u64, &Record)>, Refusal>
+        requires table { HasTable (state self.now).catalog table }
+        requires index { IsSortedIndex (state self.now).catalog table index }
+        ensures rows { IfOk result (λ rows. map (λ r. (r.0, r.1.now)) rows.items ≡ map (row_of (table_of (state self.now) table))
+            (ids_up (schema_of (state self.now) table) (table_of (state self.now) table) index lower.now limit)) }
+        ensures err { IfErr result (λ e. e ≡ Memory) }
+        ensures steps { WithinLookUps bound 1 (size_of (table_of (state self.now) table)) steps.old.count steps.new.count };
+
+    /// The rows that an ordered or ranked index shows from an upper bound down, in the reverse of its order, at most `limit` of them:
+    /// their ids with their records, lent. It is one look-up and one walk, and the vector is the one memory that it takes. Refusal:
+    /// `Memory`.
+    fn walk_down(
+        &self,
+        alloc: Global,
+        table: usize,
+        index: usize,
+        upper: &Upper,
+        limit: usize,
+        steps: &mut Steps,
+    ) -> Result<Vec<(u64, &Record)>, Refusal>
+        requires table { HasTable (state self.now).catalog table }
+        requires index { IsSortedIndex (state self.now).catalog table index }
+        ensures rows { IfOk result (λ rows. map (λ r. (r.0, r.1.now)) rows.items ≡ map (row_of (table_of (state self.now) table))
+            (ids_down (schema_of (state self.now) table) (table_of (state self.now) table) index upper.now limit)) }
         ensures err { IfErr result (λ e. e ≡ Memory) }
         ensures steps { WithinLookUps bound 1 (size_of (table_of (state self.now) table)) steps.old.count steps.new.count };
 

@@ -1,5 +1,4 @@
 pub mod CompareLemmas
-pub mod FindLemmas
 pub mod FrameLemmas
 pub mod HeightLemmas
 pub mod JoinLemmas

@@ -12,13 +12,23 @@ use Rattle.mi_tree.proofs.BinaryTreeLemmas.{moved, tip_is, same_tree, Sides, sid
 use Rattle.mi_tree.proofs.LookUpLemmas.{true_false, is_false, where_right, steady_left, steady_right, size_of_link}
 use Rattle.mi_tree.proofs.SortedLemmas.{tagged_left, tagged_right}
 
+-- it stands in the list, or behind it
+pub place_within : (f : Ref → Bool) (A : List Ref) → position_or_len f A ≤ length A
+place_within f [] = omega arith
+place_within f (a ∷ A) =
+    let rest : position_or_len f A ≤ length A = place_within f A in
+    elim (f a) as (λ b. cond (not b) (1 + position_or_len f A) 0 ≤ length (a ∷ A)) [
+      | true ↦ omega arith
+      | false ↦ omega arith
+    ]
+
 -- the first that is past stands on the left, or is this node
-place_left : (f : Ref → Bool) (A : List Ref) (r : Ref) (C : List Ref) → f r ≡ true → position_or_len f (A ++ r ∷ C) ≡ position_or_len f A
+pub place_left : (f : Ref → Bool) (A : List Ref) (r : Ref) (C : List Ref) → f r ≡ true → position_or_len f (A ++ r ∷ C) ≡ position_or_len f A
 place_left f [] r C is = ap (λ b. cond (not b) (1 + position_or_len f C) 0) is
 place_left f (a ∷ A) r C is = ap (λ k. cond (not (f a)) (1 + k) 0) (place_left f A r C is)
 
 -- it stands on the right
-place_right : (f : Ref → Bool) (A : List Ref) (r : Ref) (C : List Ref) → f r ≡ false
+pub place_right : (f : Ref → Bool) (A : List Ref) (r : Ref) (C : List Ref) → f r ≡ false
     → IsSteady f (A ++ r ∷ C) → position_or_len f (A ++ r ∷ C) ≡ length A + 1 + position_or_len f C
 place_right f [] r C is h = ap (λ b. cond (not b) (1 + position_or_len f C) 0) is
 place_right f (a ∷ A) r C is h =

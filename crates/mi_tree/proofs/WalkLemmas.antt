@@ -193,26 +193,6 @@ pub way_right : (d : Direction) (l : BinaryTree) (r : Ref) (q t : BinaryTree) (x
 way_right Ascending l r q t xs ys n k e is h = up_right l r q t xs ys n k e is h
 way_right Descending l r q t xs ys n k e is h = down_right l r q t xs ys n k e is h
 
--- the nodes ahead of a node in either side, or of the node between
-pub from_left : (d : Direction) (l : BinaryTree) (r : Ref) (q : BinaryTree) (xs ys : List Pending) (x : Ref) (vs zs ws : List Ref) → ws ≡ zs ++ r ∷ nodes q
-    → ahead d ys ≡ x ∷ (beyond d vs zs ++ ahead d (pend_left d r q xs)) → ahead d ys ≡ x ∷ (beyond d vs ws ++ ahead d xs)
-from_left Ascending l r q xs ys x vs zs ws e h = h
-    ∙ ap (λ k. x ∷ k) (sym (append_assoc zs (r ∷ nodes q) (ahead Ascending xs)) ∙ ap (λ k. k ++ ahead Ascending xs) (sym e))
-from_left Descending l r q xs ys x vs zs ws e h = h
-
-pub from_right : (d : Direction) (l : BinaryTree) (r : Ref) (q : BinaryTree) (xs ys : List Pending) (x : Ref) (vs zs ws : List Ref) → vs ≡ nodes l ++ r ∷ zs
-    → ahead d ys ≡ x ∷ (beyond d zs ws ++ ahead d (pend_right d r l xs)) → ahead d ys ≡ x ∷ (beyond d vs ws ++ ahead d xs)
-from_right Ascending l r q xs ys x vs zs ws e h = h
-from_right Descending l r q xs ys x vs zs ws e h =
-    let whole : reverse vs ≡ reverse zs ++ r ∷ reverse (nodes l) = ap reverse e ∙ reverse-append (nodes l) (r ∷ zs)
-    ∙ ap (λ k. k ++ reverse (nodes l)) (reverse-append (r ∷ []) zs) ∙ append_assoc (reverse zs) (r ∷ []) (reverse (nodes l)) in
-    h ∙ ap (λ k. x ∷ k) (sym (append_assoc (reverse zs) (r ∷ reverse (nodes l)) (ahead Descending xs)) ∙ ap (λ k. k ++ ahead Descending xs) (sym whole))
-
-pub from_here : (d : Direction) (l : BinaryTree) (r : Ref) (q : BinaryTree) (xs : List Pending) (x : Ref) (vs ws : List Ref) → nodes l ≡ vs
-    → r ≡ x → nodes q ≡ ws → ahead d (record { node = r; after = farther d l q } ∷ xs) ≡ x ∷ (beyond d vs ws ++ ahead d xs)
-from_here Ascending l r q xs x vs ws e f g = λ i. f i ∷ (g i ++ ahead Ascending xs)
-from_here Descending l r q xs x vs ws e f g = λ i. f i ∷ (reverse (e i) ++ ahead Descending xs)
-
 -- what the last node of a path is
 pub record IsPopped (xs : List Pending) (new : List (Option Ref)) (r : Ref) : Type 0 where
   pub x : Pending

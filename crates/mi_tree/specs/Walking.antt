@@ -1,11 +1,12 @@
 -- Where a walk along a tree stands.
 --     onward, beyond      a list in the walk's direction; what the walk comes to from between two lists
+--     beyond_place      what it comes to from a place in a list
 --     near_of, far_of      the side of a link that the walk comes to before its node, and the one after it
 --     Pending      a node that is ahead, and the subtree that the walk comes to after it
 --     ahead, path_of      the nodes ahead, and the nodes on the path, the first of which is its last
 --     Goes      a path stands in a pool with these nodes ahead
 --     IsWalk      the same of a walk
-use Rattle.std.specs.Prelude.{◌≡◌, ℕ, Bool, true, false, ◌+◌, ◌<◌, ◌≤◌, List, [], ◌∷◌, ◌++◌, length, reverse, Option, Some}
+use Rattle.std.specs.Prelude.{◌≡◌, ℕ, Bool, true, false, ◌+◌, ◌<◌, ◌≤◌, List, [], ◌∷◌, ◌++◌, length, take, drop, reverse, Option, Some}
 use Rattle.mi_node.specs.Pool.{Pooled, link_of, IsHeld}
 use Rattle.mi_node.specs.Refs.{Ref}
 use Rattle.mi_node.specs.declared.link.Link.{Link}
@@ -18,6 +19,10 @@ use Rattle.mi_tree.specs.declared.walk.TheConstants.{MAX_LEVELS}
 abbrev pub beyond : Direction → List Ref → List Ref → List Ref
 beyond Ascending xs ys = ys
 beyond Descending xs ys = reverse xs
+
+-- what the walk comes to from the place behind the first n of a list
+abbrev pub beyond_place : Direction → ℕ → List Ref → List Ref
+beyond_place d n rs = beyond d (take n rs) (drop n rs)
 
 abbrev pub onward : Direction → List Ref → List Ref
 onward d rs = beyond d rs rs

@@ -130,3 +130,59 @@ fn seek_value<T, O: NodeOrder<T>>(
 {
     order.seek(p.value(node), probe, steps)
 }
+
+/// A place that a way down seeks: in front of the first node that the probe isn't after, or with `strict` of the first that it is
+/// before. It has the probe's tag, and whether that decides.
+#[derive(Clone, Copy)]
+pub(crate) struct Sought<'a> {
+    pub(crate) probe: Probe<'a>,
+    pub(crate) tag: Option<u64>,
+    pub(crate) decided: bool,
+    pub(crate) strict: bool,
+}
+
+/// Where the node stands beside the probe of a place: by their tags, or by the value.
+#[inline(always)]
+pub(crate) fn compare_sought<T, O: NodeOrder<T>>(
+    p: &Counted<T>,
+    order: &O,
+    node: NodeRef,
+    tag: Tag,
+    sought: &Sought<'_>,
+    steps: &mut Steps,
+) -> Ordering
+    requires node { IsHeld p.now.pool node × IsTagOf (O.tag_of order.now) (value_of p.now.pool node.name) tag.key }
+    requires probe { sought.now.tag ≡ O.probe_tag_of order.now sought.now.probe }
+    requires decided { sought.now.decided ≡ is_decided (O.is_exact order.now) sought.now.tag }
+    ensures result { result ≡ place_at (λ v. O.place order.now v sought.now.probe) (value_of p.now.pool node.name) }
+    ensures steps { steps.new.count ≡ steps.old.count + 1 }
+{
+    let Some(wanted) = sought.tag else {
+        return seek_place(p, order, node, sought, steps);
+    };
+    if tag.key != wanted {
+        steps.tick();
+        return tag.key.cmp(&wanted);
+    }
+    if sought.decided {
+        steps.tick();
+        return Ordering::Equal;
+    }
+    seek_place(p, order, node, sought, steps)
+}
+
+/// The same by the value. The place is lent, so that a way down stays a loop.
+#[inline(never)]
+fn seek_place<T, O: NodeOrder<T>>(
+    p: &Counted<T>,
+    order: &O,
+    node: NodeRef,
+    sought: &Sought<'_>,
+    steps: &mut Steps,
+) -> Ordering
+    requires node { IsHeld p.now.pool node }
+    ensures result { result ≡ place_at (λ v. O.place order.now v sought.now.probe) (value_of p.now.pool node.name) }
+    ensures steps { steps.new.count ≡ steps.old.count + 1 }
+{
+    order.seek(p.value(node), sought.probe, steps)
+}

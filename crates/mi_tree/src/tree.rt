@@ -1,6 +1,6 @@
 //! The tree: its slot, its order and its root.
 //! It sets links of its own slot alone, owns no node, and never touches a value.
-ghost use Rattle.std.specs.Prelude.{◌≡◌, ℕ, ◌+◌, ◌*◌, ◌^◌, ◌<◌, ◌≤◌, ◌∷◌, ◌++◌, ◌==◌, List, length, take, drop, None, true, false};
+ghost use Rattle.std.specs.Prelude.{◌≡◌, ℕ, ◌+◌, ◌*◌, ◌^◌, ◌<◌, ◌≤◌, ◌∷◌, ◌++◌, ◌==◌, List, length, None, true, false};
 ghost use Rattle.std.specs.List.{position_or_len};
 ghost use Rattle.std.specs.declared.cmp.Ordering.{Ordering as Side};
 ghost use Rattle.mi_node.specs.Pool.{Keeps, link_of};
@@ -37,7 +37,7 @@ pub struct Tree<O> {
 
 impl<O> Tree<O> {
     ghost use Rattle.mi_tree.specs.Standing.{IsTree, CanInsert};
-    ghost use Rattle.mi_tree.specs.Walking.{IsWalk, beyond};
+    ghost use Rattle.mi_tree.specs.Walking.{IsWalk, beyond_place};
 
     /// An empty tree through a slot, counted from 0, which must be one that the pool's nodes have.
     pub fn new(slot: usize, order: O) -> Tree<O>
@@ -389,7 +389,7 @@ impl<O> Tree<O> {
     pub fn walk<T>(&self, p: &mut Counted<T>, direction: Direction, passed: u32) -> Walk
         requires { (order : T → T → Side) × (tag : T → ℕ) × (rs : List Ref) × IsTree self.now p.old.pool order tag rs }
         ensures walk { (order : T → T → Side) (tag : T → ℕ) (rs : List Ref) → IsTree self.now p.old.pool order tag rs
-            → (levels : ℕ) × IsWalk result p.old.pool levels (beyond direction (take passed rs) (drop passed rs))
+            → (levels : ℕ) × IsWalk result p.old.pool levels (beyond_place direction passed rs)
             × ((b : ℕ) → length rs < 2 ^ b → levels ≤ 2 * b) }
         ensures pool { p.new.pool ≡ p.old.pool }
         ensures reads { (order : T → T → Side) (tag : T → ℕ) (rs : List Ref) → IsTree self.now p.old.pool order tag rs
@@ -398,35 +398,38 @@ impl<O> Tree<O> {
         Walk::start(p, self.slot, direction, self.root, passed)
     }
 
-    /// A walk from a node of the tree, up or down from there; the node is its first. At most 2b comparisons,
-    /// and for k nodes 2k + 6b reads of links in all: at most 4b here, and 2k + 2b on the way.
-    pub fn walk_from<T>(
+    /// A walk from the place in front of the first node that isn't before the probe, or with `strict` of the first that is behind it:
+    /// up from that node on, or down from the one before it. At most 2b comparisons, and for k nodes 2k + 4b reads of links in all:
+    /// at most 2b here, and 2k + 2b on the way.
+    pub fn walk_past<T>(
         &self,
         p: &mut Counted<T>,
         direction: Direction,
-        node: NodeRef,
+        probe: Probe<'_>,
+        strict: bool,
         steps: &mut Steps,
     ) -> Walk
     where
         O: NodeOrder<T>,
-        requires { (xs : List Ref) × (ys : List Ref) × IsTree self.now p.old.pool (O.order self.now.order) (O.tag_of self.now.order) (xs ++ node ∷ ys) }
-        ensures walk { (xs : List Ref) (ys : List Ref) → IsTree self.now p.old.pool (O.order self.now.order) (O.tag_of self.now.order) (xs ++ node ∷ ys)
-            → (levels : ℕ) × IsWalk result p.old.pool levels (node ∷ beyond direction xs ys) × ((b : ℕ) → length (xs ++ node ∷ ys) < 2 ^ b → levels ≤ 2 * b) }
+        requires { (rs : List Ref) × IsTree self.now p.old.pool (O.order self.now.order) (O.tag_of self.now.order) rs }
+        ensures walk { (rs : List Ref) → IsTree self.now p.old.pool (O.order self.now.order) (O.tag_of self.now.order) rs
+            → (levels : ℕ) × IsWalk result p.old.pool levels
+            (beyond_place direction (position_or_len (is_past_node strict (λ v. O.place self.now.order v probe.entry) p.old.pool) rs) rs)
+            × ((b : ℕ) → length rs < 2 ^ b → levels ≤ 2 * b) }
         ensures pool { p.new.pool ≡ p.old.pool }
         ensures reads { (order : T → T → Side) (tag : T → ℕ) (rs : List Ref) → IsTree self.now p.old.pool order tag rs
-            → (b : ℕ) → length rs < 2 ^ b → p.new.reads ≤ p.old.reads + 4 * b }
+            → (b : ℕ) → length rs < 2 ^ b → p.new.reads ≤ p.old.reads + 2 * b }
         ensures steps { (order : T → T → Side) (tag : T → ℕ) (rs : List Ref) → IsTree self.now p.old.pool order tag rs
             → (b : ℕ) → length rs < 2 ^ b → steps.new.count ≤ steps.old.count + 2 * b }
     {
-        let tag = p.link(node, self.slot).tag;
-        Walk::start_at(
+        Walk::start_past(
             p,
             self.slot,
             direction,
             &self.order,
             self.root,
-            node,
-            tag,
+            probe,
+            strict,
             steps,
         )
     }

@@ -1,19 +1,19 @@
 //! A walk along a tree's nodes in order or against it, which remembers the way down to where it stands.
 //! It reads links of one slot, and changes nothing.
-ghost use Rattle.std.specs.Prelude.{◌≡◌, ℕ, ◌+◌, ◌*◌, ◌<◌, ◌≤◌, List, [], ◌∷◌, ◌++◌, length, take, drop, cond, None, Some};
-ghost use Rattle.mi_node.specs.Pool.{link_of};
+ghost use Rattle.std.specs.Prelude.{◌≡◌, ◌↔◌, IsTrue, ℕ, ◌+◌, ◌*◌, ◌<◌, ◌≤◌, List, [], ◌∷◌, ◌++◌, length, drop, cond, None, Some};
+ghost use Rattle.std.specs.List.{position_or_len};
 ghost use Rattle.mi_node.specs.Refs.{Ref, first_of};
 ghost use Rattle.mi_tree.specs.BinaryTree.{BinaryTree, IsRooted, nodes, height};
-ghost use Rattle.mi_tree.specs.Sorted.{side, Rising, AreTagged, CanTake};
-ghost use Rattle.mi_tree.specs.Walking.{Pending, IsWalk, Enters, Goes, ahead, onward, beyond, near_of, far_of, is_ascending};
+ghost use Rattle.mi_tree.specs.Sorted.{AreTagged};
+ghost use Rattle.mi_tree.specs.Probed.{is_decided, is_past_node, IsSteady};
+ghost use Rattle.mi_tree.specs.Walking.{Pending, IsWalk, Enters, Goes, ahead, onward, beyond_place, near_of, far_of, is_ascending};
 
-use crate::compare::compare_nodes;
-use crate::look::size;
+use crate::compare::{Sought, compare_sought, probe_decides};
+use crate::look::{is_past, size};
 use crate::order::NodeOrder;
 use arrayvec::ArrayVec;
-use mi_node::{Counted, Link, NodeRef, Tag};
-use mi_value::Steps;
-use std::cmp::Ordering;
+use mi_node::{Counted, Link, NodeRef};
+use mi_value::{Probe, Steps};
 
 /// The most levels of a balanced tree that has fewer than 2^32 nodes.
 pub(crate) const MAX_LEVELS: usize = 45;
@@ -83,7 +83,7 @@ impl Walk {
         requires slot { slot < p.old.pool.slots }
         requires tree { (levels : ℕ) × (t : BinaryTree) × Enters p.old.pool slot direction levels [] root [] t }
         ensures walk { (levels : ℕ) (t : BinaryTree) → Enters p.old.pool slot direction levels [] root [] t
-            → IsWalk result p.old.pool levels (beyond direction (take passed (nodes t)) (drop passed (nodes t))) }
+            → IsWalk result p.old.pool levels (beyond_place direction passed (nodes t)) }
         ensures pool { p.new.pool ≡ p.old.pool }
         ensures reads { (levels : ℕ) (t : BinaryTree) → Enters p.old.pool slot direction levels [] root [] t → p.new.reads ≤ p.old.reads + 2 * height t }
     {
@@ -96,41 +96,51 @@ impl Walk {
         }
     }
 
-    /// A walk under a root from a node of that tag on, which stands there.
-    pub(crate) fn start_at<T, O: NodeOrder<T>>(
+    /// A walk under a root from the place in front of the first node that the probe isn't after, or with `strict` of the first that it
+    /// is before.
+    pub(crate) fn start_past<T, O: NodeOrder<T>>(
         p: &mut Counted<T>,
         slot: usize,
         direction: Direction,
         order: &O,
         root: Option<NodeRef>,
-        node: NodeRef,
-        tag: Tag,
+        probe: Probe<'_>,
+        strict: bool,
         steps: &mut Steps,
     ) -> Walk
         requires slot { slot < p.old.pool.slots }
-        requires tag { tag ≡ (link_of p.old.pool node.name slot).tag }
-        requires tree { (levels : ℕ) × (t : BinaryTree) × (xs : List Ref) × (ys : List Ref)
-            × Enters p.old.pool slot direction levels [] root [] t × CanTake p.old.pool slot root t
-            × Rising (side (O.order order.now) p.old.pool slot) (nodes t)
-            × AreTagged (O.tag_of order.now) p.old.pool slot (nodes t) × (nodes t ≡ xs ++ node ∷ ys) }
-        ensures walk { (levels : ℕ) (t : BinaryTree) (xs : List Ref) (ys : List Ref)
-            → Enters p.old.pool slot direction levels [] root [] t → CanTake p.old.pool slot root t
-            → Rising (side (O.order order.now) p.old.pool slot) (nodes t) → nodes t ≡ xs ++ node ∷ ys
-            → IsWalk result p.old.pool levels (node ∷ beyond direction xs ys) }
+        requires tree { (levels : ℕ) × (t : BinaryTree) × Enters p.old.pool slot direction levels [] root [] t
+            × AreTagged (O.tag_of order.now) p.old.pool slot (nodes t)
+            × IsSteady (is_past_node strict (λ v. O.place order.now v probe) p.old.pool) (nodes t) }
+        ensures walk { (levels : ℕ) (t : BinaryTree) → Enters p.old.pool slot direction levels [] root [] t
+            → IsSteady (is_past_node strict (λ v. O.place order.now v probe.entry) p.old.pool) (nodes t)
+            → IsWalk result p.old.pool levels
+            (beyond_place direction (position_or_len (is_past_node strict (λ v. O.place order.now v probe.entry) p.old.pool) (nodes t)) (nodes t)) }
         ensures pool { p.new.pool ≡ p.old.pool }
         ensures reads { (t : BinaryTree) → IsRooted p.old.pool slot root t → p.new.reads ≤ p.old.reads + height t }
         ensures steps { (t : BinaryTree) → IsRooted p.old.pool slot root t → steps.new.count ≤ steps.old.count + height t }
     {
         let mut path = ArrayVec::new();
-        let decided = order.decides(tag.key);
-        find_down(
-            p, slot, direction, order, root, node, tag, decided, &mut path, steps,
-        );
+        let tag = order.probe_tag(probe);
+        let sought = Sought {
+            probe,
+            tag,
+            decided: probe_decides::<T, O>(order, tag),
+            strict,
+        };
+        seek_down(p, slot, direction, order, root, &sought, &mut path, steps);
         Walk {
             slot,
             direction,
             path,
         }
+    }
+
+    /// Whether there are no more nodes in the walk's direction: none waits on its path.
+    pub fn is_over(&self) -> bool
+        ensures { IsTrue result ↔ (self.now.path.items ≡ []) }
+    {
+        self.path.is_empty()
     }
 
     /// The next node in the walk's direction, or None where there are no more.
@@ -192,7 +202,7 @@ fn cut_down<T>(
     requires way { (levels : ℕ) × (xs : List Pending) × (t : BinaryTree) × Enters p.old.pool slot direction levels path.old.items at xs t }
     ensures way { (levels : ℕ) (xs : List Pending) (t : BinaryTree) → Enters p.old.pool slot direction levels path.old.items at xs t
         → (ys : List Pending) × Goes p.old.pool slot direction levels path.new.items ys
-        × (ahead direction ys ≡ beyond direction (take passed (nodes t)) (drop passed (nodes t)) ++ ahead direction xs) }
+        × (ahead direction ys ≡ beyond_place direction passed (nodes t) ++ ahead direction xs) }
     ensures pool { p.new.pool ≡ p.old.pool }
     ensures reads { (t : BinaryTree) → IsRooted p.old.pool slot at t → p.new.reads ≤ p.old.reads + 2 * height t }
 {
@@ -210,51 +220,45 @@ fn cut_down<T>(
     }
 }
 
-/// Goes down to a node of that tag, which stands there, and puts it and the nodes that are ahead from
-/// there onto the path.
-fn find_down<T, O: NodeOrder<T>>(
+/// Goes down to the place that is sought, and puts the nodes that are ahead from there onto the path.
+fn seek_down<T, O: NodeOrder<T>>(
     p: &mut Counted<T>,
     slot: usize,
     direction: Direction,
     order: &O,
     at: Option<NodeRef>,
-    node: NodeRef,
-    tag: Tag,
-    decided: bool,
+    sought: &Sought<'_>,
     path: &mut Path,
     steps: &mut Steps,
 )
     requires slot { slot < p.old.pool.slots }
-    requires tag { tag ≡ (link_of p.old.pool node.name slot).tag }
-    requires decided { decided ≡ O.is_exact order.now tag.key }
-    requires way { (levels : ℕ) × (xs : List Pending) × (t : BinaryTree) × (vs : List Ref) × (ws : List Ref)
-        × Enters p.old.pool slot direction levels path.old.items at xs t × CanTake p.old.pool slot at t
-        × Rising (side (O.order order.now) p.old.pool slot) (nodes t) × AreTagged (O.tag_of order.now) p.old.pool slot (nodes t) × (nodes t ≡ vs ++ node ∷ ws) }
-    ensures way { (levels : ℕ) (xs : List Pending) (t : BinaryTree) (vs : List Ref) (ws : List Ref)
-        → Enters p.old.pool slot direction levels path.old.items at xs t → CanTake p.old.pool slot at t
-        → Rising (side (O.order order.now) p.old.pool slot) (nodes t) → nodes t ≡ vs ++ node ∷ ws
+    requires probe { sought.now.tag ≡ O.probe_tag_of order.now sought.now.probe }
+    requires decided { sought.now.decided ≡ is_decided (O.is_exact order.now) sought.now.tag }
+    requires way { (levels : ℕ) × (xs : List Pending) × (t : BinaryTree) × Enters p.old.pool slot direction levels path.old.items at xs t
+        × AreTagged (O.tag_of order.now) p.old.pool slot (nodes t)
+        × IsSteady (is_past_node sought.now.strict (λ v. O.place order.now v sought.now.probe) p.old.pool) (nodes t) }
+    ensures way { (levels : ℕ) (xs : List Pending) (t : BinaryTree) → Enters p.old.pool slot direction levels path.old.items at xs t
+        → IsSteady (is_past_node sought.now.strict (λ v. O.place order.now v sought.now.probe) p.old.pool) (nodes t)
         → (ys : List Pending) × Goes p.old.pool slot direction levels path.new.items ys
-        × (ahead direction ys ≡ node ∷ (beyond direction vs ws ++ ahead direction xs)) }
+        × (ahead direction ys ≡
+        beyond_place direction
+        (position_or_len (is_past_node sought.now.strict (λ v. O.place order.now v sought.now.probe) p.old.pool) (nodes t)) (nodes t)
+        ++ ahead direction xs) }
     ensures pool { p.new.pool ≡ p.old.pool }
     ensures reads { (t : BinaryTree) → IsRooted p.old.pool slot at t → p.new.reads ≤ p.old.reads + height t }
     ensures steps { (t : BinaryTree) → IsRooted p.old.pool slot at t → steps.new.count ≤ steps.old.count + height t }
 {
-    let Some(root) = at else { unreachable!() };
-    let link = p.link(root, slot);
-    match compare_nodes(p, order, node, tag, decided, root, link.tag, steps) {
-        Ordering::Less => {
-            push_if(path, root, direction.is_ascending());
-            find_down(
-                p, slot, direction, order, link.back, node, tag, decided, path, steps,
-            );
-        }
-        Ordering::Equal => push_if(path, root, true),
-        Ordering::Greater => {
-            push_if(path, root, !direction.is_ascending());
-            find_down(
-                p, slot, direction, order, link.forth, node, tag, decided, path, steps,
-            );
-        }
+    let Some(node) = at else {
+        return;
+    };
+    let link = p.link(node, slot);
+    let side = compare_sought(p, order, node, link.tag, sought, steps);
+    if is_past(side, sought.strict) {
+        push_if(path, node, direction.is_ascending());
+        seek_down(p, slot, direction, order, link.back, sought, path, steps);
+    } else {
+        push_if(path, node, !direction.is_ascending());
+        seek_down(p, slot, direction, order, link.forth, sought, path, steps);
     }
 }
 

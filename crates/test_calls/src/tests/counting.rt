@@ -1,7 +1,7 @@
 //! A database that hands each call on to another and counts those that look up a record or step from one to the next.
 use mi_catalog::Catalog;
 use mi_sessions::Sessions;
-use mi_value::{Edit, NoSession, Record, Refusal, Steps, Value};
+use mi_value::{Edit, Lower, NoSession, Record, Refusal, Steps, Upper, Value};
 use std::alloc::Global;
 use std::cell::Cell;
 
@@ -147,10 +147,33 @@ impl<D: Sessions> Sessions for Counting<D> {
         reverse: bool,
         first: u64,
         limit: usize,
+    ) -> Result<Vec<(u64, &Record)>, Refusal> {
+        self.ask().walk(alloc, table, index, reverse, first, limit)
+    }
+
+    fn walk_up(
+        &self,
+        alloc: Global,
+        table: usize,
+        index: usize,
+        lower: &Lower,
+        limit: usize,
+        steps: &mut Steps,
+    ) -> Result<Vec<(u64, &Record)>, Refusal> {
+        self.ask().walk_up(alloc, table, index, lower, limit, steps)
+    }
+
+    fn walk_down(
+        &self,
+        alloc: Global,
+        table: usize,
+        index: usize,
+        upper: &Upper,
+        limit: usize,
         steps: &mut Steps,
     ) -> Result<Vec<(u64, &Record)>, Refusal> {
         self.ask()
-            .walk(alloc, table, index, reverse, first, limit, steps)
+            .walk_down(alloc, table, index, upper, limit, steps)
     }
 
     fn lower(&self, table: usize, index: usize, key: &[Value], steps: &mut Steps) -> Option<u64> {

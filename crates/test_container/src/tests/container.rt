@@ -36,7 +36,7 @@ const BY_F: usize = 3;
 
 pub(super) const BY_F_S: usize = 4;
 
-const LINE: usize = 5;
+pub(super) const LINE: usize = 5;
 
 const BY_S_N: usize = 6;
 

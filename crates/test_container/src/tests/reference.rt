@@ -13,7 +13,7 @@ use mi_catalog::{Catalog, Schema};
 use mi_plain::Plain;
 use mi_query::{count, find};
 use mi_sessions::Sessions;
-use mi_value::{Edit, Record, Refusal, Steps, Value};
+use mi_value::{Edit, Lower, Record, Refusal, Steps, Upper, Value};
 use std::alloc::{AllocError, Global};
 use std::process::Abort;
 use std::test::Fail;
@@ -249,17 +249,23 @@ impl Reference {
         alloc: Global,
         way: Way,
     ) -> Result<Rows<'_>, Refusal> {
-        self.want_listed(rt, way.index);
-        self.want_record(rt, way.first);
-        self.plain.walk(
-            alloc,
-            0,
-            way.index,
-            way.reverse,
-            way.first,
-            way.limit,
-            &mut Steps::new(),
-        )
+        let kind = kind_at(rt, self.schema(rt), way.index);
+        if kind.is_sequenced() {
+            self.want_sequenced(rt, way.index);
+            self.want_record(rt, way.first);
+            return self
+                .plain
+                .walk(alloc, 0, way.index, way.reverse, way.first, way.limit);
+        }
+        self.want_sorted(rt, way.index);
+        let mut steps = Steps::new();
+        if way.reverse {
+            self.plain
+                .walk_down(alloc, 0, way.index, &Upper::All, way.limit, &mut steps)
+        } else {
+            self.plain
+                .walk_up(alloc, 0, way.index, &Lower::All, way.limit, &mut steps)
+        }
     }
 
     pub(super) fn find(&self, rt: &impl Abort, index: usize, key: &[Value]) -> Option<u64> {

@@ -10,7 +10,7 @@ use super::change::{Answer, Rows, Way};
 use super::fitting::{fits_edits, kind_at};
 use mi_catalog::Schema;
 use mi_container::{Container, Inverse};
-use mi_value::{Edit, Record, Refusal, Steps, Value};
+use mi_value::{Edit, Lower, Record, Refusal, Steps, Upper, Value};
 use std::alloc::{AllocError, Global};
 use std::collections::VecDeque;
 use std::process::Abort;
@@ -314,16 +314,23 @@ impl<C: Container> Undoable<C> {
     ) -> Result<Rows<'_>, AllocError>
         requires { CanTakeBack self.now.schema (C.shape self.now.rows) (C.plain self.now.rows) self.now.inverses.items }
     {
-        self.want_listed(rt, way.index);
-        self.want_record(rt, way.first);
-        self.rows.walk(
-            alloc,
-            way.index,
-            way.reverse,
-            way.first,
-            way.limit,
-            &mut Steps::new(),
-        )
+        let kind = kind_at(rt, &self.schema, way.index);
+        if kind.is_sequenced() {
+            self.want_sequenced(rt, way.index);
+            self.want_record(rt, way.first);
+            return self
+                .rows
+                .walk(alloc, way.index, way.reverse, way.first, way.limit);
+        }
+        self.want_sorted(rt, way.index);
+        let mut steps = Steps::new();
+        if way.reverse {
+            self.rows
+                .walk_down(alloc, way.index, &Upper::All, way.limit, &mut steps)
+        } else {
+            self.rows
+                .walk_up(alloc, way.index, &Lower::All, way.limit, &mut steps)
+        }
     }
 
     pub(super) fn find(&self, rt: &impl Abort, index: usize, key: &[Value]) -> Option<u64>

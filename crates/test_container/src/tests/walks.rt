@@ -2,7 +2,7 @@
 ghost use Rattle.test_container.specs.Undone.{CanTakeBack};
 
 use super::change::Way;
-use super::container::{BY_F_S, assert_number};
+use super::container::{BY_F_S, LINE, assert_number};
 use super::undoable::Undoable;
 use mi_container::Container;
 use mi_value::{Record, ValueRef};
@@ -16,15 +16,15 @@ struct Walk {
     rows: &'static [(u64, i64)],
 }
 
-const WALKS: [Walk; 3] = [
+const WALKS: [Walk; 5] = [
     Walk {
         way: Way {
             index: BY_F_S,
             reverse: false,
-            first: 3,
-            limit: 2,
+            first: 2,
+            limit: 3,
         },
-        rows: &[(3, 13), (0, 10)],
+        rows: &[(2, 12), (3, 13), (0, 10)],
     },
     Walk {
         way: Way {
@@ -39,10 +39,28 @@ const WALKS: [Walk; 3] = [
         way: Way {
             index: BY_F_S,
             reverse: true,
-            first: 0,
+            first: 1,
             limit: 9,
         },
-        rows: &[(0, 10), (3, 13), (2, 12)],
+        rows: &[(1, 11), (0, 10), (3, 13), (2, 12)],
+    },
+    Walk {
+        way: Way {
+            index: LINE,
+            reverse: false,
+            first: 3,
+            limit: 2,
+        },
+        rows: &[(3, 13), (1, 11)],
+    },
+    Walk {
+        way: Way {
+            index: LINE,
+            reverse: true,
+            first: 1,
+            limit: 9,
+        },
+        rows: &[(1, 11), (3, 13), (0, 10)],
     },
 ];
 

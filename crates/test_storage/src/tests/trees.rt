@@ -92,7 +92,7 @@ fn nodes_of_one_key_stand_by_their_stamps(rt: HostRuntime) {
     }
 }
 
-/// Walks of a tree of the ids 12, 10, 11 and 13, from the place behind the first nodes or from the node of a rank: their first ids.
+/// Walks of a tree of the ids 12, 10, 11 and 13, from the place behind the first nodes: their first ids.
 const WALKS: [(Direction, u32, [Option<u32>; 3]); 4] = [
     (Direction::Ascending, 0, [Some(12), Some(10), Some(11)]),
     (Direction::Ascending, 2, [Some(11), Some(13), None]),
@@ -100,19 +100,20 @@ const WALKS: [(Direction, u32, [Option<u32>; 3]); 4] = [
     (Direction::Descending, 2, [Some(10), Some(12), None]),
 ];
 
-const WALKS_FROM: [(Direction, u32, [Option<u32>; 3]); 4] = [
-    (Direction::Ascending, 1, [Some(10), Some(11), Some(13)]),
-    (Direction::Ascending, 3, [Some(13), None, None]),
-    (Direction::Descending, 2, [Some(11), Some(10), Some(12)]),
-    (Direction::Descending, 0, [Some(12), None, None]),
+/// Walks of that tree, in which 10 and 11 have the key 5, from the place of a key in front of its nodes or behind them.
+const WALKS_PAST: [(Direction, bool, [Option<u32>; 3]); 4] = [
+    (Direction::Ascending, false, [Some(10), Some(11), Some(13)]),
+    (Direction::Ascending, true, [Some(13), None, None]),
+    (Direction::Descending, true, [Some(11), Some(10), Some(12)]),
+    (Direction::Descending, false, [Some(12), None, None]),
 ];
 
 fn assert_walks(rt: &impl Abort, stock: &Stock<'_>) {
     for (direction, passed, ids) in &WALKS {
         assert_eq!(rt; stock.walk(*direction, *passed), *ids);
     }
-    for (direction, rank, ids) in &WALKS_FROM {
-        assert_eq!(rt; stock.walk_from(*direction, *rank), *ids);
+    for (direction, strict, ids) in &WALKS_PAST {
+        assert_eq!(rt; stock.walk_past(*direction, 5, *strict), *ids);
     }
 }
 

@@ -1,8 +1,8 @@
 -- one index more has been looked at
-use Rattle.std.proofs.Common.{◌≡◌, ◌∙◌, ◌<◌, ◌+◌, false, [], length, ap, arith}
+use Rattle.std.proofs.Common.{◌<◌, false, [], length, ap, arith}
 use Rattle.mi_catalog.specs.declared.index.Index.{Index}
 use Rattle.mi_catalog.specs.declared.index.IndexKind.TheVariants.{Hashed}
-use Rattle.mi_database.specs.Most.{key_of, keyed_count}
+use Rattle.mi_database.specs.Most.{key_of}
 use Rattle.mi_database.proofs.MostLemmas.{keyed_up, key_some, key_none}
 use Rattle.mi_database.proofs.linked.keyed_indexes.Goals.{then-parts-gt0, else-parts-gt0}
 use Rattle.mi_database.proofs.linked.keyed_indexes.Goals as goal

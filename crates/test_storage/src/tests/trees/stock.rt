@@ -249,14 +249,23 @@ impl<'a> Stock<'a> {
         three_of(&self.pool, &mut read, &mut walk)
     }
 
-    /// The first three ids of a walk from the node of a rank on.
-    pub(crate) fn walk_from(&self, direction: Direction, rank: u32) -> [Option<u32>; 3] {
+    /// The first three ids of a walk from the place of a key: in front of the nodes that have it, or with `strict` behind them.
+    pub(crate) fn walk_past(
+        &self,
+        direction: Direction,
+        key: i64,
+        strict: bool,
+    ) -> [Option<u32>; 3] {
         let mut read = Counted::new(&self.pool);
-        let Some(node) = self.tree.nth(&mut read, rank) else {
-            return [None, None, None];
-        };
+        let values = [Value::Int(key)];
         let mut steps = Steps::new();
-        let mut walk = self.tree.walk_from(&mut read, direction, node, &mut steps);
+        let mut walk = self.tree.walk_past(
+            &mut read,
+            direction,
+            Probe::Key(&values),
+            strict,
+            &mut steps,
+        );
         three_of(&self.pool, &mut read, &mut walk)
     }
 }

@@ -11,7 +11,7 @@ use Rattle.mi_database.proofs.KeptLemmas.{none_more}
 use Rattle.mi_database.specs.LinkedData.{LinkedData}
 use Rattle.mi_database.proofs.LinkedDataLemmas.{stays_at, inserted_stays}
 use Rattle.mi_database.specs.Most.{AllHaveAtMost}
-use Rattle.mi_database.proofs.ChangeLemmas.{SpotIn, spot, spot_within, spot_held, spot_outcome, spot_plain, spot_stays, spot_refused, spot_unkept}
+use Rattle.mi_database.proofs.ChangeLemmas.{SpotIn, spot, spot_held, spot_outcome, spot_plain, spot_stays, spot_refused, spot_unkept}
 use Rattle.mi_database.proofs.sessions.LinkedSessions.insert.Given.{Over}
 use Rattle.mi_database.proofs.sessions.LinkedSessions.insert.Goals.{After-insert_row}
 use Rattle.mi_database.proofs.sessions.LinkedSessions.insert.Goals as goal

@@ -20,10 +20,6 @@ rows_along-requires-clause-nodes c =
           slot (list_follows l m c.args.direction q.0 c.args.node q.1 stands),
     )
 
-pub returns-in-Sorted-clause-reads : goal.returns-in-Sorted-clause-reads
-returns-in-Sorted-clause-reads c xs ys h b l =
-    c.rows_in_tree.ensures.reads xs ys (subst (λ (x : Structure). Stands x c.args.p.now.pool (xs ++ c.args.node ∷ ys)) c.in-Sorted.is h) b l
-
 pub returns-in-Sequenced-clause-rows : goal.returns-in-Sequenced-clause-rows
 returns-in-Sequenced-clause-rows c xs ys h =
     let l = c.in-Sequenced.field-0 in
