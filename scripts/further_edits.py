@@ -245,38 +245,38 @@ def tried_together(rt, name):
             print(f"{name}: it isn't proved as it stands")
             return False
         missed, alone = judged_in_rounds(rt, seed, room, name, given)
-    for it in missed:
-        print(f"{os.path.relpath(it.path, program.TOP)}: NOT REFUSED: its function is still proved")
-    print(f"{name}: {len(given)} edits, {len(alone)} of them to be tried alone", flush=True)
-    return not missed and (not alone or tried(rt, name, alone))
+        for it in missed:
+            print(f"{os.path.relpath(it.path, program.TOP)}: NOT REFUSED: its function is still proved")
+        print(f"{name}: {len(given)} edits, {len(alone)} of them to be tried alone", flush=True)
+        return not missed and (not alone or tried_alone(rt, seed, name, alone))
 
 
-def tried(rt, name, only=None):
-    """Tries a crate's edits by `rt must-fail`, the gate's too, or those alone; whether each was refused."""
-    folder, kept = f"{program.TOP}/crates/{name}/must-fail", None
-    wanted = {it.path for it in only} if only is not None else None
-    copies, away = [], []
+def tried_alone(rt, top, name, given):
+    """Tries edits by `rt must-fail` in a copy; whether each was refused."""
+    os.mkdir(f"{top}/crates/{name}/must-fail")
+    for it in given:
+        further = "further-" if os.path.basename(os.path.dirname(it.path)) == "further-edits" else ""
+        shutil.copyfile(it.path, f"{top}/crates/{name}/must-fail/{further}{os.path.basename(it.path)}")
+    return subprocess.run([rt, "must-fail", name], cwd=top).returncode == 0
+
+
+def tried(rt, name):
+    """Tries a crate's edits, the gate's too; whether each was refused."""
+    copies = []
     try:
-        os.makedirs(folder, exist_ok=True)
-        kept = tempfile.mkdtemp(prefix="edits-away-", dir=f"{program.TOP}/crates/{name}") if only is not None else None
-        for path in edits(name, "must-fail"):
-            if wanted is not None and path not in wanted:
-                away.append((path, f"{kept}/{os.path.basename(path)}"))
-                os.rename(*away[-1])
         for path in edits(name):
-            if wanted is None or path in wanted:
-                copies.append(f"{folder}/further-{os.path.basename(path)}")
-                shutil.copyfile(path, copies[-1])
+            copy = f"{program.TOP}/crates/{name}/must-fail/further-{os.path.basename(path)}"
+            copies.append(copy)
+            os.makedirs(os.path.dirname(copy), exist_ok=True)
+            shutil.copyfile(path, copy)
         return subprocess.run([rt, "must-fail", name], cwd=program.TOP).returncode == 0
     finally:
-        for path, other in away:
-            os.rename(other, path)
         for copy in copies:
             if os.path.exists(copy):
                 os.remove(copy)
-        for it in (folder, kept):
-            if it and os.path.isdir(it) and not os.listdir(it):
-                os.rmdir(it)
+        folder = f"{program.TOP}/crates/{name}/must-fail"
+        if os.path.isdir(folder) and not os.listdir(folder):
+            os.rmdir(folder)
 
 
 def main(given=None):

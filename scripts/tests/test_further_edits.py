@@ -104,8 +104,7 @@ class FurtherEdits(unittest.TestCase):
         well, said = self.tried()
         self.assertTrue(well)
         self.assertIn("3 edits, 2 of them to be tried alone", said)
-        left = {it: sorted(os.listdir(f"{self.top}/crates/sums/{it}")) for it in ("must-fail", "further-edits")}
-        self.assertEqual(left, {"must-fail": ["add.edit", "limit.edit"], "further-edits": ["others.edit"]})
+        self.assertEqual(sorted(os.listdir(f"{self.top}/crates/sums/must-fail")), ["add.edit", "limit.edit"])
 
     def test_what_is_not_known_is_tried_again_without_its_callee(self):
         self.edit("add", ADD)
