@@ -7,7 +7,7 @@ use Rattle.mi_commands.specs.Holder.{HeldDatabase, without_holder}
 use Rattle.mi_commands.specs.Performed.{Move, stays, one_up, one_down, down_to, to_nobody, lets_go, if_accepted, moved, effect}
 use Rattle.mi_commands.specs.declared.holder.Holder.{Holder}
 use Rattle.mi_protocol.specs.Lines.{command_line}
-use Rattle.mi_protocol.specs.declared.binding.Command.{Command}
+use Rattle.mi_protocol.specs.declared.command.Command.{Command}
 use Rattle.mi_value.specs.declared.refusal.Refusal.{Refusal}
 use Rattle.mi_hub.specs.Run.{HubState}
 use Rattle.mi_hub.specs.Served.{InTurn}

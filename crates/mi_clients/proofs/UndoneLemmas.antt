@@ -7,7 +7,8 @@ use Rattle.mi_model.specs.Database.{Database, depth, undone, undone_times, undo_
 use Rattle.mi_request.proofs.ShortLemmas.{short_means}
 use Rattle.mi_request.specs.Lines.{command_line}
 use Rattle.mi_request.specs.declared.request.Request.TheVariants as request
-use Rattle.mi_protocol.specs.declared.binding.Command.TheVariants as command
+use Rattle.mi_request.specs.declared.request.SessionCommand.TheVariants as session
+use Rattle.mi_protocol.specs.declared.command.Command.TheVariants as command
 use Rattle.mi_commands.specs.Answer.{answer, command_answer, command_of, MayGive}
 use Rattle.mi_commands.specs.Holder.{HeldDatabase, is_busy, one_less, released}
 use Rattle.mi_commands.specs.Performed.{holder_after, or_session}
@@ -26,8 +27,8 @@ use Rattle.mi_clients.proofs.RowLemmas.{test_of, is_same}
 
 -- ---- what the line is answered
 
-undo_means : command_line (codes "{\"cmd\":\"undo\"}") ≡ Ok request.Undo
-undo_means = short_means request.Undo _ refl
+undo_means : command_line (codes "{\"cmd\":\"undo\"}") ≡ Ok (request.Session session.Undo)
+undo_means = short_means (request.Session session.Undo) _ refl
 
 undo_unended : ended (codes "{\"cmd\":\"undo\"}") ≡ []
 unfolding ended
@@ -103,7 +104,7 @@ module _ (d : Database) (h : Holder) (conn : ℕ) (mine : nat_eq h.conn conn ≡
   answer_is : (answer (on d (Some h)) conn undo_line).1 ≡ on (undo_step d).1 (holder_after (or_session (undo_step d).0) one_less (Some h))
   answer_is =
       ap (λ r. (command_answer (on d (Some h)) conn (command_of (on d (Some h)) conn r)).1) undo_means
-      ∙ ap (λ b. (command_answer (on d (Some h)) conn (cond b (Err Busy) (Ok command.Undo))).1) free
+      ∙ ap (λ b. (command_answer (on d (Some h)) conn (cond b (Err Busy) (Ok (command.Session session.Undo)))).1) free
 
   answer_leaves : (s : HeldDatabase) → s ≡ (answer (on d (Some h)) conn undo_line).1 → Leaves s.database s.holder
   answer_leaves s is =

@@ -12,7 +12,7 @@ use Rattle.std.proofs.lemmas.List.{length-map}
 use Rattle.std.proofs.lemmas.Map.Text.{is_eq-slice_cmp}
 use Rattle.std.proofs.lemmas.Slice.Eq.{bytes_eq-Decides}
 use Rattle.serde_json.specs.Data.{Data, Members, no_members, member}
-use Rattle.serde_json.specs.Find.{get_member, as_object, as_str}
+use Rattle.serde_json.specs.Find.{get_member, as_object}
 use Rattle.mi_value.specs.declared.value.Value.{Value}
 use Rattle.mi_value.specs.declared.refusal.Refusal.{Refusal}
 use Rattle.mi_value.specs.declared.refusal.Refusal.TheVariants as refusal
@@ -26,9 +26,9 @@ use Rattle.mi_model.specs.Database.{Database, Step, depth}
 use Rattle.mi_model.specs.OneTable as one
 use Rattle.mi_model.specs.OneTable.{OneTable, IsAsOneTable, in_catalog}
 use Rattle.mi_model.proofs.OneTableLaws.{one_table_as_before}
-use Rattle.mi_request.specs.Json.{has_only, needed}
-use Rattle.mi_request.specs.Commands.{Form, keeps_out, names_table}
-use Rattle.mi_request.proofs.FormLemmas.{forms_name_none}
+use Rattle.mi_request.specs.Json.{has_only}
+use Rattle.mi_request.specs.Commands.{Asks, a_change, a_look_up, of_sessions, Form, with_table, member_names, asked, keeps_out, names_table}
+use Rattle.mi_request.proofs.FormLemmas.{asked_names}
 use Rattle.mi_request.specs.Lines.{json_of, request_by, form_in, request_in, request_or_refusal, command_line}
 use Rattle.mi_request.specs.declared.request.Request.{Request}
 use Rattle.mi_request.specs.declared.request.Request.TheVariants as request
@@ -37,14 +37,20 @@ use Rattle.mi_protocol.proofs.FirstTableLaws.{no_name_is_the_first}
 use Rattle.mi_protocol.specs.Binding.{bound_command}
 use Rattle.mi_protocol.specs.Replies as say
 use Rattle.mi_protocol.specs.Replies.{Said, reply_text}
-use Rattle.mi_protocol.specs.declared.binding.Command.{Command}
-use Rattle.mi_protocol.specs.declared.binding.Command.TheVariants as command
+use Rattle.mi_request.specs.declared.request.SessionCommand.{SessionCommand}
+use Rattle.mi_request.specs.declared.request.SessionCommand.TheVariants as session
+use Rattle.mi_protocol.specs.declared.command.Change.{Change}
+use Rattle.mi_protocol.specs.declared.command.Change.TheVariants as change
+use Rattle.mi_protocol.specs.declared.command.Command.{Command}
+use Rattle.mi_protocol.specs.declared.command.Command.TheVariants as command
+use Rattle.mi_protocol.specs.declared.command.LookUp.{LookUp}
+use Rattle.mi_protocol.specs.declared.command.LookUp.TheVariants as look_up
 use Rattle.mi_commands.specs.Asked.{Asked, text, too_long}
 use Rattle.mi_commands.specs.Holder.{HeldDatabase, is_busy, one_more, one_less, at_most, held_by}
-use Rattle.mi_commands.specs.Performed.{performed, said_of, all_done, holder_after, or_session, found, show_found}
+use Rattle.mi_commands.specs.Performed.{performed, said_of, all_done, holder_after, or_session, found, show_found, show_page, look_up_said}
 use Rattle.mi_commands.specs.Answer.{answer, command_of, command_answer, MayGive}
-use Rattle.mi_commands.specs.Alone.{HeldTable, without_table, request_alone, read_alone, line_alone, bound_alone, shown, paged}
-use Rattle.mi_commands.specs.Alone.{performed_alone, command_alone, done_alone, answer_alone, refusal_alone, modify_refusal_alone, text_alone}
+use Rattle.mi_commands.specs.Alone.{HeldTable, request_without, request_alone, read_alone, line_alone, bound_alone}
+use Rattle.mi_commands.specs.Alone.{change_alone, session_alone, performed_alone, command_alone, done_alone, answer_alone, refusal_alone, modify_refusal_alone, text_alone}
 use Rattle.mi_commands.specs.Alone.{held_in_catalog, HasNoTable, MayGiveAlone, AnsweredAlone, OneTableAnswersAlone, OneTableMayGive}
 use Rattle.mi_commands.specs.declared.holder.Holder.{Holder}
 
@@ -107,22 +113,29 @@ only_without names (member k d ms) none =
 abbrev NoName : Option Request → Type 0
 NoName o = IfSome o (λ r. names_table r ≡ false)
 
-module _ (ms : Members) (none : get_member the_table ms ≡ None) where
-  -- of each form that may be
-  abbrev OfForm : Option Form → Type 0
-  OfForm o = IfSome o (λ form. NoName (form.request ms))
+-- the names of a form are those without `table`, and perhaps that
+less_table : (asks : Asks) (names : List (List ℕ)) → less (codes "cmd" ∷ with_table asks names) ≡ less (codes "cmd" ∷ names)
+less_table (a_change f) names = refl
+less_table (a_look_up f) names = refl
+less_table (of_sessions f) names = refl
 
+module _ (ms : Members) (none : get_member the_table ms ≡ None) where
   kept : (b : Bool) (o : Option Request) → NoName o → NoName (cond b o None)
   kept true o h = h
   kept false o h = tt
 
-  request_names : (form : Option Form) → OfForm form → NoName (option_and_then (request_by ms) form)
-  request_names None h = tt
-  request_names (Some form) h = kept (has_only (codes "cmd" ∷ form.members) ms) (form.request ms) h
+  request_names : (form : Option Form) → NoName (option_and_then (request_by ms) form)
+  request_names None = tt
+  request_names (Some form) = kept (has_only (codes "cmd" ∷ member_names form) ms) (asked form.asks ms) (asked_names ms none form.asks)
 
-  request_same : (form : Option Form) → option_and_then (request_by ms) form ≡ option_and_then (λ f. request_by ms (without_table f)) form
+  only_same : (form : Form) → has_only (codes "cmd" ∷ member_names form) ms ≡ has_only (codes "cmd" ∷ form.members) ms
+  only_same form =
+      only_without (codes "cmd" ∷ member_names form) ms none ∙ ap (λ names. has_only names ms) (less_table form.asks form.members)
+      ∙ sym (only_without (codes "cmd" ∷ form.members) ms none)
+
+  request_same : (form : Option Form) → option_and_then (request_by ms) form ≡ option_and_then (request_without ms) form
   request_same None = refl
-  request_same (Some form) = ap (λ b. cond b (form.request ms) None) (only_without (codes "cmd" ∷ form.members) ms none)
+  request_same (Some form) = ap (λ b. cond b (asked form.asks ms) None) (only_same form)
 
 abbrev OfOne : Result Request Refusal → Type 0
 OfOne r = IfOk r (λ q. names_table q ≡ false)
@@ -133,7 +146,7 @@ object_same (Some ms) none = request_same ms none (form_in ms)
 
 object_names : (o : Option Members) → option_and_then (get_member the_table) o ≡ None → NoName (option_and_then request_in o)
 object_names None none = tt
-object_names (Some ms) none = request_names ms none (form_in ms) (forms_name_none ms none (needed as_str (codes "cmd") ms))
+object_names (Some ms) none = request_names ms none (form_in ms)
 
 or_form : (o : Option Request) → NoName o → OfOne (ok_or o refusal.Form)
 or_form (Some r) h = h
@@ -154,22 +167,8 @@ module _ (first : ℕ) (s : Shape) where
   of_one = record { tables = s ∷ []; first_revision = first }
 
   bound_same : (r : Request) → names_table r ≡ false → bound_command of_one r ≡ bound_alone s r
-  bound_same (request.Insert (Some name) row before) none = absurd (cc)
-  bound_same (request.Replace (Some name) id row) none = absurd (cc)
-  bound_same (request.Modify (Some name) id set add rollback) none = absurd (cc)
-  bound_same (request.Erase (Some name) id) none = absurd (cc)
-  bound_same (request.EraseKey (Some name) index key) none = absurd (cc)
-  bound_same (request.Relocate (Some name) index id before) none = absurd (cc)
-  bound_same (request.Get (Some name) id) none = absurd (cc)
-  bound_same (request.Find (Some name) index key) none = absurd (cc)
-  bound_same (request.Nth (Some name) index n) none = absurd (cc)
-  bound_same (request.Count (Some name) index key) none = absurd (cc)
-  bound_same (request.Range (Some name) index lower upper reverse limit) none = absurd (cc)
-  bound_same (request.List (Some name) index after limit) none = absurd (cc)
-  bound_same (request.Rank (Some name) index id) none = absurd (cc)
-  bound_same (request.LowerRank (Some name) index key) none = absurd (cc)
-  bound_same (request.UpperRank (Some name) index key) none = absurd (cc)
-  bound_same (request.Size (Some name)) none = absurd (cc)
+  bound_same (request.Change (Some name) r) none = absurd (cc)
+  bound_same (request.LookUp (Some name) r) none = absurd (cc)
   bound_same r none = refl
 
   -- ---- the text of a reply
@@ -252,7 +251,7 @@ module _ (first : ℕ) (s : Shape) where
   found_first id None = refl
   found_first id (Some row) = refl
 
-  shown_first : (t : Table) (o : Option ℕ) → IsFirst (shown t o)
+  shown_first : (t : Table) (o : Option ℕ) → IsFirst (show_found 0 t o)
   shown_first t None = refl
   shown_first t (Some id) = found_first id _
 
@@ -260,25 +259,34 @@ module _ (first : ℕ) (s : Shape) where
   either_first true x y h k = h
   either_first false x y h k = k
 
+  looked_first : (t : Table) (x : LookUp) → IsFirst (look_up_said 0 s t x)
+  looked_first t (look_up.Get id) = found_first id _
+  looked_first t (look_up.Find x key) = shown_first t _
+  looked_first t (look_up.Nth x place) = shown_first t _
+  looked_first t (look_up.Range x low high reverse limit) = refl
+  looked_first t (look_up.List x after limit) = either_first (has_place t after) (show_page 0 t (list s t x after limit)) (say.refused 0 refusal.NoId) refl refl
+  looked_first t (look_up.Rank x id) = either_first (has t id) (say.ranked (rank s t x id)) (say.refused 0 refusal.NoId) tt refl
+  looked_first t other = tt
+
   module _ (d : HeldTable) (conn : ℕ) where
+    change_first : (x : Change) → IsFirst (change_alone s d x).0
+    change_first (change.Insert row before) = said_first say.inserted (say.refused 0) _ (λ a. tt) (λ e. refl)
+    change_first (change.Replace id row) = said_first all_done (say.refused 0) _ (λ a. tt) (λ e. refl)
+    change_first (change.Modify id edits rollback) = said_first all_done (say.refused_modify 0) _ (λ a. tt) (λ e. refl)
+    change_first (change.Erase id) = said_first all_done (say.refused 0) _ (λ a. tt) (λ e. refl)
+    change_first (change.EraseKey x key) = tt
+    change_first (change.Relocate x id before) = said_first all_done (say.refused 0) _ (λ a. tt) (λ e. refl)
+
+    session_first : (x : SessionCommand) → IsFirst (session_alone d conn x).0
+    session_first session.Start = said_first say.revised (say.refused 0) _ (λ a. tt) (λ e. refl)
+    session_first session.Undo = said_first say.revised (say.refused 0) _ (λ a. tt) (λ e. refl)
+    session_first session.Squash = said_first say.revised (say.refused 0) _ (λ a. tt) (λ e. refl)
+    session_first x = tt
+
     performed_first : (c : Command) → IsFirst (performed_alone s d conn c).0
-    performed_first (command.Insert n row before) = said_first say.inserted (say.refused 0) _ (λ a. tt) (λ e. refl)
-    performed_first (command.Replace n id row) = said_first all_done (say.refused 0) _ (λ a. tt) (λ e. refl)
-    performed_first (command.Modify n id edits rollback) = said_first all_done (say.refused_modify 0) _ (λ a. tt) (λ e. refl)
-    performed_first (command.Erase n id) = said_first all_done (say.refused 0) _ (λ a. tt) (λ e. refl)
-    performed_first (command.Relocate n x id before) = said_first all_done (say.refused 0) _ (λ a. tt) (λ e. refl)
-    performed_first command.Start = said_first say.revised (say.refused 0) _ (λ a. tt) (λ e. refl)
-    performed_first command.Undo = said_first say.revised (say.refused 0) _ (λ a. tt) (λ e. refl)
-    performed_first command.Squash = said_first say.revised (say.refused 0) _ (λ a. tt) (λ e. refl)
-    performed_first (command.Get n id) = found_first id _
-    performed_first (command.Find n x key) = shown_first d.database.table _
-    performed_first (command.Nth n x place) = shown_first d.database.table _
-    performed_first (command.Range n x low high reverse limit) = refl
-    performed_first (command.List n x after limit) =
-        either_first (has_place d.database.table after) (paged d.database.table (list s d.database.table x after limit)) (say.refused 0 refusal.NoId) refl refl
-    performed_first (command.Rank n x id) =
-        either_first (has d.database.table id) (say.ranked (rank s d.database.table x id)) (say.refused 0 refusal.NoId) tt refl
-    performed_first other = tt
+    performed_first (command.Change n x) = change_first x
+    performed_first (command.LookUp n x) = looked_first d.database.table x
+    performed_first (command.Session x) = session_first x
 
     done_first : (c : Result Command Refusal) → IsFirst (done_alone s d conn c).0
     done_first (Ok c) = performed_first c
@@ -305,44 +313,33 @@ module _ (first : ℕ) (s : Shape) where
     abbrev stepped_down : Result ℕ Refusal → Database → Said × HeldDatabase
     stepped_down answer left = (said_of say.revised (say.refused 0) answer, record { database = left; holder = holder_after answer one_less d.holder })
 
-    show_same : (o : Option ℕ) → show_found here.database 0 o ≡ shown d.database.table o
-    show_same None = refl
-    show_same (Some id) = refl
+    change_same : (x : Change) → performed here conn (command.Change 0 x) ≡ and_here (change_alone s d x)
+    change_same (change.Insert row before) = refl
+    change_same x = refl
 
-    performed_same : (c : Command) → IsOverFirst c → performed here conn c ≡ and_here (performed_alone s d conn c)
-    performed_same (command.Insert (suc n) row before) h = absurd (cc)
-    performed_same (command.Replace (suc n) id row) h = absurd (cc)
-    performed_same (command.Modify (suc n) id edits rollback) h = absurd (cc)
-    performed_same (command.Erase (suc n) id) h = absurd (cc)
-    performed_same (command.EraseKey (suc n) x key) h = absurd (cc)
-    performed_same (command.Relocate (suc n) x id before) h = absurd (cc)
-    performed_same command.Start h =
+    session_same : (x : SessionCommand) → performed here conn (command.Session x) ≡ and_here (session_alone d conn x)
+    session_same session.Start =
         ap (λ (step : Step ℕ).
         (said_of say.revised (say.refused 0) step.0, record { database = step.1; holder = holder_after step.0 (one_more conn) d.holder })) law.start
-    performed_same command.Undo h =
+    session_same session.Undo =
         ap (λ (step : Result ℕ NoSession × Database). stepped_down (or_session step.0) step.1) law.undo
-    performed_same command.Squash h =
+    session_same session.Squash =
         ap (λ (step : Result ℕ NoSession × Database). stepped_down (or_session step.0) step.1) law.squash
-    performed_same (command.Commit revision) h =
+    session_same (session.Commit revision) =
         ap (λ (step : Step ℕ). (said_of say.committed (say.refused 0) step.0, record { database = step.1; holder = at_most (depth step.1) d.holder }))
         (law.commit revision)
         ∙ ap (λ n. and_here_held (one.commit revision d.database) (at_most n d.holder)) (kept_long (one.commit revision d.database).1)
-    performed_same command.UndoAll h =
+    session_same session.UndoAll =
         ap (λ (step : Step ℕ). (said_of say.undone (say.refused 0) step.0, record { database = step.1; holder = None })) law.undo_all
-    performed_same command.Revision h = ap (λ n. (say.status n (held_by conn d.holder) d.database.revision, here)) (kept_long d.database)
-    performed_same (command.Get (suc n) id) h = absurd (cc)
-    performed_same (command.Find zero x key) h = ap (λ said. (said, here)) (show_same _)
-    performed_same (command.Find (suc n) x key) h = absurd (cc)
-    performed_same (command.Nth zero x place) h = ap (λ said. (said, here)) (show_same _)
-    performed_same (command.Nth (suc n) x place) h = absurd (cc)
-    performed_same (command.Count (suc n) x key) h = absurd (cc)
-    performed_same (command.Range (suc n) x low high reverse limit) h = absurd (cc)
-    performed_same (command.List (suc n) x after limit) h = absurd (cc)
-    performed_same (command.Rank (suc n) x id) h = absurd (cc)
-    performed_same (command.LowerRank (suc n) x key) h = absurd (cc)
-    performed_same (command.UpperRank (suc n) x key) h = absurd (cc)
-    performed_same (command.Size (suc n)) h = absurd (cc)
-    performed_same c h = refl
+    session_same session.Revision = ap (λ n. (say.status n (held_by conn d.holder) d.database.revision, here)) (kept_long d.database)
+    session_same x = refl
+
+    performed_same : (c : Command) → IsOverFirst c → performed here conn c ≡ and_here (performed_alone s d conn c)
+    performed_same (command.Change zero x) h = change_same x
+    performed_same (command.Change (suc n) x) h = absurd (cc)
+    performed_same (command.LookUp zero x) h = refl
+    performed_same (command.LookUp (suc n) x) h = absurd (cc)
+    performed_same (command.Session x) h = session_same x
 
     done_same : (c : Result Command Refusal) → IfOk c IsOverFirst → command_answer here conn c ≡ and_here (done_alone s d conn c)
     done_same (Ok c) h = performed_same c h

@@ -22,17 +22,23 @@ use Rattle.mi_model.specs.Database.{depth, started, undone, squashed, start_step
 use Rattle.mi_protocol.specs.Replies as say
 use Rattle.mi_protocol.specs.Output.{PutOrMemory}
 use Rattle.mi_protocol.specs.Replies.{Said, is_short, reply_text, refused}
-use Rattle.mi_protocol.specs.declared.binding.Command.{Command}
-use Rattle.mi_protocol.specs.declared.binding.Command.TheVariants as command
+use Rattle.mi_request.specs.declared.request.SessionCommand.{SessionCommand}
+use Rattle.mi_request.specs.declared.request.SessionCommand.TheVariants as session
+use Rattle.mi_protocol.specs.declared.command.Change.{Change}
+use Rattle.mi_protocol.specs.declared.command.Change.TheVariants as change
+use Rattle.mi_protocol.specs.declared.command.Command.{Command}
+use Rattle.mi_protocol.specs.declared.command.Command.TheVariants as command
+use Rattle.mi_protocol.specs.declared.command.LookUp.{LookUp}
+use Rattle.mi_protocol.specs.declared.command.LookUp.TheVariants as look_up
 use Rattle.mi_request.specs.Lines.{command_line}
 use Rattle.mi_commands.specs.Asked as asking
 use Rattle.mi_commands.specs.Asked.{Asked}
-use Rattle.mi_commands.specs.Answer.{done_without, command_answer, command_of, answer, command_changes, line_changes}
-use Rattle.mi_commands.specs.Answer.{GivenOrMemory, AnsweredOrMemory, MayGive, MayAnswer}
+use Rattle.mi_commands.specs.Answer.{looked_without, done_without, command_answer, command_of, answer, command_changes, line_changes}
+use Rattle.mi_commands.specs.Answer.{IsAnswered, MayGive, MayAnswer}
 use Rattle.mi_commands.specs.Holder.{HeldDatabase}
 use Rattle.mi_commands.specs.Performed.{performed, altered, said_of, all_done, or_session, revised, Move, one_up, one_down, done_by}
-use Rattle.mi_commands.specs.Performed.{found, show_found}
-use Rattle.mi_commands.specs.Told.{looks_up, SaysMemory, ToldOrMemory, loses, tells_change, may_change}
+use Rattle.mi_commands.specs.Performed.{found, show_found, look_up_said, looked, changed, session_effect}
+use Rattle.mi_commands.specs.Told.{SaysMemory, SaidOrMemory, ToldOrMemory, loses, tells_change, may_change}
 use Rattle.mi_commands.proofs.UndoneLaws.{undone_catalog, squashed_catalog, undone_times_catalog}
 
 not_false : {A : Type 0} → true ≡ false → A
@@ -91,17 +97,40 @@ on_table-keeps n change d keeps e none is =
 
 -- ---- commands
 
-module _ (s : HeldDatabase) (conn : ℕ) where
-  altered_keeps : {A : Type 0} (accepted : A → Said) (denied : Refusal → Said) (step : Step A) → ((v : A) → tells_change (accepted v) ≡ true)
-      → ((e : Refusal) → tells_change (denied e) ≡ loses e) → Keeps step s.database
-      → tells_change (done_by conn s (altered accepted denied step)).0 ≡ false → (done_by conn s (altered accepted denied step)).1 ≡ s
-  altered_keeps {A} accepted denied step always says keeps h = by_answer step.0 refl h
-    where
-      by_answer : (a : Result A Refusal) → step.0 ≡ a → tells_change (said_of accepted denied a) ≡ false
-          → (done_by conn s (altered accepted denied step)).1 ≡ s
-      by_answer (Ok v) is k = not_false (sym (always v) ∙ k)
-      by_answer (Err e) is k = ap (λ d. record s { database = d }) (keeps e (sym (says e) ∙ k) is)
+altered_keeps : {A : Type 0} (d : Database) (accepted : A → Said) (denied : Refusal → Said) (step : Step A) → ((v : A) → tells_change (accepted v) ≡ true)
+    → ((e : Refusal) → tells_change (denied e) ≡ loses e) → Keeps step d → tells_change (altered accepted denied step).0 ≡ false
+    → (altered accepted denied step).1 ≡ d
+altered_keeps {A} d accepted denied step always says keeps h = by_answer step.0 refl h
+  where
+    by_answer : (a : Result A Refusal) → step.0 ≡ a → tells_change (said_of accepted denied a) ≡ false → step.1 ≡ d
+    by_answer (Ok v) is k = not_false (sym (always v) ∙ k)
+    by_answer (Err e) is k = keeps e (sym (says e) ∙ k) is
 
+-- a change that can't have changed anything leaves the database as it is
+change_keeps : (d : Database) (n : ℕ) (x : Change) → tells_change (changed d n x).0 ≡ false → (changed d n x).1 ≡ d
+change_keeps d n (change.Insert values before) h =
+    altered_keeps d say.inserted (say.refused n) _ (λ v. refl) (λ e. refl)
+    (on_table-keeps n (λ shape t. insert_outcome shape before values t) d
+    (unless_keeps (insert_refusal (schema_of d n) before values (table_of d n)) _ _ (table_of d n))) h
+change_keeps d n (change.Replace id values) h =
+    altered_keeps d all_done (say.refused n) _ (λ v. refl) (λ e. refl) (on_table-keeps n (λ shape t. replace_outcome shape id values t) d
+    (unless_keeps (replace_refusal (schema_of d n) id values (table_of d n)) _ _ (table_of d n))) h
+change_keeps d n (change.Modify id edits rollback) h =
+    altered_keeps d all_done (say.refused_modify n) _ (λ v. refl) (λ e. refl)
+    (on_table-keeps n (λ shape t. modify_outcome shape id edits rollback t) d (modify_keeps (schema_of d n) id edits rollback (table_of d n))) h
+change_keeps d n (change.Erase id) h =
+    altered_keeps d all_done (say.refused n) _ (λ v. refl) (λ e. refl) (on_table-keeps n (λ shape t. erase_outcome id t) d
+    (either_keeps (has (table_of d n) id) (Ok tt, erase id (table_of d n)) (Err NoId, table_of d n) (table_of d n)
+    (accepted_keeps tt _ _) (refused_keeps NoId (table_of d n)))) h
+change_keeps d n (change.EraseKey index key) h =
+    altered_keeps d say.erased (say.refused n) _ (λ v. refl) (λ e. refl)
+    (on_table-keeps n (λ shape t. erase_key_outcome shape index key t) d (accepted_keeps _ _ _)) h
+change_keeps d n (change.Relocate index id before) h =
+    altered_keeps d all_done (say.refused n) _ (λ v. refl) (λ e. refl) (on_table-keeps n (λ shape t. relocate_outcome index id before t) d
+    (either_keeps (has (table_of d n) id && has_place (table_of d n) before) (Ok tt, relocate index id before (table_of d n)) (Err NoId, table_of d n)
+    (table_of d n) (accepted_keeps tt _ _) (refused_keeps NoId (table_of d n)))) h
+
+module _ (s : HeldDatabase) (conn : ℕ) where
   revised_keeps : (answer : Result ℕ Refusal) (left : Database) (move : Move)
       → ((e : Refusal) → answer ≡ Err e → left ≡ s.database) → tells_change (done_by conn s (revised answer left move)).0 ≡ false
       → (done_by conn s (revised answer left move)).1 ≡ s
@@ -124,45 +153,28 @@ start_keeps d e = start_after-keeps (is_spent d.revision) (nat_eq (depth d) MAX_
 abbrev session_step : Bool → ℕ → Database → Database → Result ℕ NoSession × Database
 session_step none number left d = cond none (Err (record {}), d) (Ok number, left)
 
-session_keeps : (none : Bool) (number : ℕ) (left d : Database) (e : Refusal) → or_session (session_step none number left d).0 ≡ Err e
+step_keeps : (none : Bool) (number : ℕ) (left d : Database) (e : Refusal) → or_session (session_step none number left d).0 ≡ Err e
     → (session_step none number left d).1 ≡ d
-session_keeps true number left d e is = refl
-session_keeps false number left d e is = absurd (cc)
+step_keeps true number left d e is = refl
+step_keeps false number left d e is = absurd (cc)
+
+over_sessions-keeps : (s : HeldDatabase) (conn : ℕ) (x : SessionCommand) → may_change (command.Session x) (performed s conn (command.Session x)).0 ≡ false
+    → (performed s conn (command.Session x)).1 ≡ s
+over_sessions-keeps s conn session.Start h = revised_keeps s conn (start_step s.database).0 (start_step s.database).1 one_up (start_keeps s.database) h
+over_sessions-keeps s conn session.Undo h = revised_keeps s conn (or_session (undo_step s.database).0) (undo_step s.database).1 one_down
+    (step_keeps (nat_eq (depth s.database) 0) (s.database.revision - 1) (undone s.database) s.database) h
+over_sessions-keeps s conn session.Squash h = revised_keeps s conn (or_session (squash_step s.database).0) (squash_step s.database).1 one_down
+    (step_keeps (nat_eq (depth s.database) 0) (s.database.revision - 1) (squashed s.database) s.database) h
+over_sessions-keeps s conn (session.Commit x) h = not_false h
+over_sessions-keeps s conn session.UndoAll h = not_false h
+over_sessions-keeps s conn session.Push h = not_false h
+over_sessions-keeps s conn x h = refl
 
 -- a command that can't have changed anything leaves all as it is
 pub command_keeps : (s : HeldDatabase) (conn : ℕ) (c : Command) → may_change c (performed s conn c).0 ≡ false → (performed s conn c).1 ≡ s
-command_keeps s conn (command.Insert table values before) h =
-    altered_keeps s conn say.inserted (say.refused table) _ (λ v. refl) (λ e. refl)
-    (on_table-keeps table (λ shape t. insert_outcome shape before values t) s.database
-    (unless_keeps (insert_refusal (schema_of s.database table) before values (table_of s.database table)) _ _ (table_of s.database table))) h
-command_keeps s conn (command.Replace table id values) h =
-    altered_keeps s conn all_done (say.refused table) _ (λ v. refl) (λ e. refl) (on_table-keeps table (λ shape t. replace_outcome shape id values t) s.database
-    (unless_keeps (replace_refusal (schema_of s.database table) id values (table_of s.database table)) _ _ (table_of s.database table))) h
-command_keeps s conn (command.Modify table id edits rollback) h =
-    altered_keeps s conn all_done (say.refused_modify table) _ (λ v. refl) (λ e. refl)
-    (on_table-keeps table (λ shape t. modify_outcome shape id edits rollback t) s.database
-    (modify_keeps (schema_of s.database table) id edits rollback (table_of s.database table))) h
-command_keeps s conn (command.Erase table id) h =
-    altered_keeps s conn all_done (say.refused table) _ (λ v. refl) (λ e. refl) (on_table-keeps table (λ shape t. erase_outcome id t) s.database
-    (either_keeps (has (table_of s.database table) id) (Ok tt, erase id (table_of s.database table)) (Err NoId, table_of s.database table)
-    (table_of s.database table) (accepted_keeps tt _ _) (refused_keeps NoId (table_of s.database table)))) h
-command_keeps s conn (command.EraseKey table index key) h =
-    altered_keeps s conn say.erased (say.refused table) _ (λ v. refl) (λ e. refl)
-    (on_table-keeps table (λ shape t. erase_key_outcome shape index key t) s.database (accepted_keeps _ _ _)) h
-command_keeps s conn (command.Relocate table index id before) h =
-    altered_keeps s conn all_done (say.refused table) _ (λ v. refl) (λ e. refl) (on_table-keeps table (λ shape t. relocate_outcome index id before t) s.database
-    (either_keeps (has (table_of s.database table) id && has_place (table_of s.database table) before)
-    (Ok tt, relocate index id before (table_of s.database table)) (Err NoId, table_of s.database table)
-    (table_of s.database table) (accepted_keeps tt _ _) (refused_keeps NoId (table_of s.database table)))) h
-command_keeps s conn command.Start h = revised_keeps s conn (start_step s.database).0 (start_step s.database).1 one_up (start_keeps s.database) h
-command_keeps s conn command.Undo h = revised_keeps s conn (or_session (undo_step s.database).0) (undo_step s.database).1 one_down
-    (session_keeps (nat_eq (depth s.database) 0) (s.database.revision - 1) (undone s.database) s.database) h
-command_keeps s conn command.Squash h = revised_keeps s conn (or_session (squash_step s.database).0) (squash_step s.database).1 one_down
-    (session_keeps (nat_eq (depth s.database) 0) (s.database.revision - 1) (squashed s.database) s.database) h
-command_keeps s conn (command.Commit x) h = not_false h
-command_keeps s conn command.UndoAll h = not_false h
-command_keeps s conn command.Push h = not_false h
-command_keeps s conn c h = refl
+command_keeps s conn (command.Change n x) h = ap (λ d. record s { database = d }) (change_keeps s.database n x h)
+command_keeps s conn (command.LookUp n x) h = refl
+command_keeps s conn (command.Session x) h = over_sessions-keeps s conn x h
 
 pub told_keeps : {A : Type 0} (s t : HeldDatabase) (conn : ℕ) (c : Command) (told : Said) → ToldOrMemory A (performed s conn c) s told t
     → may_change c told ≡ false → t ≡ s
@@ -170,36 +182,28 @@ told_keeps s t conn c told (inr p) h = p.2
 told_keeps s t conn c told (inl p) h = p.1 ∙ command_keeps s conn c (sym (ap (may_change c) p.0) ∙ h)
 
 -- what a look-up tells is no change
-found_quiet : (table id : ℕ) (o : Option (List Value)) → tells_change (found table id o) ≡ false
-found_quiet table id None = refl
-found_quiet table id (Some values) = refl
+found_quiet : (n id : ℕ) (o : Option (List Value)) → tells_change (found n id o) ≡ false
+found_quiet n id None = refl
+found_quiet n id (Some values) = refl
 
-shown_quiet : (d : Database) (table : ℕ) (o : Option ℕ) → tells_change (show_found d table o) ≡ false
-shown_quiet d table None = refl
-shown_quiet d table (Some id) = found_quiet table id (get (table_of d table) id)
+shown_quiet : (n : ℕ) (t : Table) (o : Option ℕ) → tells_change (show_found n t o) ≡ false
+shown_quiet n t None = refl
+shown_quiet n t (Some id) = found_quiet n id (get t id)
 
 either_quiet : (b : Bool) (x y : Said) → tells_change x ≡ false → tells_change y ≡ false → tells_change (cond b x y) ≡ false
 either_quiet true x y h k = h
 either_quiet false x y h k = k
 
-pub look_quiet : (s : HeldDatabase) (conn : ℕ) (c : Command) → looks_up c ≡ true → may_change c (performed s conn c).0 ≡ false
-look_quiet s conn (command.Get table id) h = found_quiet table id (get (table_of s.database table) id)
-look_quiet s conn (command.Find table index key) h =
-    shown_quiet s.database table (look.find (schema_of s.database table) (table_of s.database table) index key)
-look_quiet s conn (command.Nth table index n) h =
-    shown_quiet s.database table (look.nth (schema_of s.database table) (table_of s.database table) index n)
-look_quiet s conn (command.Count table index key) h = refl
-look_quiet s conn (command.Range table index low high reverse limit) h = refl
-look_quiet s conn (command.List table index after limit) h = either_quiet (has_place (table_of s.database table) after) _ _ refl refl
-look_quiet s conn (command.Rank table index id) h = either_quiet (has (table_of s.database table) id) _ _ refl refl
-look_quiet s conn (command.LowerRank table index key) h = refl
-look_quiet s conn (command.UpperRank table index key) h = refl
-look_quiet s conn (command.Size table) h = refl
-look_quiet s conn command.Revision h = refl
-look_quiet s conn c h = not_false (sym h)
+pub look_quiet : (n : ℕ) (s : Shape) (t : Table) (x : LookUp) → tells_change (look_up_said n s t x) ≡ false
+look_quiet n s t (look_up.Get id) = found_quiet n id (get t id)
+look_quiet n s t (look_up.Find index key) = shown_quiet n t (look.find s t index key)
+look_quiet n s t (look_up.Nth index place) = shown_quiet n t (look.nth s t index place)
+look_quiet n s t (look_up.List index after limit) = either_quiet (has_place t after) _ _ refl refl
+look_quiet n s t (look_up.Rank index id) = either_quiet (has t id) _ _ refl refl
+look_quiet n s t x = refl
 
 memory_quiet : (c : Command) (told : Said) → SaysMemory told → may_change c told ≡ false
-memory_quiet (command.Reserve changes sessions) told h = refl
+memory_quiet (command.Session (session.Reserve changes sessions)) told h = refl
 memory_quiet c told h = by_told told h
   where
     by_told : (told : Said) → SaysMemory told → tells_change told ≡ false
@@ -241,41 +245,33 @@ either_short : (b : Bool) (x y : Said) → is_short x ≡ true → is_short y �
 either_short true x y h k = h
 either_short false x y h k = k
 
-change_short : (s : HeldDatabase) (conn : ℕ) (c : Command) → looks_up c ≡ false → is_short (performed s conn c).0 ≡ true
-change_short s conn (command.Insert table values before) h = said_short say.inserted (say.refused table) _ (λ v. refl) (λ e. refl)
-change_short s conn (command.Replace table id values) h = said_short all_done (say.refused table) _ (λ v. refl) (λ e. refl)
-change_short s conn (command.Modify table id edits rollback) h = said_short all_done (say.refused_modify table) _ (λ v. refl) (λ e. refl)
-change_short s conn (command.Erase table id) h = said_short all_done (say.refused table) _ (λ v. refl) (λ e. refl)
-change_short s conn (command.EraseKey table index key) h = refl
-change_short s conn (command.Relocate table index id before) h = said_short all_done (say.refused table) _ (λ v. refl) (λ e. refl)
-change_short s conn command.Start h = said_short say.revised (say.refused 0) (start_step s.database).0 (λ v. refl) (λ e. refl)
-change_short s conn command.Undo h = said_short say.revised (say.refused 0) (or_session (undo_step s.database).0) (λ v. refl) (λ e. refl)
-change_short s conn command.Squash h = said_short say.revised (say.refused 0) (or_session (squash_step s.database).0) (λ v. refl) (λ e. refl)
-change_short s conn (command.Commit x) h = refl
-change_short s conn command.UndoAll h = refl
-change_short s conn command.Push h = refl
-change_short s conn (command.Reserve changes sessions) h = refl
-change_short s conn c h = not_false h
+change_short : (d : Database) (n : ℕ) (x : Change) → is_short (changed d n x).0 ≡ true
+change_short d n (change.Insert values before) = said_short say.inserted (say.refused n) _ (λ v. refl) (λ e. refl)
+change_short d n (change.Replace id values) = said_short all_done (say.refused n) _ (λ v. refl) (λ e. refl)
+change_short d n (change.Modify id edits rollback) = said_short all_done (say.refused_modify n) _ (λ v. refl) (λ e. refl)
+change_short d n (change.Erase id) = said_short all_done (say.refused n) _ (λ v. refl) (λ e. refl)
+change_short d n (change.EraseKey index key) = refl
+change_short d n (change.Relocate index id before) = said_short all_done (say.refused n) _ (λ v. refl) (λ e. refl)
 
-without_short : (s : HeldDatabase) (conn : ℕ) (c : Command) → done_without c ≡ true → is_short (performed s conn c).0 ≡ true
-without_short s conn (command.Rank table index id) h = either_short (has (table_of s.database table) id) _ _ refl refl
-without_short s conn (command.Size table) h = refl
-without_short s conn command.Revision h = refl
-without_short s conn command.Undo h = change_short s conn command.Undo refl
-without_short s conn command.Squash h = change_short s conn command.Squash refl
-without_short s conn (command.Commit x) h = refl
-without_short s conn command.UndoAll h = refl
-without_short s conn command.Push h = refl
-without_short s conn c h = not_false (sym h)
+over_sessions-short : (s : HeldDatabase) (conn : ℕ) (x : SessionCommand) → is_short (performed s conn (command.Session x)).0 ≡ true
+over_sessions-short s conn session.Start = said_short say.revised (say.refused 0) (start_step s.database).0 (λ v. refl) (λ e. refl)
+over_sessions-short s conn session.Undo = said_short say.revised (say.refused 0) (or_session (undo_step s.database).0) (λ v. refl) (λ e. refl)
+over_sessions-short s conn session.Squash = said_short say.revised (say.refused 0) (or_session (squash_step s.database).0) (λ v. refl) (λ e. refl)
+over_sessions-short s conn x = refl
+
+looked_short : (n : ℕ) (s : Shape) (t : Table) (x : LookUp) → looked_without x ≡ true → is_short (look_up_said n s t x) ≡ true
+looked_short n s t (look_up.Rank index id) h = either_short (has t id) _ _ refl refl
+looked_short n s t look_up.Size h = refl
+looked_short n s t x h = not_false (sym h)
 
 memory_short : (told : Said) → SaysMemory told → is_short told ≡ true
 memory_short (say.refused table e) h = refl
 memory_short (say.refused_modify table e) h = refl
 memory_short told h = absurd h
 
-told_short : {A : Type 0} (s t : HeldDatabase) (conn : ℕ) (c : Command) (told : Said) → looks_up c ≡ false
+told_short : {A : Type 0} (s t : HeldDatabase) (conn : ℕ) (c : Command) (told : Said) → is_short (performed s conn c).0 ≡ true
     → ToldOrMemory A (performed s conn c) s told t → is_short told ≡ true
-told_short s t conn c told h (inl p) = ap is_short p.0 ∙ change_short s conn c h
+told_short s t conn c told h (inl p) = ap is_short p.0 ∙ h
 told_short s t conn c told h (inr p) = memory_short told p.1
 
 -- ---- texts
@@ -285,15 +281,9 @@ memory_text c (say.refused table Memory) h = refl
 memory_text c (say.refused_modify table Memory) h = refl
 memory_text c told h = absurd h
 
--- what is told is given as text
-told_given : {A : Type 0} (a : Said × HeldDatabase) (s t : HeldDatabase) (told : Said) (text : List ℕ) → ToldOrMemory A a s told t
-    → text ≡ reply_text s.database.catalog told → GivenOrMemory A a s text t
-told_given a s t told text (inl p) is = inl (is ∙ ap (reply_text s.database.catalog) p.0, p.1)
-told_given a s t told text (inr p) is = inr (p.0, (is ∙ memory_text s.database.catalog told p.1, p.2))
-
-lacks : (s : HeldDatabase) (conn : ℕ) (c : Command) (b : Bool) → done_without c ≡ b → is_short (performed s conn c).0 ≡ false → done_without c ≡ false
-lacks s conn c false is h = is
-lacks s conn c true is h = not_false (sym (without_short s conn c is) ∙ h)
+lacks : (n : ℕ) (s : Shape) (t : Table) (x : LookUp) (b : Bool) → looked_without x ≡ b → is_short (look_up_said n s t x) ≡ false → looked_without x ≡ false
+lacks n s t x false is h = is
+lacks n s t x true is h = not_false (sym (looked_short n s t x is) ∙ h)
 
 -- ---- the catalog
 
@@ -306,14 +296,21 @@ session_catalog : (none : Bool) (number : ℕ) (left d : Database) → left.cata
 session_catalog true number left d h = refl
 session_catalog false number left d h = h
 
+change_catalog : (d : Database) (n : ℕ) (x : Change) → (changed d n x).1.catalog ≡ d.catalog
+change_catalog d n (change.Insert values before) = refl
+change_catalog d n x = refl
+
+over_sessions-catalog : (d : Database) (x : SessionCommand) → (session_effect d x).left.catalog ≡ d.catalog
+over_sessions-catalog d session.Start = start_after-catalog (is_spent d.revision) (nat_eq (depth d) MAX_SESSIONS) d
+over_sessions-catalog d session.Undo = session_catalog (nat_eq (depth d) 0) (d.revision - 1) (undone d) d (undone_catalog d d.old)
+over_sessions-catalog d session.Squash = session_catalog (nat_eq (depth d) 0) (d.revision - 1) (squashed d) d (squashed_catalog d d.old)
+over_sessions-catalog d session.UndoAll = undone_times_catalog (depth d) d
+over_sessions-catalog d x = refl
+
 command_catalog : (s : HeldDatabase) (conn : ℕ) (c : Command) → (performed s conn c).1.database.catalog ≡ s.database.catalog
-command_catalog s conn command.Start = start_after-catalog (is_spent s.database.revision) (nat_eq (depth s.database) MAX_SESSIONS) s.database
-command_catalog s conn command.Undo = session_catalog (nat_eq (depth s.database) 0) (s.database.revision - 1) (undone s.database) s.database
-    (undone_catalog s.database s.database.old)
-command_catalog s conn command.Squash = session_catalog (nat_eq (depth s.database) 0) (s.database.revision - 1) (squashed s.database) s.database
-    (squashed_catalog s.database s.database.old)
-command_catalog s conn command.UndoAll = undone_times_catalog (depth s.database) s.database
-command_catalog s conn c = refl
+command_catalog s conn (command.Change n x) = change_catalog s.database n x
+command_catalog s conn (command.LookUp n x) = refl
+command_catalog s conn (command.Session x) = over_sessions-catalog s.database x
 
 told_catalog : {A : Type 0} (s t : HeldDatabase) (conn : ℕ) (c : Command) (told : Said) → ToldOrMemory A (performed s conn c) s told t
     → t.database.catalog ≡ s.database.catalog
@@ -323,32 +320,41 @@ told_catalog s t conn c told (inr p) = ap (λ (u : HeldDatabase). u.database.cat
 -- ---- what an output has
 
 -- rows that find no room are refused for want of memory, and a look-up has changed nothing
-look_given : (s : HeldDatabase) (conn : ℕ) (c : Command) (told : Said) (text : List ℕ)
-    → ToldOrMemory (done_without c ≡ false) (performed s conn c) s told s → PutOrMemory s.database.catalog told text
-    → GivenOrMemory (done_without c ≡ false) (performed s conn c) s text s
-look_given s conn c told text h (inl is) = told_given (performed s conn c) s s told text h is
-look_given s conn c told text (inl p) (inr q) = inr (lacks s conn c (done_without c) refl (sym (ap is_short p.0) ∙ q.0), (q.1, refl))
-look_given s conn c told text (inr p) (inr q) = inr (p.0, (q.1, refl))
+pub look_put : (s : HeldDatabase) (n : ℕ) (x : LookUp) (told : Said) (text : List ℕ) → SaidOrMemory (looked_without x ≡ false) (looked s.database n x) told
+    → PutOrMemory s.database.catalog told text → IsAnswered s 0 (command.LookUp n x) text false s
+look_put s n x told text (inl p) (inl is) =
+    inl ((is ∙ ap (reply_text s.database.catalog) p, refl), sym (look_quiet n (schema_of s.database n) (table_of s.database n) x))
+look_put s n x told text (inr p) (inl is) = inr (p.0, (is ∙ memory_text s.database.catalog told p.1, refl), refl)
+look_put s n x told text (inl p) (inr q) =
+    inr (lacks n (schema_of s.database n) (table_of s.database n) x (looked_without x) refl (sym (ap is_short p) ∙ q.0), (q.1, refl), refl)
+look_put s n x told text (inr p) (inr q) = inr (p.0, (q.1, refl), refl)
 
-pub look_put : (s : HeldDatabase) (conn : ℕ) (c : Command) (told : Said) (text : List ℕ) → looks_up c ≡ true
-    → ToldOrMemory (done_without c ≡ false) (performed s conn c) s told s → PutOrMemory s.database.catalog told text
-    → AnsweredOrMemory (done_without c ≡ false) (performed s conn c) (may_change c (performed s conn c).0) s text false s
-look_put s conn c told text looks h made =
-    elim (look_given s conn c told text h made) [ inl p ↦ inl (p, sym (look_quiet s conn c looks)) | inr p ↦ inr (p.0, p.1, refl) ]
+-- what any other command tells has no rows
+module _ (s t : HeldDatabase) (conn : ℕ) (c : Command) (told : Said) (text : List ℕ) (short : is_short (performed s conn c).0 ≡ true) where
+  told_text : {A : Type 0} → ToldOrMemory A (performed s conn c) s told t → PutOrMemory t.database.catalog told text → text ≡ reply_text s.database.catalog told
+  told_text h (inl is) = is ∙ ap (λ (k : CatalogShape). reply_text k told) (told_catalog s t conn c told h)
+  told_text h (inr q) = not_false (sym (told_short s t conn c told short h) ∙ q.0)
 
--- what a change tells has no rows
-change_text : {A : Type 0} (s t : HeldDatabase) (conn : ℕ) (c : Command) (told : Said) (text : List ℕ) → looks_up c ≡ false
-    → ToldOrMemory A (performed s conn c) s told t → PutOrMemory t.database.catalog told text → text ≡ reply_text s.database.catalog told
-change_text s t conn c told text changes h (inl is) =
-    is ∙ ap (λ (k : CatalogShape). reply_text k told) (told_catalog s t conn c told h)
-change_text s t conn c told text changes h (inr q) = not_false (sym (told_short s t conn c told changes h) ∙ q.0)
+  told_put : (changed : Bool) → ToldOrMemory (done_without c ≡ false) (performed s conn c) s told t → PutOrMemory t.database.catalog told text
+      → changed ≡ may_change c told → IsAnswered s conn c text changed t
+  told_put changed (inl p) made is =
+      let given = told_text {A = done_without c ≡ false} (inl p) made in
+      inl ((given ∙ ap (reply_text s.database.catalog) p.0, p.1), is ∙ ap (may_change c) p.0)
+  told_put changed (inr p) made is =
+      let given = told_text {A = done_without c ≡ false} (inr p) made in
+      inr (p.0, (given ∙ memory_text s.database.catalog told p.1, p.2), is ∙ memory_quiet c told p.1)
 
-pub change_put : (s t : HeldDatabase) (conn : ℕ) (c : Command) (told : Said) (text : List ℕ) (changed : Bool) → looks_up c ≡ false
-    → ToldOrMemory (done_without c ≡ false) (performed s conn c) s told t → PutOrMemory t.database.catalog told text → changed ≡ may_change c told
-    → AnsweredOrMemory (done_without c ≡ false) (performed s conn c) (may_change c (performed s conn c).0) s text changed t
-change_put s t conn c told text changed changes (inl p) made is =
-    let given = change_text {A = done_without c ≡ false} s t conn c told text changes (inl p) made in
-    inl ((given ∙ ap (reply_text s.database.catalog) p.0, p.1), is ∙ ap (may_change c) p.0)
-change_put s t conn c told text changed changes (inr p) made is =
-    let given = change_text {A = done_without c ≡ false} s t conn c told text changes (inr p) made in
-    inr (p.0, (given ∙ memory_text s.database.catalog told p.1, p.2), is ∙ memory_quiet c told p.1)
+-- a change may lack memory
+pub change_put : (s t : HeldDatabase) (n : ℕ) (x : Change) (told : Said) (text : List ℕ) (changed : Bool)
+    → ToldOrMemory (Unit {0}) (performed s 0 (command.Change n x)) s told t → PutOrMemory t.database.catalog told text → changed ≡ tells_change told
+    → IsAnswered s 0 (command.Change n x) text changed t
+change_put s t n x told text changed (inl p) made is =
+    told_put s t 0 (command.Change n x) told text (change_short s.database n x) changed (inl p) made is
+change_put s t n x told text changed (inr p) made is =
+    told_put s t 0 (command.Change n x) told text (change_short s.database n x) changed (inr (refl, p.1, p.2)) made is
+
+pub session_put : (s t : HeldDatabase) (conn : ℕ) (x : SessionCommand) (told : Said) (text : List ℕ) (changed : Bool)
+    → ToldOrMemory (done_without (command.Session x) ≡ false) (performed s conn (command.Session x)) s told t → PutOrMemory t.database.catalog told text
+    → changed ≡ may_change (command.Session x) told → IsAnswered s conn (command.Session x) text changed t
+session_put s t conn x told text changed h made is =
+    told_put s t conn (command.Session x) told text (over_sessions-short s conn x) changed h made is

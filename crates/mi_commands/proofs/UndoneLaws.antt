@@ -21,11 +21,15 @@ use Rattle.mi_request.specs.declared.request.Request.TheVariants as request
 use Rattle.mi_request.proofs.ShortLemmas.{short_means}
 use Rattle.mi_protocol.specs.Replies as say
 use Rattle.mi_protocol.specs.Replies.{Said, reply_text}
-use Rattle.mi_protocol.specs.declared.binding.Command.{Command}
-use Rattle.mi_protocol.specs.declared.binding.Command.TheVariants as command
+use Rattle.mi_request.specs.declared.request.SessionCommand.{SessionCommand}
+use Rattle.mi_request.specs.declared.request.SessionCommand.TheVariants as session
+use Rattle.mi_protocol.specs.declared.command.Change.{Change as TableChange}
+use Rattle.mi_protocol.specs.declared.command.Change.TheVariants as change
+use Rattle.mi_protocol.specs.declared.command.Command.{Command}
+use Rattle.mi_protocol.specs.declared.command.Command.TheVariants as command
 use Rattle.mi_commands.specs.Asked.{Asked, text, too_long}
 use Rattle.mi_commands.specs.Holder.{HeldDatabase, is_busy, one_less, held_by}
-use Rattle.mi_commands.specs.Performed.{performed, or_session, revised, one_up, one_down, done_by}
+use Rattle.mi_commands.specs.Performed.{performed, changed, session_effect, or_session, revised, one_up, one_down, done_by}
 use Rattle.mi_commands.specs.Answer.{answer, command_answer, command_of, MayGive}
 use Rattle.mi_commands.specs.Acts.{Act, asks, leaves, Acts, AllActs}
 use Rattle.mi_commands.specs.Undone.{IsOpen, StaysOpen, undo_lines, undo_replies, TakenBack}
@@ -43,19 +47,26 @@ abbrev Moves : Database → Database → Type 0
 Moves d e = (e ≡ d) ⊎ ((c : Change) × (e ≡ after_command c d))
 
 module _ (s : HeldDatabase) (conn : ℕ) where
+  by_change : (n : ℕ) (x : TableChange) → Moves s.database (changed s.database n x).1
+  by_change n (change.Insert row before) = inr (Change.Insert n before row, refl)
+  by_change n (change.Replace id row) = inr (Change.Replace n id row, refl)
+  by_change n (change.Modify id edits rollback) = inr (Change.Modify n id edits rollback, refl)
+  by_change n (change.Erase id) = inr (Change.Erase n id, refl)
+  by_change n (change.EraseKey index key) = inr (Change.EraseKey n index key, refl)
+  by_change n (change.Relocate index id before) = inr (Change.Relocate n index id before, refl)
+
+  by_session : (x : SessionCommand) → Moves s.database (session_effect s.database x).left
+  by_session session.Start = inr (Change.Start, refl)
+  by_session session.Undo = inr (Change.Undo, refl)
+  by_session session.Squash = inr (Change.Squash, refl)
+  by_session (session.Commit revision) = inr (Change.Commit revision, refl)
+  by_session session.UndoAll = inr (Change.UndoAll, refl)
+  by_session x = inl refl
+
   by_command : (c : Command) → Moves s.database (performed s conn c).1.database
-  by_command (command.Insert table row before) = inr (Change.Insert table before row, refl)
-  by_command (command.Replace table id row) = inr (Change.Replace table id row, refl)
-  by_command (command.Modify table id edits rollback) = inr (Change.Modify table id edits rollback, refl)
-  by_command (command.Erase table id) = inr (Change.Erase table id, refl)
-  by_command (command.EraseKey table index key) = inr (Change.EraseKey table index key, refl)
-  by_command (command.Relocate table index id before) = inr (Change.Relocate table index id before, refl)
-  by_command command.Start = inr (Change.Start, refl)
-  by_command command.Undo = inr (Change.Undo, refl)
-  by_command command.Squash = inr (Change.Squash, refl)
-  by_command (command.Commit revision) = inr (Change.Commit revision, refl)
-  by_command command.UndoAll = inr (Change.UndoAll, refl)
-  by_command c = inl refl
+  by_command (command.Change n x) = by_change n x
+  by_command (command.LookUp n x) = inl refl
+  by_command (command.Session x) = by_session x
 
   by_bound : (c : Result Command Refusal) → Moves s.database (command_answer s conn c).1.database
   by_bound (Ok c) = by_command c
@@ -212,8 +223,8 @@ module _ (conn : ℕ) where
   undo_answer : (s : HeldDatabase) → is_busy s.holder conn ≡ false → 1 ≤ depth s.database
       → answer s conn (text (codes "{\"cmd\":\"undo\"}")) ≡ (say.revised (s.database.revision - 1), less_one s)
   undo_answer s free some =
-      ap (λ r. command_answer s conn (command_of s conn r)) (short_means request.Undo _ refl)
-      ∙ ap (λ b. command_answer s conn (cond b (Err Busy) (Ok command.Undo))) free
+      ap (λ r. command_answer s conn (command_of s conn r)) (short_means (request.Session session.Undo) _ refl)
+      ∙ ap (λ b. command_answer s conn (cond b (Err Busy) (Ok (command.Session session.Undo)))) free
       ∙ ap (λ b. undo_says s (undo_by s.database s.database.old b)) (not_zero (depth s.database) some)
 
   undo_given : (c : CatalogShape) (s t : HeldDatabase) (reply : List ℕ) → is_busy s.holder conn ≡ false → 1 ≤ depth s.database
@@ -221,7 +232,7 @@ module _ (conn : ℕ) where
       → (reply ≡ reply_text c (say.revised (s.database.revision - 1))) × (t ≡ less_one s)
   undo_given c s t reply free some (inl p) =
       let is = undo_answer s free some in (p.0 ∙ ap (λ a. reply_text s.database.catalog a.0) is, p.1 ∙ ap (λ a. a.1) is)
-  undo_given c s t reply free some (inr p) = absurd (p.0 (request.Undo, refl, refl))
+  undo_given c s t reply free some (inr p) = absurd (p.0 (request.Session session.Undo, refl, refl))
 
   -- undos of no more sessions than are open
   undos_given : (c : CatalogShape) (replies : List (List ℕ)) (t v : HeldDatabase) → length replies ≤ depth t.database → is_busy t.holder conn ≡ false
@@ -278,7 +289,7 @@ abbrev OpenedOrRefused : HeldDatabase → Said × HeldDatabase → Type 0
 OpenedOrRefused s a =
     ((a.1.database ≡ started s.database) × (a.0 ≡ say.revised (s.database.revision + 1))) ⊎ ((e : Refusal) × (a.0 ≡ say.refused 0 e) × (a.1 ≡ s))
 
-start_by : (s : HeldDatabase) (conn : ℕ) (busy : Bool) → OpenedOrRefused s (command_answer s conn (cond busy (Err Busy) (Ok command.Start)))
+start_by : (s : HeldDatabase) (conn : ℕ) (busy : Bool) → OpenedOrRefused s (command_answer s conn (cond busy (Err Busy) (Ok (command.Session session.Start))))
 start_by s conn true = inr (Busy, refl, refl)
 start_by s conn false =
     let d = s.database in
@@ -291,7 +302,7 @@ start_by s conn false =
 
 start_answer : (s : HeldDatabase) (conn : ℕ) → OpenedOrRefused s (answer s conn (text (codes "{\"cmd\":\"start\"}")))
 start_answer s conn =
-    subst (λ r. OpenedOrRefused s (command_answer s conn (command_of s conn r))) (sym (short_means request.Start _ refl))
+    subst (λ r. OpenedOrRefused s (command_answer s conn (command_of s conn r))) (sym (short_means (request.Session session.Start) _ refl))
     (start_by s conn (is_busy s.holder conn))
 
 pub start_lines_open : StartLinesOpen

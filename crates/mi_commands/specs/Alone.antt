@@ -4,39 +4,38 @@
 --
 -- The law: where a catalog has one table, a line without a member `table` is answered as that table by itself answers it. The bytes of the
 -- reply are the same, and so are the table, its sessions, the revision and the holder that it leaves.
-use Rattle.std.specs.Prelude.{◌≡◌, ◌⊎◌, ◌↔◌, ℕ, List, [], ◌++◌, length, map, true, not, ◌&&◌, if◌then◌else◌}
-use Rattle.std.specs.Prelude.{Option, Some, None, option_and_then, Result, Ok, Err, codes, decimal, bytes_eq}
-use Rattle.std.specs.List.{filter}
+use Rattle.std.specs.Prelude.{◌≡◌, ◌⊎◌, ◌↔◌, ℕ, List, [], ◌∷◌, ◌++◌, length, true, ◌&&◌, if◌then◌else◌}
+use Rattle.std.specs.Prelude.{Option, Some, None, option_and_then, Result, Ok, Err, codes, decimal}
 use Rattle.std.specs.Option.{ok_or}
 use Rattle.serde_json.specs.Data.{Data, boolean, array, object, Members, no_members, member}
 use Rattle.serde_json.specs.Find.{get_member, as_object}
 use Rattle.serde_json.specs.Written.{compact_text}
 use Rattle.mi_value.specs.declared.refusal.Refusal.{Refusal}
-use Rattle.mi_value.specs.declared.refusal.Refusal.TheVariants.{Line, Json, Form as NoCommand, Busy, NoId, Unique, Lost, Memory}
+use Rattle.mi_value.specs.declared.refusal.Refusal.TheVariants.{Line, Json, Form as NoCommand, Busy, Unique, Lost, Memory}
 use Rattle.mi_value.specs.Words.{word_of}
 use Rattle.mi_catalog.specs.Shape.{Shape, CatalogShape, index_at}
-use Rattle.mi_catalog.specs.Kinds.{is_ranked, is_sequenced}
-use Rattle.mi_model.specs.Table.{Table, get, has, row, size}
-use Rattle.mi_model.specs.LookUp as look
-use Rattle.mi_model.specs.Page as page
-use Rattle.mi_model.specs.Page.{Page}
-use Rattle.mi_model.specs.Verdict.{Outcome, has_place, insert_outcome, replace_outcome, modify_outcome, erase_outcome, erase_key_outcome, relocate_outcome}
+use Rattle.mi_model.specs.Table.{Table}
+use Rattle.mi_model.specs.Verdict.{Outcome, insert_outcome, replace_outcome, modify_outcome, erase_outcome, erase_key_outcome, relocate_outcome}
 use Rattle.mi_model.specs.OneTable as one
 use Rattle.mi_model.specs.OneTable.{OneTable, applied, in_catalog}
-use Rattle.mi_request.specs.Commands.{Form, keeps_out}
-use Rattle.mi_request.specs.Lines.{json_of, request_by, form_in}
+use Rattle.mi_request.specs.Commands.{Form, asked, keeps_out}
+use Rattle.mi_request.specs.Json.{has_only}
+use Rattle.mi_request.specs.Lines.{json_of, form_in}
 use Rattle.mi_request.specs.declared.request.Request.{Request}
 use Rattle.mi_request.specs.declared.request.Request.TheVariants as request
-use Rattle.mi_protocol.specs.Binding.{and_then, bound_insert, bound_replace, bound_modify, bound_range, bound_relocate, bound_command, index_number}
-use Rattle.mi_protocol.specs.Binding.{whole_key, key_or_prefix, ranked_key}
+use Rattle.mi_protocol.specs.Binding.{and_then, bound_change, bound_look_up}
 use Rattle.mi_protocol.specs.Replies as say
 use Rattle.mi_protocol.specs.Replies.{Said, reply_text}
 use Rattle.mi_protocol.specs.Rows.{row_data, rows_items}
-use Rattle.mi_protocol.specs.declared.binding.Command.{Command}
-use Rattle.mi_protocol.specs.declared.binding.Command.TheVariants as command
+use Rattle.mi_request.specs.declared.request.SessionCommand.{SessionCommand}
+use Rattle.mi_request.specs.declared.request.SessionCommand.TheVariants as session
+use Rattle.mi_protocol.specs.declared.command.Change.{Change}
+use Rattle.mi_protocol.specs.declared.command.Change.TheVariants as change
+use Rattle.mi_protocol.specs.declared.command.Command.{Command}
+use Rattle.mi_protocol.specs.declared.command.Command.TheVariants as command
 use Rattle.mi_commands.specs.Asked.{Asked, text, too_long}
 use Rattle.mi_commands.specs.Holder.{HeldDatabase, is_busy, one_more, one_less, at_most, held_by, without_holder}
-use Rattle.mi_commands.specs.Performed.{said_of, all_done, holder_after, or_session, found}
+use Rattle.mi_commands.specs.Performed.{said_of, all_done, holder_after, or_session, look_up_said}
 use Rattle.mi_commands.specs.Answer.{answer, MayLackMemory, MayGive}
 use Rattle.mi_commands.specs.declared.holder.Holder.{Holder}
 
@@ -47,12 +46,12 @@ pub record HeldTable : Type 0 where
 
 -- ---- from a line to a command
 
--- a row of the table of commands, less its member `table`
-abbrev pub without_table : Form → Form
-without_table form = record { members = filter (λ name. not (bytes_eq name (codes "table"))) form.members; request = form.request }
+-- the request that members of this form are, of which `table` is none
+abbrev pub request_without : Members → Form → Option Request
+request_without ms form = if has_only (codes "cmd" ∷ form.members) ms then asked form.asks ms else None
 
 abbrev pub request_alone : Members → Option Request
-request_alone ms = option_and_then (λ form. request_by ms (without_table form)) (form_in ms)
+request_alone ms = option_and_then (request_without ms) (form_in ms)
 
 abbrev pub read_alone : Option Data → Result Request Refusal
 read_alone None = Err Json
@@ -62,29 +61,11 @@ read_alone (Some d) = ok_or (option_and_then request_alone (as_object d)) NoComm
 abbrev pub line_alone : List ℕ → Result Request Refusal
 line_alone bytes = read_alone (json_of bytes)
 
--- a catalog of no tables: what names nothing of a schema is the same over it
-abbrev no_tables : CatalogShape
-no_tables = record { tables = []; first_revision = 0 }
-
 -- the command that a request is over the one schema. Where commands have the number of a table stands 0
 abbrev pub bound_alone : Shape → Request → Result Command Refusal
-bound_alone s (request.Insert table row before) = bound_insert s 0 row before
-bound_alone s (request.Replace table id row) = bound_replace s 0 id row
-bound_alone s (request.Modify table id set add rollback) = bound_modify s 0 id set add rollback
-bound_alone s (request.Erase table id) = Ok (command.Erase 0 id)
-bound_alone s (request.EraseKey table index key) = and_then (λ k. Ok (command.EraseKey 0 k.0 k.1)) (whole_key s index key)
-bound_alone s (request.Relocate table index id before) = bound_relocate s 0 index id before
-bound_alone s (request.Get table id) = Ok (command.Get 0 id)
-bound_alone s (request.Find table index key) = and_then (λ k. Ok (command.Find 0 k.0 k.1)) (key_or_prefix s index key)
-bound_alone s (request.Nth table index n) = and_then (λ x. Ok (command.Nth 0 x n)) (index_number is_ranked s index)
-bound_alone s (request.Count table index key) = and_then (λ k. Ok (command.Count 0 k.0 k.1)) (key_or_prefix s index key)
-bound_alone s (request.Range table index lower upper reverse limit) = bound_range s 0 index lower upper reverse limit
-bound_alone s (request.List table index after limit) = and_then (λ x. Ok (command.List 0 x after limit)) (index_number is_sequenced s index)
-bound_alone s (request.Rank table index id) = and_then (λ x. Ok (command.Rank 0 x id)) (index_number is_ranked s index)
-bound_alone s (request.LowerRank table index key) = and_then (λ k. Ok (command.LowerRank 0 k.0 k.1)) (ranked_key s index key)
-bound_alone s (request.UpperRank table index key) = and_then (λ k. Ok (command.UpperRank 0 k.0 k.1)) (ranked_key s index key)
-bound_alone s (request.Size table) = Ok (command.Size 0)
-bound_alone s session = bound_command no_tables session
+bound_alone s (request.Change table r) = and_then (λ x. Ok (command.Change 0 x)) (bound_change s r)
+bound_alone s (request.LookUp table r) = and_then (λ x. Ok (command.LookUp 0 x)) (bound_look_up s r)
+bound_alone s (request.Session x) = Ok (command.Session x)
 
 -- ---- what a command says and leaves
 
@@ -102,42 +83,31 @@ revised step move d = stepped say.revised (say.refused 0) step (holder_after ste
 abbrev pub committed : Result ℕ Refusal × OneTable → HeldTable → Said × HeldTable
 committed step d = stepped say.committed (say.refused 0) step (at_most (length step.1.old) d.holder)
 
--- the record of the id that a look-up found
-abbrev pub shown : Table → Option ℕ → Said
-shown t None = say.refused 0 NoId
-shown t (Some id) = found 0 id (get t id)
+-- a change over the schema
+abbrev pub change_alone : Shape → HeldTable → Change → Said × HeldTable
+change_alone s d (change.Insert row before) = changed say.inserted (say.refused 0) (insert_outcome s before row) d
+change_alone s d (change.Replace id row) = changed all_done (say.refused 0) (replace_outcome s id row) d
+change_alone s d (change.Modify id edits rollback) = changed all_done (say.refused_modify 0) (modify_outcome s id edits rollback) d
+change_alone s d (change.Erase id) = changed all_done (say.refused 0) (erase_outcome id) d
+change_alone s d (change.EraseKey x key) = changed say.erased (say.refused 0) (erase_key_outcome s x key) d
+change_alone s d (change.Relocate x id before) = changed all_done (say.refused 0) (relocate_outcome x id before) d
 
-abbrev pub paged : Table → Page → Said
-paged t p = say.rows 0 (map (row t) p.ids) p.more
+-- a command over its sessions
+abbrev pub session_alone : HeldTable → ℕ → SessionCommand → Said × HeldTable
+session_alone d conn session.Start = revised (one.start d.database) (one_more conn) d
+session_alone d conn session.Undo = let step = one.undo_to d.database d.database.old in revised (or_session step.0, step.1) one_less d
+session_alone d conn session.Squash = let step = one.squash_to d.database d.database.old in revised (or_session step.0, step.1) one_less d
+session_alone d conn (session.Commit revision) = committed (one.commit revision d.database) d
+session_alone d conn session.UndoAll = stepped say.undone (say.refused 0) (one.undo_all d.database) None
+session_alone d conn session.Push = (say.pushed (held_by conn d.holder), record { database = d.database; holder = without_holder conn d.holder })
+session_alone d conn (session.Reserve changes sessions) = (say.done, d)
+session_alone d conn session.Revision = (say.status (length d.database.old) (held_by conn d.holder) d.database.revision, d)
 
 -- a command over the schema, done by a connection that nobody keeps out; the number of its table isn't looked at
 abbrev pub performed_alone : Shape → HeldTable → ℕ → Command → Said × HeldTable
-performed_alone s d conn (command.Insert n row before) = changed say.inserted (say.refused 0) (insert_outcome s before row) d
-performed_alone s d conn (command.Replace n id row) = changed all_done (say.refused 0) (replace_outcome s id row) d
-performed_alone s d conn (command.Modify n id edits rollback) = changed all_done (say.refused_modify 0) (modify_outcome s id edits rollback) d
-performed_alone s d conn (command.Erase n id) = changed all_done (say.refused 0) (erase_outcome id) d
-performed_alone s d conn (command.EraseKey n x key) = changed say.erased (say.refused 0) (erase_key_outcome s x key) d
-performed_alone s d conn (command.Relocate n x id before) = changed all_done (say.refused 0) (relocate_outcome x id before) d
-performed_alone s d conn command.Start = revised (one.start d.database) (one_more conn) d
-performed_alone s d conn command.Undo = let step = one.undo_to d.database d.database.old in revised (or_session step.0, step.1) one_less d
-performed_alone s d conn command.Squash = let step = one.squash_to d.database d.database.old in revised (or_session step.0, step.1) one_less d
-performed_alone s d conn (command.Commit revision) = committed (one.commit revision d.database) d
-performed_alone s d conn command.UndoAll = stepped say.undone (say.refused 0) (one.undo_all d.database) None
-performed_alone s d conn command.Push = (say.pushed (held_by conn d.holder), record { database = d.database; holder = without_holder conn d.holder })
-performed_alone s d conn (command.Reserve changes sessions) = (say.done, d)
-performed_alone s d conn command.Revision = (say.status (length d.database.old) (held_by conn d.holder) d.database.revision, d)
-performed_alone s d conn (command.Get n id) = (found 0 id (get d.database.table id), d)
-performed_alone s d conn (command.Find n x key) = (shown d.database.table (look.find s d.database.table x key), d)
-performed_alone s d conn (command.Nth n x place) = (shown d.database.table (look.nth s d.database.table x place), d)
-performed_alone s d conn (command.Count n x key) = (say.counted (look.count s d.database.table x key), d)
-performed_alone s d conn (command.Range n x low high reverse limit) = (paged d.database.table (page.range s d.database.table x low high reverse limit), d)
-performed_alone s d conn (command.List n x after limit) =
-    (if has_place d.database.table after then paged d.database.table (page.list s d.database.table x after limit) else say.refused 0 NoId, d)
-performed_alone s d conn (command.Rank n x id) =
-    (if has d.database.table id then say.ranked (look.rank s d.database.table x id) else say.refused 0 NoId, d)
-performed_alone s d conn (command.LowerRank n x key) = (say.ranked (look.lower_rank s d.database.table x key), d)
-performed_alone s d conn (command.UpperRank n x key) = (say.ranked (look.upper_rank s d.database.table x key), d)
-performed_alone s d conn (command.Size n) = (say.sized (size d.database.table), d)
+performed_alone s d conn (command.Change n x) = change_alone s d x
+performed_alone s d conn (command.LookUp n x) = (look_up_said 0 s d.database.table x, d)
+performed_alone s d conn (command.Session x) = session_alone d conn x
 
 -- ---- the answer
 
@@ -176,7 +146,7 @@ text_alone s (say.rows n records more) =
     (member (codes "rows") (array (rows_items s.columns records)) no_members))))
 text_alone s (say.refused_modify n e) = modify_refusal_alone s e
 text_alone s (say.refused n e) = refusal_alone s e
-text_alone s other = reply_text no_tables other
+text_alone s other = reply_text (record { tables = []; first_revision = 0 }) other
 
 -- ---- the law
 

@@ -1,16 +1,19 @@
 -- What a line is answered, and what it leaves: a line that is kept out is answered `busy`, and nothing changes.
-use Rattle.std.specs.Prelude.{◌≡◌, ◌⊎◌, ℕ, List, Bool, true, false, ◌&&◌, if◌then◌else◌, Some, is_none, Result, Ok, Err}
+use Rattle.std.specs.Prelude.{◌≡◌, ◌⊎◌, ℕ, List, Bool, true, false, ◌&&◌, if◌then◌else◌, Some, Result, Ok, Err}
 use Rattle.mi_value.specs.declared.refusal.Refusal.{Refusal}
 use Rattle.mi_value.specs.declared.refusal.Refusal.TheVariants.{Line, Busy, Memory}
 use Rattle.mi_protocol.specs.Lines.{command_line}
 use Rattle.mi_protocol.specs.Commands.{keeps_out}
-use Rattle.mi_protocol.specs.Binding.{bound_command, binds_without, over_table}
+use Rattle.mi_protocol.specs.Binding.{bound_command, binds_without}
 use Rattle.mi_protocol.specs.Replies.{Said, refused, reply_text}
 use Rattle.mi_request.specs.Short.{short_line}
 use Rattle.mi_request.specs.declared.request.Request.{Request}
 use Rattle.mi_request.specs.declared.request.Request.TheVariants as request
-use Rattle.mi_protocol.specs.declared.binding.Command.{Command}
-use Rattle.mi_protocol.specs.declared.binding.Command.TheVariants as command
+use Rattle.mi_request.specs.declared.request.SessionCommand.TheVariants as session
+use Rattle.mi_protocol.specs.declared.command.Command.{Command}
+use Rattle.mi_protocol.specs.declared.command.Command.TheVariants as command
+use Rattle.mi_protocol.specs.declared.command.LookUp.{LookUp}
+use Rattle.mi_protocol.specs.declared.command.LookUp.TheVariants as look_up
 use Rattle.mi_commands.specs.Asked.{Asked, text, too_long}
 use Rattle.mi_commands.specs.Holder.{HeldDatabase, is_busy}
 use Rattle.mi_commands.specs.Performed.{performed}
@@ -42,17 +45,22 @@ IsGiven a s reply t = (reply ≡ reply_text s.database.catalog a.0) × (t ≡ a.
 -- a request that is done and answered without memory: one of sessions, a size or a rank. A start, an erase and a reserve may need room,
 -- and a record is shown in memory that is asked for
 abbrev pub needs_none : Request → Bool
-needs_none request.Start = false
-needs_none (request.Reserve changes sessions) = false
+needs_none (request.Session session.Start) = false
+needs_none (request.Session (session.Reserve changes sessions)) = false
 needs_none r = binds_without r
 
 -- the command that such a request is
+abbrev pub looked_without : LookUp → Bool
+looked_without (look_up.Rank x id) = true
+looked_without look_up.Size = true
+looked_without other = false
+
 abbrev pub done_without : Command → Bool
-done_without command.Start = false
-done_without (command.Reserve changes sessions) = false
-done_without (command.Size table) = true
-done_without (command.Rank table index id) = true
-done_without c = is_none (over_table c)
+done_without (command.Change n x) = false
+done_without (command.LookUp n x) = looked_without x
+done_without (command.Session session.Start) = false
+done_without (command.Session (session.Reserve changes sessions)) = false
+done_without (command.Session x) = true
 
 -- a line that takes no memory from its first byte to its reply: one of these, as it is written without spaces
 abbrev pub TakesNone : List ℕ → Type 0
@@ -85,6 +93,11 @@ line_changes s conn too_long = false
 abbrev pub AnsweredOrMemory : Type 0 → Said × HeldDatabase → Bool → HeldDatabase → List ℕ → Bool → HeldDatabase → Type 0
 AnsweredOrMemory MayLack a may s reply changed t =
     (IsGiven a s reply t × (changed ≡ may)) ⊎ (MayLack × IsGiven (refusal s Memory) s reply t × (changed ≡ false))
+
+-- A command is done from s and answered: this reply is given, and t is left; and `changed` is said of it.
+abbrev pub IsAnswered : HeldDatabase → ℕ → Command → List ℕ → Bool → HeldDatabase → Type 0
+IsAnswered s conn c reply changed t =
+    let done = performed s conn c in AnsweredOrMemory (done_without c ≡ false) done (may_change c done.0) s reply changed t
 
 -- From s, this line may be given this reply, and t is left; and `changed` is said of it.
 abbrev pub MayAnswer : ℕ → HeldDatabase → Asked → List ℕ → Bool → HeldDatabase → Type 0

@@ -15,8 +15,14 @@ use Rattle.mi_model.specs.Database.{Database, Step, schema_of, table_of, depth, 
 use Rattle.mi_model.specs.DatabaseChange.{insert_step, replace_step, modify_step, erase_step, erase_key_step, relocate_step}
 use Rattle.mi_protocol.specs.Replies as say
 use Rattle.mi_protocol.specs.Replies.{Said}
-use Rattle.mi_protocol.specs.declared.binding.Command.{Command}
-use Rattle.mi_protocol.specs.declared.binding.Command.TheVariants as command
+use Rattle.mi_request.specs.declared.request.SessionCommand.{SessionCommand}
+use Rattle.mi_request.specs.declared.request.SessionCommand.TheVariants as session
+use Rattle.mi_protocol.specs.declared.command.Change.{Change}
+use Rattle.mi_protocol.specs.declared.command.Change.TheVariants as change
+use Rattle.mi_protocol.specs.declared.command.Command.{Command}
+use Rattle.mi_protocol.specs.declared.command.Command.TheVariants as command
+use Rattle.mi_protocol.specs.declared.command.LookUp.{LookUp}
+use Rattle.mi_protocol.specs.declared.command.LookUp.TheVariants as look_up
 use Rattle.mi_commands.specs.Holder.{HeldDatabase, one_more, one_less, at_most, held_by, without_holder}
 use Rattle.mi_commands.specs.declared.holder.Holder.{Holder}
 
@@ -61,9 +67,9 @@ pub record Effect : Type 0 where
   pub left : Database
   pub move : Move
 
--- a change of a table, whoever holds sessions
-abbrev pub altered : {A : Type 0} → (A → Said) → (Refusal → Said) → Step A → Effect
-altered accepted refused step = record { says = λ held. said_of accepted refused step.0; left = step.1; move = stays }
+-- what a change of a table says and leaves, whoever holds sessions
+abbrev pub altered : {A : Type 0} → (A → Said) → (Refusal → Said) → Step A → Said × Database
+altered accepted refused step = (said_of accepted refused step.0, step.1)
 
 -- a change that answers nothing but that it is done
 abbrev pub all_done : Unit {0} → Said
@@ -87,63 +93,62 @@ abbrev pub found : ℕ → ℕ → Option (List Value) → Said
 found table id None = say.refused table NoId
 found table id (Some row) = say.shown table id row
 
--- a record is shown
-abbrev pub show_row : Database → ℕ → ℕ → Said
-show_row d table id = found table id (get (table_of d table) id)
-
 -- the record of the id that a look-up found
-abbrev pub show_found : Database → ℕ → Option ℕ → Said
-show_found d table None = say.refused table NoId
-show_found d table (Some id) = show_row d table id
+abbrev pub show_found : ℕ → Table → Option ℕ → Said
+show_found n t None = say.refused n NoId
+show_found n t (Some id) = found n id (get t id)
 
 -- the records of a page
-abbrev pub show_page : Database → ℕ → Page → Said
-show_page d table p = say.rows table (map (row (table_of d table)) p.ids) p.more
+abbrev pub show_page : ℕ → Table → Page → Said
+show_page n t p = say.rows n (map (row t) p.ids) p.more
 
--- the records of a list, unless the one behind which it begins isn't there
-abbrev pub show_list : Database → ℕ → ℕ → Option ℕ → ℕ → Said
-show_list d table index after limit =
-    let t = table_of d table in
-    if has_place t after then show_page d table (page.list (schema_of d table) t index after limit) else say.refused table NoId
+-- ---- what each command does
 
--- how many records stand before one, unless it isn't there
-abbrev pub say_rank : Database → ℕ → ℕ → ℕ → Said
-say_rank d table index id =
-    let t = table_of d table in
-    if has t id then say.ranked (look.rank (schema_of d table) t index id) else say.refused table NoId
+-- what a look-up of a table of this schema says; n is the table's number
+abbrev pub look_up_said : ℕ → Shape → Table → LookUp → Said
+look_up_said n s t (look_up.Get id) = found n id (get t id)
+look_up_said n s t (look_up.Find x key) = show_found n t (look.find s t x key)
+look_up_said n s t (look_up.Nth x place) = show_found n t (look.nth s t x place)
+look_up_said n s t (look_up.Count x key) = say.counted (look.count s t x key)
+look_up_said n s t (look_up.Range x low high reverse limit) = show_page n t (page.range s t x low high reverse limit)
+look_up_said n s t (look_up.List x after limit) =
+    if has_place t after then show_page n t (page.list s t x after limit) else say.refused n NoId
+look_up_said n s t (look_up.Rank x id) = if has t id then say.ranked (look.rank s t x id) else say.refused n NoId
+look_up_said n s t (look_up.LowerRank x key) = say.ranked (look.lower_rank s t x key)
+look_up_said n s t (look_up.UpperRank x key) = say.ranked (look.upper_rank s t x key)
+look_up_said n s t look_up.Size = say.sized (size t)
 
--- what a look-up of a table answers
-abbrev pub asked : {A : Type 0} → Database → ℕ → (Shape → Table → A) → A
-asked d table look_up = look_up (schema_of d table) (table_of d table)
+-- what a look-up of table n of a database says
+abbrev pub looked : Database → ℕ → LookUp → Said
+looked d n x = look_up_said n (schema_of d n) (table_of d n) x
 
--- what each command does. A commit ends the sessions with a number of at most x, and the holder holds no more than those that stay open; after
+-- what a change of table n says and leaves
+abbrev pub changed : Database → ℕ → Change → Said × Database
+changed d n (change.Insert row before) = altered say.inserted (say.refused n) (insert_step n before row d)
+changed d n (change.Replace id row) = altered all_done (say.refused n) (replace_step n id row d)
+changed d n (change.Modify id edits rollback) = altered all_done (say.refused_modify n) (modify_step n id edits rollback d)
+changed d n (change.Erase id) = altered all_done (say.refused n) (erase_step n id d)
+changed d n (change.EraseKey x key) = altered say.erased (say.refused n) (erase_key_step n x key d)
+changed d n (change.Relocate x id before) = altered all_done (say.refused n) (relocate_step n x id before d)
+
+-- a command over sessions. A commit ends the sessions with a number of at most x, and the holder holds no more than those that stay open; after
 -- an undo of all nobody holds any; a push leaves those of its connection open and held by nobody; a reserve asks for room, which is in no reply
+abbrev pub session_effect : Database → SessionCommand → Effect
+session_effect d session.Start = let step = start_step d in revised step.0 step.1 one_up
+session_effect d session.Undo = let step = undo_step d in revised (or_session step.0) step.1 one_down
+session_effect d session.Squash = let step = squash_step d in revised (or_session step.0) step.1 one_down
+session_effect d (session.Commit x) =
+    record { says = λ held. say.committed (ending x d); left = committed x d; move = down_to (depth (committed x d)) }
+session_effect d session.UndoAll = record { says = λ held. say.undone (depth d); left = undone_times (depth d) d; move = to_nobody }
+session_effect d session.Push = record { says = say.pushed; left = d; move = lets_go }
+session_effect d (session.Reserve changes sessions) = shows d say.done
+session_effect d session.Revision = record { says = λ held. say.status (depth d) held d.revision; left = d; move = stays }
+
+-- what each command does
 abbrev pub effect : Database → Command → Effect
-effect d (command.Insert table row before) = altered say.inserted (say.refused table) (insert_step table before row d)
-effect d (command.Replace table id row) = altered all_done (say.refused table) (replace_step table id row d)
-effect d (command.Modify table id edits rollback) = altered all_done (say.refused_modify table) (modify_step table id edits rollback d)
-effect d (command.Erase table id) = altered all_done (say.refused table) (erase_step table id d)
-effect d (command.EraseKey table index key) = altered say.erased (say.refused table) (erase_key_step table index key d)
-effect d (command.Relocate table index id before) = altered all_done (say.refused table) (relocate_step table index id before d)
-effect d command.Start = let step = start_step d in revised step.0 step.1 one_up
-effect d command.Undo = let step = undo_step d in revised (or_session step.0) step.1 one_down
-effect d command.Squash = let step = squash_step d in revised (or_session step.0) step.1 one_down
-effect d (command.Commit x) = record { says = λ held. say.committed (ending x d); left = committed x d; move = down_to (depth (committed x d)) }
-effect d command.UndoAll = record { says = λ held. say.undone (depth d); left = undone_times (depth d) d; move = to_nobody }
-effect d command.Push = record { says = say.pushed; left = d; move = lets_go }
-effect d (command.Reserve changes sessions) = shows d say.done
-effect d command.Revision = record { says = λ held. say.status (depth d) held d.revision; left = d; move = stays }
-effect d (command.Get table id) = shows d (show_row d table id)
-effect d (command.Find table index key) = shows d (show_found d table (asked d table (λ shape t. look.find shape t index key)))
-effect d (command.Nth table index n) = shows d (show_found d table (asked d table (λ shape t. look.nth shape t index n)))
-effect d (command.Count table index key) = shows d (say.counted (asked d table (λ shape t. look.count shape t index key)))
-effect d (command.Range table index low high reverse limit) =
-    shows d (show_page d table (asked d table (λ shape t. page.range shape t index low high reverse limit)))
-effect d (command.List table index after limit) = shows d (show_list d table index after limit)
-effect d (command.Rank table index id) = shows d (say_rank d table index id)
-effect d (command.LowerRank table index key) = shows d (say.ranked (asked d table (λ shape t. look.lower_rank shape t index key)))
-effect d (command.UpperRank table index key) = shows d (say.ranked (asked d table (λ shape t. look.upper_rank shape t index key)))
-effect d (command.Size table) = shows d (say.sized (size (table_of d table)))
+effect d (command.Change n x) = let e = changed d n x in record { says = λ held. e.0; left = e.1; move = stays }
+effect d (command.LookUp n x) = shows d (looked d n x)
+effect d (command.Session x) = session_effect d x
 
 -- what is said and left of a command of a connection that nobody keeps out
 abbrev pub done_by : ℕ → HeldDatabase → Effect → Said × HeldDatabase

@@ -4,30 +4,20 @@ use Rattle.std.specs.Prelude.{◌≡◌, ◌⊎◌, Bool, true, false}
 use Rattle.mi_value.specs.declared.refusal.Refusal.{Refusal}
 use Rattle.mi_value.specs.declared.refusal.Refusal.TheVariants.{Lost, Memory}
 use Rattle.mi_protocol.specs.Replies.{Said, inserted, done, erased, revised, committed, undone, pushed, refused, refused_modify}
-use Rattle.mi_protocol.specs.declared.binding.Command.{Command}
-use Rattle.mi_protocol.specs.declared.binding.Command.TheVariants as command
+use Rattle.mi_request.specs.declared.request.SessionCommand.TheVariants as session
+use Rattle.mi_protocol.specs.declared.command.Command.{Command}
+use Rattle.mi_protocol.specs.declared.command.Command.TheVariants as command
 use Rattle.mi_commands.specs.Holder.{HeldDatabase}
-
--- a command that looks up; any other is a change of a table, or a session step
-abbrev pub looks_up : Command → Bool
-looks_up (command.Get table id) = true
-looks_up (command.Find table index key) = true
-looks_up (command.Nth table index n) = true
-looks_up (command.Count table index key) = true
-looks_up (command.Range table index low high reverse limit) = true
-looks_up (command.List table index after limit) = true
-looks_up (command.Rank table index id) = true
-looks_up (command.LowerRank table index key) = true
-looks_up (command.UpperRank table index key) = true
-looks_up (command.Size table) = true
-looks_up command.Revision = true
-looks_up other = false
 
 -- memory is refused
 abbrev pub SaysMemory : Said → Type 0
 SaysMemory (refused table Memory) = Unit {0}
 SaysMemory (refused_modify table Memory) = Unit {0}
 SaysMemory other = ⊥
+
+-- This is told; or, where it may lack memory, that refusal.
+abbrev pub SaidOrMemory : Type 0 → Said → Said → Type 0
+SaidOrMemory MayLack said told = (told ≡ said) ⊎ (MayLack × SaysMemory told)
 
 -- This is told and left; or, where it may lack memory, that refusal is told, and nothing has changed.
 abbrev pub ToldOrMemory : Type 0 → Said × HeldDatabase → HeldDatabase → Said → HeldDatabase → Type 0
@@ -53,5 +43,5 @@ tells_change other = false
 
 -- whether a command that tells this may have changed something; room is all that a reserve asks for
 abbrev pub may_change : Command → Said → Bool
-may_change (command.Reserve changes sessions) told = false
+may_change (command.Session (session.Reserve changes sessions)) told = false
 may_change c told = tells_change told

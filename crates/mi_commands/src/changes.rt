@@ -1,73 +1,54 @@
-//! The changes of a table, and all that isn't a look-up by its command. What they answer lends nothing.
-ghost use Rattle.std.specs.Prelude.{◌≡◌, true, false};
+//! The changes of a table by their command. What they answer lends nothing.
+ghost use Rattle.std.specs.Prelude.{◌≡◌, false};
 ghost use Rattle.mi_protocol.specs.Binding.{FitsCatalog};
 ghost use Rattle.mi_protocol.specs.Replies.{said, IsSaidOf};
 
 use crate::executor::Executor;
 use crate::outcome::Outcome;
-use mi_protocol::{Command, Reply};
+use mi_protocol::{Change, Command, Reply};
 use mi_sessions::Sessions;
 use mi_value::{Edit, Record, Value};
 
 impl<D: Sessions + Drop> Executor<D> {
     ghost use Rattle.mi_commands.specs.Performed.{performed as done};
-    ghost use Rattle.mi_commands.specs.Answer.{done_without};
-    ghost use Rattle.mi_commands.specs.Told.{ToldOrMemory, looks_up, may_change};
+    ghost use Rattle.mi_commands.specs.Told.{ToldOrMemory, tells_change};
 
-    /// Does a command that doesn't look up: a change of a table, or a session step. `Memory` may stand in the place of any answer but those
-    /// of the session steps other than a start, and then nothing has changed. Where it isn't `changed`, tables, sessions and holder are as
-    /// before.
-    pub fn change(&mut self, conn: u64, command: Command) -> Outcome
-        requires fits { FitsCatalog self.old.database.catalog command }
-        requires changes { looks_up command ≡ false }
-        ensures told { ToldOrMemory (done_without command ≡ false) (done self.old conn command) self.old (said result.reply) self.new }
+    /// Changes a table. `Memory` may stand in the place of any answer, and then nothing has changed. Where it isn't `changed`, tables,
+    /// sessions and holder are as before.
+    pub fn change(&mut self, table: usize, change: Change) -> Outcome
+        requires fits { FitsCatalog self.old.database.catalog (Command.Change table change) }
+        ensures told { ToldOrMemory (Unit {0}) (done self.old 0 (Command.Change table change)) self.old (said result.reply) self.new }
         ensures fits { IsSaidOf self.new.database.catalog (said result.reply) }
-        ensures changed { result.changed ≡ may_change command (said result.reply) }
+        ensures changed { result.changed ≡ tells_change (said result.reply) }
         ensures kept { result.changed ≡ false → self.new ≡ self.old }
     {
-        let reserves = matches!(&command, Command::Reserve { .. });
-        Outcome::new(self.do_change(conn, command), reserves)
+        Outcome::new(self.do_change(table, change), false)
     }
 
-    /// Does a command that doesn't look up.
-    fn do_change(&mut self, conn: u64, command: Command) -> Reply<'static>
-        requires fits { FitsCatalog self.old.database.catalog command }
-        requires changes { looks_up command ≡ false }
-        ensures told { ToldOrMemory (done_without command ≡ false) (done self.old conn command) self.old (said result) self.new }
+    /// Does a change.
+    fn do_change(&mut self, table: usize, change: Change) -> Reply<'static>
+        requires fits { FitsCatalog self.old.database.catalog (Command.Change table change) }
+        ensures told { ToldOrMemory (Unit {0}) (done self.old 0 (Command.Change table change)) self.old (said result) self.new }
         ensures fits { IsSaidOf self.new.database.catalog (said result) }
     {
-        match command {
-            Command::Insert { table, row, before } => self.insert(table, row, before),
-            Command::Replace { table, id, row } => self.replace(table, id, row),
-            Command::Modify {
-                table,
+        match change {
+            Change::Insert { row, before } => self.insert(table, row, before),
+            Change::Replace { id, row } => self.replace(table, id, row),
+            Change::Modify {
                 id,
                 edits,
                 rollback,
             } => self.modify(table, id, edits.as_slice(), rollback),
-            Command::Erase { table, id } => self.erase(table, id),
-            Command::EraseKey { table, index, key } => self.erase_key(table, index, key.values()),
-            Command::Relocate {
-                table,
-                index,
-                id,
-                before,
-            } => self.relocate(table, index, id, before),
-            Command::Start => self.start(conn),
-            Command::Undo => self.undo(),
-            Command::Squash => self.squash(),
-            Command::Commit { revision } => self.commit(revision),
-            Command::UndoAll => self.undo_all(),
-            Command::Push => self.push(conn),
-            Command::Reserve { changes, sessions } => self.reserve(changes, sessions),
-            _ => unreachable!(),
+            Change::Erase { id } => self.erase(table, id),
+            Change::EraseKey { index, key } => self.erase_key(table, index, key.values()),
+            Change::Relocate { index, id, before } => self.relocate(table, index, id, before),
         }
     }
 
     /// Adds a record to a table, before a place where one is given.
     fn insert(&mut self, table: usize, row: Record, before: Option<(usize, u64)>) -> Reply<'static>
-        requires { FitsCatalog self.old.database.catalog (Command.Insert table row before) }
-        ensures told { ToldOrMemory (Unit {0}) (done self.old 0 (Command.Insert table row before)) self.old (said result) self.new }
+        requires { FitsCatalog self.old.database.catalog (Command.Change table (Change.Insert row before)) }
+        ensures told { ToldOrMemory (Unit {0}) (done self.old 0 (Command.Change table (Change.Insert row before))) self.old (said result) self.new }
         ensures fits { IsSaidOf self.new.database.catalog (said result) }
     {
         match self.database.insert(self.alloc, table, row, before) {
@@ -78,8 +59,8 @@ impl<D: Sessions + Drop> Executor<D> {
 
     /// Sets another record for an id.
     fn replace(&mut self, table: usize, id: u64, row: Record) -> Reply<'static>
-        requires { FitsCatalog self.old.database.catalog (Command.Replace table id row) }
-        ensures told { ToldOrMemory (Unit {0}) (done self.old 0 (Command.Replace table id row)) self.old (said result) self.new }
+        requires { FitsCatalog self.old.database.catalog (Command.Change table (Change.Replace id row)) }
+        ensures told { ToldOrMemory (Unit {0}) (done self.old 0 (Command.Change table (Change.Replace id row))) self.old (said result) self.new }
         ensures fits { IsSaidOf self.new.database.catalog (said result) }
     {
         match self.database.replace(self.alloc, table, id, row) {
@@ -90,8 +71,8 @@ impl<D: Sessions + Drop> Executor<D> {
 
     /// Changes columns of a record.
     fn modify(&mut self, table: usize, id: u64, edits: &[Edit], rollback: bool) -> Reply<'static>
-        requires { FitsCatalog self.old.database.catalog (Command.Modify table id edits.now rollback) }
-        ensures told { ToldOrMemory (Unit {0}) (done self.old 0 (Command.Modify table id edits.now rollback)) self.old (said result) self.new }
+        requires { FitsCatalog self.old.database.catalog (Command.Change table (Change.Modify id edits.now rollback)) }
+        ensures told { ToldOrMemory (Unit {0}) (done self.old 0 (Command.Change table (Change.Modify id edits.now rollback))) self.old (said result) self.new }
         ensures fits { IsSaidOf self.new.database.catalog (said result) }
     {
         match self.database.modify(self.alloc, table, id, edits, rollback) {
@@ -102,8 +83,8 @@ impl<D: Sessions + Drop> Executor<D> {
 
     /// Erases a record.
     fn erase(&mut self, table: usize, id: u64) -> Reply<'static>
-        requires { FitsCatalog self.old.database.catalog (Command.Erase table id) }
-        ensures told { ToldOrMemory (Unit {0}) (done self.old 0 (Command.Erase table id)) self.old (said result) self.new }
+        requires { FitsCatalog self.old.database.catalog (Command.Change table (Change.Erase id)) }
+        ensures told { ToldOrMemory (Unit {0}) (done self.old 0 (Command.Change table (Change.Erase id))) self.old (said result) self.new }
         ensures fits { IsSaidOf self.new.database.catalog (said result) }
     {
         match self.database.erase(self.alloc, table, id) {
@@ -114,8 +95,8 @@ impl<D: Sessions + Drop> Executor<D> {
 
     /// Erases every record with a key.
     fn erase_key(&mut self, table: usize, index: usize, key: &[Value]) -> Reply<'static>
-        requires { FitsCatalog self.old.database.catalog (Command.EraseKey table index key.now) }
-        ensures told { ToldOrMemory (Unit {0}) (done self.old 0 (Command.EraseKey table index key.now)) self.old (said result) self.new }
+        requires { FitsCatalog self.old.database.catalog (Command.Change table (Change.EraseKey index key.now)) }
+        ensures told { ToldOrMemory (Unit {0}) (done self.old 0 (Command.Change table (Change.EraseKey index key.now))) self.old (said result) self.new }
         ensures fits { IsSaidOf self.new.database.catalog (said result) }
     {
         match self.database.erase_key(self.alloc, table, index, key) {
@@ -132,8 +113,8 @@ impl<D: Sessions + Drop> Executor<D> {
         id: u64,
         before: Option<u64>,
     ) -> Reply<'static>
-        requires { FitsCatalog self.old.database.catalog (Command.Relocate table index id before) }
-        ensures told { ToldOrMemory (Unit {0}) (done self.old 0 (Command.Relocate table index id before)) self.old (said result) self.new }
+        requires { FitsCatalog self.old.database.catalog (Command.Change table (Change.Relocate index id before)) }
+        ensures told { ToldOrMemory (Unit {0}) (done self.old 0 (Command.Change table (Change.Relocate index id before))) self.old (said result) self.new }
         ensures fits { IsSaidOf self.new.database.catalog (said result) }
     {
         match self.database.relocate(self.alloc, table, index, id, before) {

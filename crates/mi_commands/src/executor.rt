@@ -6,11 +6,12 @@ ghost use Rattle.mi_protocol.specs.Binding.{FitsCatalog};
 ghost use Rattle.mi_request.specs.Answers.{IsAnswer, NamesNoIndex};
 ghost use Rattle.mi_request.specs.Lines.{command_line};
 ghost use Rattle.mi_protocol.specs.Replies.{reply_text, refused};
-ghost use Rattle.mi_commands.specs.Told as spec;
 
 use crate::holder::{Holder, held_by, is_busy, without_holder};
 use crate::line::Line;
-use mi_protocol::{Command, LineReader, Output, Reply, ReplyLabels, bind};
+use mi_protocol::{
+    Change, Command, LineReader, LookUp, Output, Reply, ReplyLabels, SessionCommand, bind,
+};
 use mi_sessions::Sessions;
 use mi_value::Refusal;
 use std::alloc::Global;
@@ -43,8 +44,7 @@ impl<D: Sessions + Drop> Model for Executor<D> {
 impl<D: Sessions + Drop> Executor<D> {
     ghost use Rattle.mi_commands.specs.Holder as holder;
     ghost use Rattle.mi_commands.specs.Holder.{released};
-    ghost use Rattle.mi_commands.specs.Performed.{performed};
-    ghost use Rattle.mi_commands.specs.Answer.{command_of, done_without, TakesNone, MayGive, AnsweredOrMemory, MayAnswer};
+    ghost use Rattle.mi_commands.specs.Answer.{command_of, TakesNone, IsAnswered, MayGive, MayAnswer};
     ghost use Rattle.mi_commands.specs.Asked.{text, asked_of};
 
     /// A database that nobody holds sessions of. It takes no memory; until `make_labels` has made labels, rows are written without.
@@ -131,27 +131,22 @@ impl<D: Sessions + Drop> Executor<D> {
         }
     }
 
-    /// Answers a command that looks up. It is a call of its own, so that it clears no room that only a change needs.
+    /// Answers a look-up. It is a call of its own, so that it clears no room that only a change needs.
     #[inline(never)]
-    fn answer_look(&self, conn: u64, command: &Command, out: &mut Output)
-        requires fits { FitsCatalog self.now.database.catalog command.now }
-        requires looks { spec.looks_up command.now ≡ true }
-        ensures { AnsweredOrMemory (done_without command.now ≡ false) (performed self.now conn command.now)
-            (spec.may_change command.now (performed self.now conn command.now).0) self.now out.new false self.now }
+    fn answer_look(&self, table: usize, look_up: &LookUp, out: &mut Output)
+        requires fits { FitsCatalog self.now.database.catalog (Command.LookUp table look_up.now) }
+        ensures { IsAnswered self.now 0 (Command.LookUp table look_up.now) out.new false self.now }
     {
-        let reply = self.look(conn, command);
+        let reply = self.look(table, look_up);
         out.put(self.alloc, &reply, self.database.catalog(), &self.labels);
     }
 
-    /// Does any other command, and says whether anything may have changed. In line it has the command where it was bound.
-    #[inline(always)]
-    fn answer_change(&mut self, conn: u64, command: Command, out: &mut Output) -> bool
-        requires fits { FitsCatalog self.old.database.catalog command }
-        requires changes { spec.looks_up command ≡ false }
-        ensures { AnsweredOrMemory (done_without command ≡ false) (performed self.old conn command)
-            (spec.may_change command (performed self.old conn command).0) self.old out.new result self.new }
+    /// Changes a table, and says whether anything may have changed.
+    fn answer_change(&mut self, table: usize, change: Change, out: &mut Output) -> bool
+        requires fits { FitsCatalog self.old.database.catalog (Command.Change table change) }
+        ensures { IsAnswered self.old 0 (Command.Change table change) out.new result self.new }
     {
-        let outcome = self.change(conn, command);
+        let outcome = self.change(table, change);
         out.put(
             self.alloc,
             &outcome.reply,
@@ -161,19 +156,34 @@ impl<D: Sessions + Drop> Executor<D> {
         outcome.changed
     }
 
-    /// Does a command that fits the catalog, and says whether anything may have changed. The session commands other than a start, `revision`,
-    /// `size` and `rank` take no memory.
+    /// Does a command over sessions, and says whether anything may have changed.
+    fn answer_session(&mut self, conn: u64, command: SessionCommand, out: &mut Output) -> bool
+        ensures { IsAnswered self.old conn (Command.Session command) out.new result self.new }
+    {
+        let outcome = self.session(conn, command);
+        out.put(
+            self.alloc,
+            &outcome.reply,
+            self.database.catalog(),
+            &self.labels,
+        );
+        outcome.changed
+    }
+
+    /// Does a command that fits the catalog, and says whether anything may have changed. The commands over sessions other than a start and a
+    /// reserve, a size and a rank take no memory.
     #[inline(always)]
     fn perform(&mut self, conn: u64, command: Command, out: &mut Output) -> bool
         requires { FitsCatalog self.old.database.catalog command }
-        ensures { AnsweredOrMemory (done_without command ≡ false) (performed self.old conn command)
-            (spec.may_change command (performed self.old conn command).0) self.old out.new result self.new }
+        ensures { IsAnswered self.old conn command out.new result self.new }
     {
-        if looks_up(&command) {
-            self.answer_look(conn, &command, out);
-            false
-        } else {
-            self.answer_change(conn, command, out)
+        match command {
+            Command::Session(command) => self.answer_session(conn, command, out),
+            Command::LookUp { table, look_up } => {
+                self.answer_look(table, &look_up, out);
+                false
+            }
+            Command::Change { table, change } => self.answer_change(table, change, out),
         }
     }
 
@@ -216,26 +226,6 @@ impl<D: Sessions + Drop> Executor<D> {
             self.database.catalog(),
             &self.labels,
         );
-    }
-}
-
-/// Whether a command looks up.
-fn looks_up(command: &Command) -> bool
-    ensures { result ≡ spec.looks_up command.now }
-{
-    match command {
-        Command::Get { .. }
-        | Command::Find { .. }
-        | Command::Nth { .. }
-        | Command::Count { .. }
-        | Command::Range { .. }
-        | Command::List { .. }
-        | Command::Rank { .. }
-        | Command::LowerRank { .. }
-        | Command::UpperRank { .. }
-        | Command::Size { .. }
-        | Command::Revision => true,
-        _ => false,
     }
 }
 

@@ -1,64 +1,55 @@
 //! The look-ups. They change nothing; what they answer lends its rows of the database, and takes memory for pages alone.
-ghost use Rattle.std.specs.Prelude.{◌≡◌, ◌<◌, length, true, false};
+ghost use Rattle.std.specs.Prelude.{◌≡◌, ◌<◌, length, false};
 ghost use Rattle.mi_protocol.specs.Binding.{FitsCatalog};
 ghost use Rattle.mi_protocol.specs.Replies.{said, IsSaidOf};
 
 use crate::executor::Executor;
-use crate::holder::held_by;
-use mi_protocol::{Command, Reply};
+use mi_protocol::{Command, LookUp, Reply};
 use mi_query::{count, find, list, lower_rank, nth, range, rank, size, upper_rank};
 use mi_sessions::Sessions;
 use mi_value::{Lower, Refusal, Steps, Upper, Value};
 
 impl<D: Sessions + Drop> Executor<D> {
+    ghost use Rattle.mi_model.specs.Database.{table_of};
     ghost use Rattle.mi_commands.specs.Performed as performed;
-    ghost use Rattle.mi_commands.specs.Performed.{performed as done};
-    ghost use Rattle.mi_commands.specs.Answer.{done_without};
-    ghost use Rattle.mi_commands.specs.Told.{ToldOrMemory, looks_up};
+    ghost use Rattle.mi_commands.specs.Performed.{looked};
+    ghost use Rattle.mi_commands.specs.Answer.{looked_without};
+    ghost use Rattle.mi_commands.specs.Told.{SaidOrMemory};
 
-    /// Answers a command that looks up. `Memory` may stand in the place of a range or a list alone.
-    pub fn look(&self, conn: u64, command: &Command) -> Reply<'_>
-        requires fits { FitsCatalog self.now.database.catalog command.now }
-        requires looks { looks_up command.now ≡ true }
-        ensures told { ToldOrMemory (done_without command.now ≡ false) (done self.now conn command.now) self.now (said result) self.now }
+    /// Answers a look-up of a table. `Memory` may stand in the place of a range or a list alone.
+    pub fn look(&self, table: usize, look_up: &LookUp) -> Reply<'_>
+        requires fits { FitsCatalog self.now.database.catalog (Command.LookUp table look_up.now) }
+        ensures told { SaidOrMemory (looked_without look_up.now ≡ false) (looked self.now.database table look_up.now) (said result) }
         ensures fits { IsSaidOf self.now.database.catalog (said result) }
     {
-        match command {
-            Command::Get { table, id } => self.get(*table, *id),
-            Command::Find { table, index, key } => self.find(*table, *index, key.values()),
-            Command::Nth { table, index, n } => self.nth(*table, *index, *n),
-            Command::Count { table, index, key } => self.count(*table, *index, key.values()),
-            Command::Range {
-                table,
+        match look_up {
+            LookUp::Get { id } => self.get(table, *id),
+            LookUp::Find { index, key } => self.find(table, *index, key.values()),
+            LookUp::Nth { index, n } => self.nth(table, *index, *n),
+            LookUp::Count { index, key } => self.count(table, *index, key.values()),
+            LookUp::Range {
                 index,
                 lower,
                 upper,
                 reverse,
                 limit,
-            } => self.range(*table, *index, lower, upper, *reverse, *limit),
-            Command::List {
-                table,
+            } => self.range(table, *index, lower, upper, *reverse, *limit),
+            LookUp::List {
                 index,
                 after,
                 limit,
-            } => self.list(*table, *index, *after, *limit),
-            Command::Rank { table, index, id } => self.rank(*table, *index, *id),
-            Command::LowerRank { table, index, key } => {
-                self.lower_rank(*table, *index, key.values())
-            }
-            Command::UpperRank { table, index, key } => {
-                self.upper_rank(*table, *index, key.values())
-            }
-            Command::Size { table } => self.size(*table),
-            Command::Revision => self.status(conn),
-            _ => unreachable!(),
+            } => self.list(table, *index, *after, *limit),
+            LookUp::Rank { index, id } => self.rank(table, *index, *id),
+            LookUp::LowerRank { index, key } => self.lower_rank(table, *index, key.values()),
+            LookUp::UpperRank { index, key } => self.upper_rank(table, *index, key.values()),
+            LookUp::Size => self.size(table),
         }
     }
 
     /// A record.
     fn get(&self, table: usize, id: u64) -> Reply<'_>
         requires { table < length self.now.database.catalog.tables }
-        ensures said { said result ≡ performed.show_row self.now.database table id }
+        ensures said { said result ≡ looked self.now.database table (LookUp.Get id) }
         ensures fits { IsSaidOf self.now.database.catalog (said result) }
     {
         let mut steps = Steps::new();
@@ -74,7 +65,7 @@ impl<D: Sessions + Drop> Executor<D> {
     /// The record that a look-up found.
     fn found(&self, table: usize, found: Option<u64>) -> Reply<'_>
         requires { table < length self.now.database.catalog.tables }
-        ensures said { said result ≡ performed.show_found self.now.database table found }
+        ensures said { said result ≡ performed.show_found table (table_of self.now.database table) found }
         ensures fits { IsSaidOf self.now.database.catalog (said result) }
     {
         match found {
@@ -88,8 +79,8 @@ impl<D: Sessions + Drop> Executor<D> {
 
     /// The first record of a key.
     fn find(&self, table: usize, index: usize, key: &[Value]) -> Reply<'_>
-        requires { FitsCatalog self.now.database.catalog (Command.Find table index key.now) }
-        ensures said { said result ≡ (done self.now 0 (Command.Find table index key.now)).0 }
+        requires { FitsCatalog self.now.database.catalog (Command.LookUp table (LookUp.Find index key.now)) }
+        ensures said { said result ≡ looked self.now.database table (LookUp.Find index key.now) }
         ensures fits { IsSaidOf self.now.database.catalog (said result) }
     {
         let mut steps = Steps::new();
@@ -99,8 +90,8 @@ impl<D: Sessions + Drop> Executor<D> {
 
     /// The record of a rank.
     fn nth(&self, table: usize, index: usize, n: u64) -> Reply<'_>
-        requires { FitsCatalog self.now.database.catalog (Command.Nth table index n) }
-        ensures said { said result ≡ (done self.now 0 (Command.Nth table index n)).0 }
+        requires { FitsCatalog self.now.database.catalog (Command.LookUp table (LookUp.Nth index n)) }
+        ensures said { said result ≡ looked self.now.database table (LookUp.Nth index n) }
         ensures fits { IsSaidOf self.now.database.catalog (said result) }
     {
         self.found(table, nth(&self.database, table, index, n))
@@ -108,8 +99,8 @@ impl<D: Sessions + Drop> Executor<D> {
 
     /// How many records have a key.
     fn count(&self, table: usize, index: usize, key: &[Value]) -> Reply<'_>
-        requires { FitsCatalog self.now.database.catalog (Command.Count table index key.now) }
-        ensures said { said result ≡ (done self.now 0 (Command.Count table index key.now)).0 }
+        requires { FitsCatalog self.now.database.catalog (Command.LookUp table (LookUp.Count index key.now)) }
+        ensures said { said result ≡ looked self.now.database table (LookUp.Count index key.now) }
         ensures fits { IsSaidOf self.now.database.catalog (said result) }
     {
         let mut steps = Steps::new();
@@ -126,9 +117,8 @@ impl<D: Sessions + Drop> Executor<D> {
         reverse: bool,
         limit: usize,
     ) -> Reply<'_>
-        requires { FitsCatalog self.now.database.catalog (Command.Range table index lower.now upper.now reverse limit) }
-        ensures told { ToldOrMemory (Unit {0}) (done self.now 0 (Command.Range table index lower.now upper.now reverse limit))
-            self.now (said result) self.now }
+        requires { FitsCatalog self.now.database.catalog (Command.LookUp table (LookUp.Range index lower.now upper.now reverse limit)) }
+        ensures told { SaidOrMemory (Unit {0}) (looked self.now.database table (LookUp.Range index lower.now upper.now reverse limit)) (said result) }
         ensures fits { IsSaidOf self.now.database.catalog (said result) }
     {
         let mut steps = Steps::new();
@@ -154,8 +144,8 @@ impl<D: Sessions + Drop> Executor<D> {
 
     /// The records of a sequenced index.
     fn list(&self, table: usize, index: usize, after: Option<u64>, limit: usize) -> Reply<'_>
-        requires { FitsCatalog self.now.database.catalog (Command.List table index after limit) }
-        ensures told { ToldOrMemory (Unit {0}) (done self.now 0 (Command.List table index after limit)) self.now (said result) self.now }
+        requires { FitsCatalog self.now.database.catalog (Command.LookUp table (LookUp.List index after limit)) }
+        ensures told { SaidOrMemory (Unit {0}) (looked self.now.database table (LookUp.List index after limit)) (said result) }
         ensures fits { IsSaidOf self.now.database.catalog (said result) }
     {
         let mut steps = Steps::new();
@@ -179,8 +169,8 @@ impl<D: Sessions + Drop> Executor<D> {
 
     /// How many records stand before one.
     fn rank(&self, table: usize, index: usize, id: u64) -> Reply<'_>
-        requires { FitsCatalog self.now.database.catalog (Command.Rank table index id) }
-        ensures said { said result ≡ (done self.now 0 (Command.Rank table index id)).0 }
+        requires { FitsCatalog self.now.database.catalog (Command.LookUp table (LookUp.Rank index id)) }
+        ensures said { said result ≡ looked self.now.database table (LookUp.Rank index id) }
         ensures fits { IsSaidOf self.now.database.catalog (said result) }
     {
         let mut steps = Steps::new();
@@ -192,8 +182,8 @@ impl<D: Sessions + Drop> Executor<D> {
 
     /// How many keys are less than a key.
     fn lower_rank(&self, table: usize, index: usize, key: &[Value]) -> Reply<'_>
-        requires { FitsCatalog self.now.database.catalog (Command.LowerRank table index key.now) }
-        ensures said { said result ≡ (done self.now 0 (Command.LowerRank table index key.now)).0 }
+        requires { FitsCatalog self.now.database.catalog (Command.LookUp table (LookUp.LowerRank index key.now)) }
+        ensures said { said result ≡ looked self.now.database table (LookUp.LowerRank index key.now) }
         ensures fits { IsSaidOf self.now.database.catalog (said result) }
     {
         let mut steps = Steps::new();
@@ -202,8 +192,8 @@ impl<D: Sessions + Drop> Executor<D> {
 
     /// How many keys are not greater than a key.
     fn upper_rank(&self, table: usize, index: usize, key: &[Value]) -> Reply<'_>
-        requires { FitsCatalog self.now.database.catalog (Command.UpperRank table index key.now) }
-        ensures said { said result ≡ (done self.now 0 (Command.UpperRank table index key.now)).0 }
+        requires { FitsCatalog self.now.database.catalog (Command.LookUp table (LookUp.UpperRank index key.now)) }
+        ensures said { said result ≡ looked self.now.database table (LookUp.UpperRank index key.now) }
         ensures fits { IsSaidOf self.now.database.catalog (said result) }
     {
         let mut steps = Steps::new();
@@ -213,21 +203,9 @@ impl<D: Sessions + Drop> Executor<D> {
     /// How many records a table has.
     fn size(&self, table: usize) -> Reply<'_>
         requires { table < length self.now.database.catalog.tables }
-        ensures said { said result ≡ (done self.now 0 (Command.Size table)).0 }
+        ensures said { said result ≡ looked self.now.database table LookUp.Size }
         ensures fits { IsSaidOf self.now.database.catalog (said result) }
     {
         Reply::Sized(size(&self.database, table))
-    }
-
-    /// The revision, and how many sessions are open and held by the connection.
-    fn status(&self, conn: u64) -> Reply<'_>
-        ensures said { said result ≡ (done self.now conn Command.Revision).0 }
-        ensures fits { IsSaidOf self.now.database.catalog (said result) }
-    {
-        Reply::Status {
-            depth: self.database.depth(),
-            held: held_by(&self.holder, conn),
-            revision: self.database.revision(),
-        }
     }
 }

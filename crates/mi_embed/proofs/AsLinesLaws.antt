@@ -8,18 +8,23 @@ use Rattle.mi_catalog.specs.declared.index.IndexKind.{IndexKind}
 use Rattle.mi_catalog.specs.Kinds.{has_keys, is_sorted, is_sequenced, is_ranked}
 use Rattle.mi_catalog.specs.Shape.{Shape, CatalogShape, schema_at, index_at}
 use Rattle.mi_request.specs.Commands.{keeps_out}
+use Rattle.mi_request.specs.declared.request.ChangeRequest.TheVariants as change_request
+use Rattle.mi_request.specs.declared.request.LookUpRequest.TheVariants as look_up_request
 use Rattle.mi_request.specs.declared.request.Request.{Request}
 use Rattle.mi_request.specs.declared.request.Request.TheVariants as request
-use Rattle.mi_protocol.specs.Binding.{and_then, of_kind, table_number, index_number, bound_command}
-use Rattle.mi_protocol.specs.declared.binding.Command.{Command}
-use Rattle.mi_protocol.specs.declared.binding.Command.TheVariants as command
+use Rattle.mi_protocol.specs.Binding.{and_then, of_kind, table_number, index_number, bound_over, bound_command}
+use Rattle.mi_request.specs.declared.request.SessionCommand.TheVariants as session
+use Rattle.mi_protocol.specs.declared.command.Change.TheVariants as change
+use Rattle.mi_protocol.specs.declared.command.Command.{Command}
+use Rattle.mi_protocol.specs.declared.command.Command.TheVariants as command
+use Rattle.mi_protocol.specs.declared.command.LookUp.TheVariants as look_up
 use Rattle.mi_commands.specs.Answer.{command_answer, command_of}
 use Rattle.mi_commands.specs.Holder.{is_busy}
 use Rattle.mi_embed.specs.Asked.{table_in, index_in, lower_in, upper_in}
 use Rattle.mi_embed.specs.AsLines.{IsTable, IsIndex, AsksAs, CallsAnswerAsLines}
 use Rattle.mi_embed.specs.EditCells.{edits_for}
 use Rattle.mi_embed.specs.Calls as call
-use Rattle.mi_embed.specs.Calls.{Call, insert_in, addition_in, modify_in, ends_in, command_in, looks}
+use Rattle.mi_embed.specs.Calls.{Call, insert_in, addition_in, modify_in, ends_in, of_table, over, command_in, looks}
 
 -- what follows from a value that may be refused is the same where it is the same of the value
 same_if : {A B : Type 0} (b : Bool) (v : A) (e : Refusal) (f g : A → Result B Refusal) → f v ≡ g v → and_then f (cond b (Ok v) (Err e)) ≡ and_then g (cond b (Ok v) (Err e))
@@ -44,80 +49,92 @@ by_index kinds c n name x f g is h =
 abbrev found_key : ℕ → Option (List Value) → Result (ℕ × List Value) Refusal
 found_key x key = and_then (λ values. Ok (x, values)) (ok_or key Key)
 
+-- what is bound over a table's schema, and made of its number
+over_table : {A : Type 0} (make : ℕ → A → Command) (f g : Shape → Result A Refusal) (c : CatalogShape) (name : Option (List ℕ)) (n : ℕ) → IsTable c name n
+    → f (schema_at c n) ≡ g (schema_at c n) → bound_over make f c name ≡ over make g c n
+over_table make f g c name n is h = by_table c name n _ _ is (ap (of_table make n) h)
+
 module _ (c : CatalogShape) where
   bound_as : (r : Request) (k : Call) → AsksAs c r k → bound_command c r ≡ command_in c k
-  bound_as (request.Insert table row None) (call.insert n cells bytes) h = by_table c table n _ _ h.0 (ap (λ o. insert_in n o (Ok None)) h.1)
-  bound_as (request.Insert table row (Some p)) (call.insert_before n cells bytes x before) h =
-      by_table c table n _ _ h.0 (ap₂ (λ o at. insert_in n o at) h.3
+  bound_as (request.Change table (change_request.Insert row None)) (call.insert n cells bytes) h =
+      over_table command.Change _ _ c table n h.0 (ap (λ o. insert_in o (Ok None)) h.1)
+  bound_as (request.Change table (change_request.Insert row (Some p))) (call.insert_before n cells bytes x before) h =
+      over_table command.Change _ _ c table n h.0 (ap₂ (λ o at. insert_in o at) h.3
       (by_index is_sequenced c n p.index x (λ i. Ok (Some (i, p.id))) (λ i. Ok (Some (i, before))) h.1 (ap (λ e. Ok (Some (x, e))) h.2)))
-  bound_as (request.Replace table id row) (call.replace n e cells bytes) h =
-      by_table c table n _ _ h.0 (ap₂ (λ i o. and_then (λ values. Ok (command.Replace n i values)) (ok_or o Row)) h.1 h.2)
-  bound_as (request.Modify table id set add rollback) (call.modify n e cells bytes rolls) h =
-      by_table c table n _ _ h.0 (ap (λ o. modify_in n id o rollback) h.3
-      ∙ ap₂ (λ i b. modify_in n i (edits_for (schema_at c n).columns bytes cells) b) h.1 h.2)
-  bound_as (request.Modify table id set add rollback) (call.modify_add n e x k rolls) h =
-      by_table c table n _ _ h.0 (ap (λ o. modify_in n id o rollback) h.3
-      ∙ ap₂ (λ i b. modify_in n i (addition_in (schema_at c n).columns x k) b) h.1 h.2)
-  bound_as (request.Erase table id) (call.erase n e) h = by_table c table n _ _ h.0 (ap (λ i. Ok (command.Erase n i)) h.1)
-  bound_as (request.EraseKey table index key) (call.erase_key n x cells bytes) h =
-      by_table c table n _ _ h.0 (ap (and_then (λ k. Ok (command.EraseKey n k.0 k.1))) (by_index has_keys c n index x _ _ h.1 (ap (found_key x) h.2)))
-  bound_as (request.Relocate table index id before) (call.relocate n x e place) h =
-      by_table c table n _ _ h.0 (by_index is_sequenced c n index x _ _ h.1 (ap₂ (λ i b. Ok (command.Relocate n x i b)) h.2 h.3))
-  bound_as request.Start call.start h = refl
-  bound_as request.Undo call.undo h = refl
-  bound_as request.Squash call.squash h = refl
-  bound_as (request.Commit revision) (call.commit number) h = ap (λ n. Ok (command.Commit n)) h
-  bound_as request.UndoAll call.undo_all h = refl
-  bound_as request.Push call.push h = refl
-  bound_as (request.Get table id) (call.get n e) h = by_table c table n _ _ h.0 (ap (λ i. Ok (command.Get n i)) h.1)
-  bound_as (request.Find table index key) (call.find n x cells bytes) h =
-      by_table c table n _ _ h.0 (ap (and_then (λ k. Ok (command.Find n k.0 k.1))) (by_index has_keys c n index x _ _ h.1 (ap (found_key x) h.2)))
-  bound_as (request.Nth table index place) (call.nth n x at) h =
-      by_table c table n _ _ h.0 (by_index is_ranked c n index x _ _ h.1 (ap (λ i. Ok (command.Nth n x i)) h.2))
-  bound_as (request.Count table index key) (call.count n x cells bytes) h =
-      by_table c table n _ _ h.0 (ap (and_then (λ k. Ok (command.Count n k.0 k.1))) (by_index has_keys c n index x _ _ h.1 (ap (found_key x) h.2)))
-  bound_as (request.Range table index low high reverse limit) (call.range n x lower lower_key upper upper_key bytes backward most) h =
+  bound_as (request.Change table (change_request.Replace id row)) (call.replace n e cells bytes) h =
+      over_table command.Change _ _ c table n h.0 (ap₂ (λ i o. and_then (λ values. Ok (change.Replace i values)) (ok_or o Row)) h.1 h.2)
+  bound_as (request.Change table (change_request.Modify id set add rollback)) (call.modify n e cells bytes rolls) h =
+      over_table command.Change _ _ c table n h.0 (ap (λ o. modify_in id o rollback) h.3
+      ∙ ap₂ (λ i b. modify_in i (edits_for (schema_at c n).columns bytes cells) b) h.1 h.2)
+  bound_as (request.Change table (change_request.Modify id set add rollback)) (call.modify_add n e x k rolls) h =
+      over_table command.Change _ _ c table n h.0 (ap (λ o. modify_in id o rollback) h.3
+      ∙ ap₂ (λ i b. modify_in i (addition_in (schema_at c n).columns x k) b) h.1 h.2)
+  bound_as (request.Change table (change_request.Erase id)) (call.erase n e) h =
+      over_table command.Change _ _ c table n h.0 (ap (λ i. Ok (change.Erase i)) h.1)
+  bound_as (request.Change table (change_request.EraseKey index key)) (call.erase_key n x cells bytes) h =
+      over_table command.Change _ _ c table n h.0 (ap (and_then (λ k. Ok (change.EraseKey k.0 k.1)))
+      (by_index has_keys c n index x _ _ h.1 (ap (found_key x) h.2)))
+  bound_as (request.Change table (change_request.Relocate index id before)) (call.relocate n x e place) h =
+      over_table command.Change _ _ c table n h.0
+      (by_index is_sequenced c n index x _ _ h.1 (ap₂ (λ i b. Ok (change.Relocate x i b)) h.2 h.3))
+  bound_as (request.Session session.Start) call.start h = refl
+  bound_as (request.Session session.Undo) call.undo h = refl
+  bound_as (request.Session session.Squash) call.squash h = refl
+  bound_as (request.Session (session.Commit revision)) (call.commit number) h = ap (λ n. Ok (command.Session (session.Commit n))) h
+  bound_as (request.Session session.UndoAll) call.undo_all h = refl
+  bound_as (request.Session session.Push) call.push h = refl
+  bound_as (request.LookUp table (look_up_request.Get id)) (call.get n e) h =
+      over_table command.LookUp _ _ c table n h.0 (ap (λ i. Ok (look_up.Get i)) h.1)
+  bound_as (request.LookUp table (look_up_request.Find index key)) (call.find n x cells bytes) h =
+      over_table command.LookUp _ _ c table n h.0 (ap (and_then (λ k. Ok (look_up.Find k.0 k.1))) (by_index has_keys c n index x _ _ h.1 (ap (found_key x) h.2)))
+  bound_as (request.LookUp table (look_up_request.Nth index place)) (call.nth n x at) h =
+      over_table command.LookUp _ _ c table n h.0 (by_index is_ranked c n index x _ _ h.1 (ap (λ i. Ok (look_up.Nth x i)) h.2))
+  bound_as (request.LookUp table (look_up_request.Count index key)) (call.count n x cells bytes) h =
+      over_table command.LookUp _ _ c table n h.0 (ap (and_then (λ k. Ok (look_up.Count k.0 k.1))) (by_index has_keys c n index x _ _ h.1 (ap (found_key x) h.2)))
+  bound_as (request.LookUp table (look_up_request.Range index low high reverse limit)) (call.range n x lower lower_key upper upper_key bytes backward most) h =
       let s = schema_at c n in
-      by_table c table n _ _ h.0 (by_index is_sorted c n index x _ _ h.1
-      (ap₂ (λ l u. and_then (λ e. Ok (command.Range n x e.0 e.1 reverse limit)) (ends_in l u)) h.2 h.3
-      ∙ ap₂ (λ b m. and_then (λ e. Ok (command.Range n x e.0 e.1 b m)) (ends_in (lower_in s x lower bytes lower_key) (upper_in s x upper bytes upper_key))) h.4 h.5))
-  bound_as (request.List table index after limit) (call.list n x behind most) h =
-      by_table c table n _ _ h.0 (by_index is_sequenced c n index x _ _ h.1 (ap₂ (λ a m. Ok (command.List n x a m)) h.2 h.3))
-  bound_as (request.Rank table index id) (call.rank n x e) h =
-      by_table c table n _ _ h.0 (by_index is_ranked c n index x _ _ h.1 (ap (λ i. Ok (command.Rank n x i)) h.2))
-  bound_as (request.LowerRank table index key) (call.lower_rank n x cells bytes) h =
-      by_table c table n _ _ h.0 (ap (and_then (λ k. Ok (command.LowerRank n k.0 k.1))) (by_index is_ranked c n index x _ _ h.1 (ap (found_key x) h.2)))
-  bound_as (request.UpperRank table index key) (call.upper_rank n x cells bytes) h =
-      by_table c table n _ _ h.0 (ap (and_then (λ k. Ok (command.UpperRank n k.0 k.1))) (by_index is_ranked c n index x _ _ h.1 (ap (found_key x) h.2)))
-  bound_as (request.Size table) (call.size n) h = by_table c table n _ _ h refl
+      over_table command.LookUp _ _ c table n h.0 (by_index is_sorted c n index x _ _ h.1
+      (ap₂ (λ l u. and_then (λ e. Ok (look_up.Range x e.0 e.1 reverse limit)) (ends_in l u)) h.2 h.3
+      ∙ ap₂ (λ b m. and_then (λ e. Ok (look_up.Range x e.0 e.1 b m)) (ends_in (lower_in s x lower bytes lower_key) (upper_in s x upper bytes upper_key))) h.4 h.5))
+  bound_as (request.LookUp table (look_up_request.List index after limit)) (call.list n x behind most) h =
+      over_table command.LookUp _ _ c table n h.0 (by_index is_sequenced c n index x _ _ h.1 (ap₂ (λ a m. Ok (look_up.List x a m)) h.2 h.3))
+  bound_as (request.LookUp table (look_up_request.Rank index id)) (call.rank n x e) h =
+      over_table command.LookUp _ _ c table n h.0 (by_index is_ranked c n index x _ _ h.1 (ap (λ i. Ok (look_up.Rank x i)) h.2))
+  bound_as (request.LookUp table (look_up_request.LowerRank index key)) (call.lower_rank n x cells bytes) h =
+      over_table command.LookUp _ _ c table n h.0
+      (ap (and_then (λ k. Ok (look_up.LowerRank k.0 k.1))) (by_index is_ranked c n index x _ _ h.1 (ap (found_key x) h.2)))
+  bound_as (request.LookUp table (look_up_request.UpperRank index key)) (call.upper_rank n x cells bytes) h =
+      over_table command.LookUp _ _ c table n h.0
+      (ap (and_then (λ k. Ok (look_up.UpperRank k.0 k.1))) (by_index is_ranked c n index x _ _ h.1 (ap (found_key x) h.2)))
+  bound_as (request.LookUp table look_up_request.Size) (call.size n) h = over_table command.LookUp _ _ c table n h refl
   bound_as r k h = absurd h
 
   -- both are kept out, or neither
   kept_as : (r : Request) (k : Call) → AsksAs c r k → keeps_out r ≡ not (looks k)
-  kept_as (request.Insert table row None) (call.insert n cells bytes) h = refl
-  kept_as (request.Insert table row (Some p)) (call.insert_before n cells bytes x before) h = refl
-  kept_as (request.Replace table id row) (call.replace n e cells bytes) h = refl
-  kept_as (request.Modify table id set add rollback) (call.modify n e cells bytes rolls) h = refl
-  kept_as (request.Modify table id set add rollback) (call.modify_add n e x k rolls) h = refl
-  kept_as (request.Erase table id) (call.erase n e) h = refl
-  kept_as (request.EraseKey table index key) (call.erase_key n x cells bytes) h = refl
-  kept_as (request.Relocate table index id before) (call.relocate n x e place) h = refl
-  kept_as request.Start call.start h = refl
-  kept_as request.Undo call.undo h = refl
-  kept_as request.Squash call.squash h = refl
-  kept_as (request.Commit revision) (call.commit number) h = refl
-  kept_as request.UndoAll call.undo_all h = refl
-  kept_as request.Push call.push h = refl
-  kept_as (request.Get table id) (call.get n e) h = refl
-  kept_as (request.Find table index key) (call.find n x cells bytes) h = refl
-  kept_as (request.Nth table index place) (call.nth n x at) h = refl
-  kept_as (request.Count table index key) (call.count n x cells bytes) h = refl
-  kept_as (request.Range table index low high reverse limit) (call.range n x lower lower_key upper upper_key bytes backward most) h = refl
-  kept_as (request.List table index after limit) (call.list n x behind most) h = refl
-  kept_as (request.Rank table index id) (call.rank n x e) h = refl
-  kept_as (request.LowerRank table index key) (call.lower_rank n x cells bytes) h = refl
-  kept_as (request.UpperRank table index key) (call.upper_rank n x cells bytes) h = refl
-  kept_as (request.Size table) (call.size n) h = refl
+  kept_as (request.Change table (change_request.Insert row None)) (call.insert n cells bytes) h = refl
+  kept_as (request.Change table (change_request.Insert row (Some p))) (call.insert_before n cells bytes x before) h = refl
+  kept_as (request.Change table (change_request.Replace id row)) (call.replace n e cells bytes) h = refl
+  kept_as (request.Change table (change_request.Modify id set add rollback)) (call.modify n e cells bytes rolls) h = refl
+  kept_as (request.Change table (change_request.Modify id set add rollback)) (call.modify_add n e x k rolls) h = refl
+  kept_as (request.Change table (change_request.Erase id)) (call.erase n e) h = refl
+  kept_as (request.Change table (change_request.EraseKey index key)) (call.erase_key n x cells bytes) h = refl
+  kept_as (request.Change table (change_request.Relocate index id before)) (call.relocate n x e place) h = refl
+  kept_as (request.Session session.Start) call.start h = refl
+  kept_as (request.Session session.Undo) call.undo h = refl
+  kept_as (request.Session session.Squash) call.squash h = refl
+  kept_as (request.Session (session.Commit revision)) (call.commit number) h = refl
+  kept_as (request.Session session.UndoAll) call.undo_all h = refl
+  kept_as (request.Session session.Push) call.push h = refl
+  kept_as (request.LookUp table (look_up_request.Get id)) (call.get n e) h = refl
+  kept_as (request.LookUp table (look_up_request.Find index key)) (call.find n x cells bytes) h = refl
+  kept_as (request.LookUp table (look_up_request.Nth index place)) (call.nth n x at) h = refl
+  kept_as (request.LookUp table (look_up_request.Count index key)) (call.count n x cells bytes) h = refl
+  kept_as (request.LookUp table (look_up_request.Range index low high reverse limit)) (call.range n x lower lower_key upper upper_key bytes backward most) h = refl
+  kept_as (request.LookUp table (look_up_request.List index after limit)) (call.list n x behind most) h = refl
+  kept_as (request.LookUp table (look_up_request.Rank index id)) (call.rank n x e) h = refl
+  kept_as (request.LookUp table (look_up_request.LowerRank index key)) (call.lower_rank n x cells bytes) h = refl
+  kept_as (request.LookUp table (look_up_request.UpperRank index key)) (call.upper_rank n x cells bytes) h = refl
+  kept_as (request.LookUp table look_up_request.Size) (call.size n) h = refl
   kept_as r k h = absurd h
 
 -- the command of the one where it isn't kept out is that of the other

@@ -4,7 +4,9 @@ use Rattle.mi_value.specs.declared.refusal.Refusal.{Refusal}
 use Rattle.mi_value.specs.declared.refusal.Refusal.TheVariants.{Busy, Memory}
 use Rattle.mi_protocol.specs.Replies as say
 use Rattle.mi_protocol.specs.Replies.{Said}
-use Rattle.mi_protocol.specs.declared.binding.Command.{Command}
+use Rattle.mi_request.specs.declared.request.SessionCommand.{SessionCommand}
+use Rattle.mi_protocol.specs.declared.command.Change.{Change}
+use Rattle.mi_protocol.specs.declared.command.Command.TheVariants as command
 use Rattle.mi_request.specs.Answers.{IsAnswer}
 use Rattle.mi_commands.specs.Answer.{command_answer}
 use Rattle.mi_commands.specs.Holder.{HeldDatabase, is_busy}
@@ -12,36 +14,35 @@ use Rattle.mi_commands.specs.Told.{ToldOrMemory, SaysMemory}
 use Rattle.mi_embed.specs.State.{EngineState}
 use Rattle.mi_embed.specs.declared.told.Told.{Told}
 use Rattle.mi_embed.specs.Told.{refused}
-use Rattle.mi_embed.specs.Calls.{Call, asked, takes_none, MayAnswer, MayLack, Tells, TellsAsked, TellsStep}
+use Rattle.mi_embed.specs.Calls.{Call, of_table, asked, takes_none, MayAnswer, Tells, TellsChange, TellsStep}
 
--- what is asked as it is defined, or refused for want of memory
-by_asked : (conn : ℕ) (k : Call) (s t : HeldDatabase) (r : Result Command Refusal) (said : Said) → takes_none k ≡ false → IsAnswer r (asked s conn k)
-    → ToldOrMemory (MayLack r) (command_answer s conn r) s said t → MayAnswer conn s k said t
-by_asked conn k s t (Ok c) said may is (inl p) =
+-- a change is asked as it is defined, or refused for want of memory
+by_asked : (conn : ℕ) (k : Call) (s t : HeldDatabase) (n : ℕ) (r : Result Change Refusal) (said : Said) → takes_none k ≡ false
+    → IsAnswer (of_table command.Change n r) (asked s conn k)
+    → ToldOrMemory (Unit {0}) (command_answer s 0 (of_table command.Change n r)) s said t → MayAnswer conn s k said t
+by_asked conn k s t n r said may is (inr p) = inr (may, p.1, p.2)
+by_asked conn k s t n (Ok x) said may is (inl p) =
     inl (p.0 ∙ ap (λ q. (command_answer s conn q).0) (sym is), p.1 ∙ ap (λ q. (command_answer s conn q).1) (sym is))
-by_asked conn k s t (Ok c) said may is (inr p) = inr (may, p.1, p.2)
-by_asked conn k s t (Err Memory) said may is (inl p) = inr (may, subst SaysMemory (sym p.0) tt, p.1)
-by_asked conn k s t (Err Memory) said may is (inr p) = absurd p.0
-by_asked conn k s t (Err e) said may is (inl p) =
+by_asked conn k s t n (Err Memory) said may is (inl p) = inr (may, subst SaysMemory (sym p.0) tt, p.1)
+by_asked conn k s t n (Err e) said may is (inl p) =
     inl (p.0 ∙ ap (λ q. (command_answer s conn q).0) (sym is), p.1 ∙ ap (λ q. (command_answer s conn q).1) (sym is))
-by_asked conn k s t (Err e) said may is (inr p) = absurd p.0
 
-pub tells : (conn : ℕ) (k : Call) (r : Result Command Refusal) (told : Told) (old new : EngineState) → takes_none k ≡ false → IsAnswer r (asked old.held conn k)
-    → TellsAsked conn r told old new → Tells conn k told old new
-tells conn k r told old new may is t = (t.0, by_asked conn k old.held new.held r t.0 may is t.1, t.2, t.3)
+pub tells : (conn : ℕ) (k : Call) (n : ℕ) (r : Result Change Refusal) (told : Told) (old new : EngineState) → takes_none k ≡ false
+    → IsAnswer (of_table command.Change n r) (asked old.held conn k) → TellsChange n r told old new → Tells conn k told old new
+tells conn k n r told old new may is t = (t.0, by_asked conn k old.held new.held n r t.0 may is t.1, t.2, t.3)
 
 -- a refusal is told, and nothing changes
-pub tells_refusal : (conn : ℕ) (r : Result Command Refusal) (e : Refusal) (told : Told) (s : EngineState) → r ≡ Err e → told ≡ refused e
-    → TellsAsked conn r told s s
-tells_refusal conn r e told s is told_is = subst (λ q. TellsAsked conn q told s s) (sym is) (say.refused 0 e, inl (refl, refl), told_is, refl)
+pub tells_refusal : (n : ℕ) (r : Result Change Refusal) (e : Refusal) (told : Told) (s : EngineState) → r ≡ Err e → told ≡ refused e
+    → TellsChange n r told s s
+tells_refusal n r e told s is told_is = subst (λ q. TellsChange n q told s s) (sym is) (say.refused 0 e, inl (refl, refl), told_is, refl)
 
-pub tells_busy : (conn : ℕ) (c : Command) (told : Told) (s : EngineState) → is_busy s.held.holder conn ≡ true → told ≡ refused Busy
-    → TellsStep conn c told s s
-tells_busy conn c told s busy is = (
+pub tells_busy : (conn : ℕ) (x : SessionCommand) (told : Told) (s : EngineState) → is_busy s.held.holder conn ≡ true → told ≡ refused Busy
+    → TellsStep conn x told s s
+tells_busy conn x told s busy is = (
   say.refused 0 Busy,
   inl (
-    sym (ap (λ b. (command_answer s.held conn (cond b (Err Busy) (Ok c))).0) busy),
-    sym (ap (λ b. (command_answer s.held conn (cond b (Err Busy) (Ok c))).1) busy),
+    sym (ap (λ b. (command_answer s.held conn (cond b (Err Busy) (Ok (command.Session x)))).0) busy),
+    sym (ap (λ b. (command_answer s.held conn (cond b (Err Busy) (Ok (command.Session x)))).1) busy),
   ),
   is,
   refl,

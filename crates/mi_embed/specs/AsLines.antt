@@ -6,8 +6,11 @@ use Rattle.std.specs.Option.{ok_or}
 use Rattle.mi_value.specs.declared.refusal.Refusal.TheVariants.{Index}
 use Rattle.mi_catalog.specs.Kinds.{is_hashed}
 use Rattle.mi_catalog.specs.Shape.{CatalogShape, schema_at, index_at, find_index}
+use Rattle.mi_request.specs.declared.request.ChangeRequest.TheVariants as change
+use Rattle.mi_request.specs.declared.request.LookUpRequest.TheVariants as look_up
 use Rattle.mi_request.specs.declared.request.Request.{Request}
 use Rattle.mi_request.specs.declared.request.Request.TheVariants as request
+use Rattle.mi_request.specs.declared.request.SessionCommand.TheVariants as session
 use Rattle.mi_protocol.specs.Binding.{table_number}
 use Rattle.mi_protocol.specs.Edits.{bound_edits}
 use Rattle.mi_protocol.specs.Keys.{bound_key, bound_lower, bound_upper}
@@ -31,45 +34,45 @@ IsIndex c n name x = ok_or (find_index (schema_at c n) name) Index ≡ numbered 
 
 -- the request of a line asks what a call asks
 abbrev pub AsksAs : CatalogShape → Request → Call → Type 0
-AsksAs c (request.Insert table row None) (call.insert n cells bytes) =
+AsksAs c (request.Change table (change.Insert row None)) (call.insert n cells bytes) =
     IsTable c table n × (bound_row (schema_at c n).columns row ≡ row_in (schema_at c n).columns bytes cells)
-AsksAs c (request.Insert table row (Some p)) (call.insert_before n cells bytes x before) =
+AsksAs c (request.Change table (change.Insert row (Some p))) (call.insert_before n cells bytes x before) =
     IsTable c table n × IsIndex c n p.index x × (p.id ≡ before) × (bound_row (schema_at c n).columns row ≡ row_in (schema_at c n).columns bytes cells)
-AsksAs c (request.Replace table id row) (call.replace n e cells bytes) =
+AsksAs c (request.Change table (change.Replace id row)) (call.replace n e cells bytes) =
     IsTable c table n × (id ≡ e) × (bound_row (schema_at c n).columns row ≡ row_in (schema_at c n).columns bytes cells)
-AsksAs c (request.Modify table id set add rollback) (call.modify n e cells bytes rolls) =
+AsksAs c (request.Change table (change.Modify id set add rollback)) (call.modify n e cells bytes rolls) =
     IsTable c table n × (id ≡ e) × (rollback ≡ rolls) × (bound_edits (schema_at c n).columns set add ≡ edits_for (schema_at c n).columns bytes cells)
-AsksAs c (request.Modify table id set add rollback) (call.modify_add n e x k rolls) =
+AsksAs c (request.Change table (change.Modify id set add rollback)) (call.modify_add n e x k rolls) =
     IsTable c table n × (id ≡ e) × (rollback ≡ rolls) × (bound_edits (schema_at c n).columns set add ≡ addition_in (schema_at c n).columns x k)
-AsksAs c (request.Erase table id) (call.erase n e) = IsTable c table n × (id ≡ e)
-AsksAs c (request.EraseKey table index key) (call.erase_key n x cells bytes) =
+AsksAs c (request.Change table (change.Erase id)) (call.erase n e) = IsTable c table n × (id ≡ e)
+AsksAs c (request.Change table (change.EraseKey index key)) (call.erase_key n x cells bytes) =
     IsTable c table n × IsIndex c n index x × (bound_key (schema_at c n) x true key ≡ key_in (schema_at c n) x true bytes cells)
-AsksAs c (request.Relocate table index id before) (call.relocate n x e place) = IsTable c table n × IsIndex c n index x × (id ≡ e) × (before ≡ place)
-AsksAs c request.Start call.start = Unit {0}
-AsksAs c request.Undo call.undo = Unit {0}
-AsksAs c request.Squash call.squash = Unit {0}
-AsksAs c (request.Commit revision) (call.commit number) = revision ≡ number
-AsksAs c request.UndoAll call.undo_all = Unit {0}
-AsksAs c request.Push call.push = Unit {0}
-AsksAs c (request.Get table id) (call.get n e) = IsTable c table n × (id ≡ e)
-AsksAs c (request.Find table index key) (call.find n x cells bytes) =
+AsksAs c (request.Change table (change.Relocate index id before)) (call.relocate n x e place) = IsTable c table n × IsIndex c n index x × (id ≡ e) × (before ≡ place)
+AsksAs c (request.Session session.Start) call.start = Unit {0}
+AsksAs c (request.Session session.Undo) call.undo = Unit {0}
+AsksAs c (request.Session session.Squash) call.squash = Unit {0}
+AsksAs c (request.Session (session.Commit revision)) (call.commit number) = revision ≡ number
+AsksAs c (request.Session session.UndoAll) call.undo_all = Unit {0}
+AsksAs c (request.Session session.Push) call.push = Unit {0}
+AsksAs c (request.LookUp table (look_up.Get id)) (call.get n e) = IsTable c table n × (id ≡ e)
+AsksAs c (request.LookUp table (look_up.Find index key)) (call.find n x cells bytes) =
     IsTable c table n × IsIndex c n index x
     × (bound_key (schema_at c n) x (is_hashed (index_at (schema_at c n) x).kind) key ≡ key_in (schema_at c n) x (is_hashed (index_at (schema_at c n) x).kind) bytes cells)
-AsksAs c (request.Nth table index place) (call.nth n x at) = IsTable c table n × IsIndex c n index x × (place ≡ at)
-AsksAs c (request.Count table index key) (call.count n x cells bytes) =
+AsksAs c (request.LookUp table (look_up.Nth index place)) (call.nth n x at) = IsTable c table n × IsIndex c n index x × (place ≡ at)
+AsksAs c (request.LookUp table (look_up.Count index key)) (call.count n x cells bytes) =
     IsTable c table n × IsIndex c n index x
     × (bound_key (schema_at c n) x (is_hashed (index_at (schema_at c n) x).kind) key ≡ key_in (schema_at c n) x (is_hashed (index_at (schema_at c n) x).kind) bytes cells)
-AsksAs c (request.Range table index low high reverse limit) (call.range n x lower lower_key upper upper_key bytes backward most) =
+AsksAs c (request.LookUp table (look_up.Range index low high reverse limit)) (call.range n x lower lower_key upper upper_key bytes backward most) =
     IsTable c table n × IsIndex c n index x × (bound_lower (schema_at c n) x low ≡ lower_in (schema_at c n) x lower bytes lower_key)
     × (bound_upper (schema_at c n) x high ≡ upper_in (schema_at c n) x upper bytes upper_key) × (reverse ≡ backward) × (limit ≡ most)
-AsksAs c (request.List table index after limit) (call.list n x behind most) =
+AsksAs c (request.LookUp table (look_up.List index after limit)) (call.list n x behind most) =
     IsTable c table n × IsIndex c n index x × (after ≡ behind) × (limit ≡ most)
-AsksAs c (request.Rank table index id) (call.rank n x e) = IsTable c table n × IsIndex c n index x × (id ≡ e)
-AsksAs c (request.LowerRank table index key) (call.lower_rank n x cells bytes) =
+AsksAs c (request.LookUp table (look_up.Rank index id)) (call.rank n x e) = IsTable c table n × IsIndex c n index x × (id ≡ e)
+AsksAs c (request.LookUp table (look_up.LowerRank index key)) (call.lower_rank n x cells bytes) =
     IsTable c table n × IsIndex c n index x × (bound_key (schema_at c n) x false key ≡ key_in (schema_at c n) x false bytes cells)
-AsksAs c (request.UpperRank table index key) (call.upper_rank n x cells bytes) =
+AsksAs c (request.LookUp table (look_up.UpperRank index key)) (call.upper_rank n x cells bytes) =
     IsTable c table n × IsIndex c n index x × (bound_key (schema_at c n) x false key ≡ key_in (schema_at c n) x false bytes cells)
-AsksAs c (request.Size table) (call.size n) = IsTable c table n
+AsksAs c (request.LookUp table look_up.Size) (call.size n) = IsTable c table n
 AsksAs c r k = ⊥
 
 -- The answer to a line, and what it leaves, are those of each call that asks what the line asks.

@@ -16,10 +16,16 @@ use Rattle.mi_catalog.specs.Kinds.{has_keys, is_sorted, is_sequenced, is_ranked,
 use Rattle.mi_catalog.specs.Shape.{Shape, CatalogShape, schema_at, index_at}
 use Rattle.mi_protocol.specs.Binding.{and_then}
 use Rattle.mi_protocol.specs.Replies.{Said}
-use Rattle.mi_protocol.specs.declared.binding.Command.{Command}
-use Rattle.mi_protocol.specs.declared.binding.Command.TheVariants as command
+use Rattle.mi_request.specs.declared.request.SessionCommand.{SessionCommand}
+use Rattle.mi_request.specs.declared.request.SessionCommand.TheVariants as session
+use Rattle.mi_protocol.specs.declared.command.Change.{Change}
+use Rattle.mi_protocol.specs.declared.command.Change.TheVariants as change
+use Rattle.mi_protocol.specs.declared.command.Command.{Command}
+use Rattle.mi_protocol.specs.declared.command.Command.TheVariants as command
+use Rattle.mi_protocol.specs.declared.command.LookUp.TheVariants as look_up
 use Rattle.mi_commands.specs.Answer.{command_answer, done_without}
 use Rattle.mi_commands.specs.Holder.{HeldDatabase, is_busy}
+use Rattle.mi_commands.specs.Performed.{performed}
 use Rattle.mi_commands.specs.Told.{ToldOrMemory}
 use Rattle.mi_embed.specs.State.{EngineState}
 use Rattle.mi_embed.specs.declared.cell.Cell.{Cell}
@@ -58,17 +64,17 @@ pub data Call : Type 0 where
   upper_rank : ℕ → ℕ → List Cell → List ℕ → Call
   size : ℕ → Call
 
--- an insert into table n, whose place is judged before its row
-abbrev pub insert_in : ℕ → Option (List Value) → Result (Option (ℕ × ℕ)) Refusal → Result Command Refusal
-insert_in n row place = and_then (λ at. and_then (λ values. Ok (command.Insert n values at)) (ok_or row Row)) place
+-- an insert, whose place is judged before its row
+abbrev pub insert_in : Option (List Value) → Result (Option (ℕ × ℕ)) Refusal → Result Change Refusal
+insert_in row place = and_then (λ at. and_then (λ values. Ok (change.Insert values at)) (ok_or row Row)) place
 
 -- one addition to a column of whole numbers
 abbrev pub addition_in : List Column → ℕ → ℤ → Option (List Edit)
 addition_in cs x n = if fits_edit cs (Add x n) then Some (Add x n ∷ []) else None
 
 -- a modification by edits, where they are some
-abbrev pub modify_in : ℕ → ℕ → Option (List Edit) → Bool → Result Command Refusal
-modify_in n id edits rollback = and_then (λ es. Ok (command.Modify n id es rollback)) (ok_or edits Row)
+abbrev pub modify_in : ℕ → Option (List Edit) → Bool → Result Change Refusal
+modify_in id edits rollback = and_then (λ es. Ok (change.Modify id es rollback)) (ok_or edits Row)
 
 -- an index of a kind that the command is for, and a key of it: whole where its kind wants that
 abbrev pub key_of : (IndexKind → Bool) → (IndexKind → Bool) → Shape → ℕ → List Cell → List ℕ → Result (ℕ × List Value) Refusal
@@ -90,42 +96,43 @@ ranked_key s x cells bytes = key_of is_ranked (λ kind. false) s x cells bytes
 abbrev pub ends_in : Option Lower → Option Upper → Result (Lower × Upper) Refusal
 ends_in lower upper = and_then (λ low. and_then (λ high. Ok (low, high)) (ok_or upper Key)) (ok_or lower Key)
 
+-- a change or a look-up of a table, where it is there
+abbrev pub of_table : {A : Type 0} → (ℕ → A → Command) → ℕ → Result A Refusal → Result Command Refusal
+of_table make n x = and_then (λ v. Ok (make n v)) x
+
+abbrev pub over : {A : Type 0} → (ℕ → A → Command) → (Shape → Result A Refusal) → CatalogShape → ℕ → Result Command Refusal
+over make bound c n = and_then (λ t. of_table make t (bound (schema_at c t))) (table_in c n)
+
 -- the command that a call asks over a catalog: refused as `table`, `index`, `kind`, `row`, `key` in this order
 abbrev pub command_in : CatalogShape → Call → Result Command Refusal
-command_in c (insert n cells bytes) = and_then (λ t. insert_in t (row_in (schema_at c t).columns bytes cells) (Ok None)) (table_in c n)
+command_in c (insert n cells bytes) = over command.Change (λ s. insert_in (row_in s.columns bytes cells) (Ok None)) c n
 command_in c (insert_before n cells bytes x id) =
-    and_then (λ t. insert_in t (row_in (schema_at c t).columns bytes cells)
-    (and_then (λ i. Ok (Some (i, id))) (index_in is_sequenced (schema_at c t) x))) (table_in c n)
+    over command.Change (λ s. insert_in (row_in s.columns bytes cells) (and_then (λ i. Ok (Some (i, id))) (index_in is_sequenced s x))) c n
 command_in c (replace n id cells bytes) =
-    and_then (λ t. and_then (λ values. Ok (command.Replace t id values)) (ok_or (row_in (schema_at c t).columns bytes cells) Row)) (table_in c n)
-command_in c (modify n id cells bytes rollback) = and_then (λ t. modify_in t id (edits_for (schema_at c t).columns bytes cells) rollback) (table_in c n)
-command_in c (modify_add n id x k rollback) = and_then (λ t. modify_in t id (addition_in (schema_at c t).columns x k) rollback) (table_in c n)
-command_in c (erase n id) = and_then (λ t. Ok (command.Erase t id)) (table_in c n)
-command_in c (erase_key n x cells bytes) = and_then (λ t. and_then (λ k. Ok (command.EraseKey t k.0 k.1)) (whole_key (schema_at c t) x cells bytes)) (table_in c n)
-command_in c (relocate n x id before) =
-    and_then (λ t. and_then (λ i. Ok (command.Relocate t i id before)) (index_in is_sequenced (schema_at c t) x)) (table_in c n)
-command_in c start = Ok command.Start
-command_in c undo = Ok command.Undo
-command_in c squash = Ok command.Squash
-command_in c (commit number) = Ok (command.Commit number)
-command_in c undo_all = Ok command.UndoAll
-command_in c push = Ok command.Push
-command_in c (get n id) = and_then (λ t. Ok (command.Get t id)) (table_in c n)
-command_in c (find n x cells bytes) = and_then (λ t. and_then (λ k. Ok (command.Find t k.0 k.1)) (key_or_prefix (schema_at c t) x cells bytes)) (table_in c n)
-command_in c (nth n x place) = and_then (λ t. and_then (λ i. Ok (command.Nth t i place)) (index_in is_ranked (schema_at c t) x)) (table_in c n)
-command_in c (count n x cells bytes) = and_then (λ t. and_then (λ k. Ok (command.Count t k.0 k.1)) (key_or_prefix (schema_at c t) x cells bytes)) (table_in c n)
+    over command.Change (λ s. and_then (λ values. Ok (change.Replace id values)) (ok_or (row_in s.columns bytes cells) Row)) c n
+command_in c (modify n id cells bytes rollback) = over command.Change (λ s. modify_in id (edits_for s.columns bytes cells) rollback) c n
+command_in c (modify_add n id x k rollback) = over command.Change (λ s. modify_in id (addition_in s.columns x k) rollback) c n
+command_in c (erase n id) = over command.Change (λ s. Ok (change.Erase id)) c n
+command_in c (erase_key n x cells bytes) = over command.Change (λ s. and_then (λ k. Ok (change.EraseKey k.0 k.1)) (whole_key s x cells bytes)) c n
+command_in c (relocate n x id before) = over command.Change (λ s. and_then (λ i. Ok (change.Relocate i id before)) (index_in is_sequenced s x)) c n
+command_in c start = Ok (command.Session session.Start)
+command_in c undo = Ok (command.Session session.Undo)
+command_in c squash = Ok (command.Session session.Squash)
+command_in c (commit number) = Ok (command.Session (session.Commit number))
+command_in c undo_all = Ok (command.Session session.UndoAll)
+command_in c push = Ok (command.Session session.Push)
+command_in c (get n id) = over command.LookUp (λ s. Ok (look_up.Get id)) c n
+command_in c (find n x cells bytes) = over command.LookUp (λ s. and_then (λ k. Ok (look_up.Find k.0 k.1)) (key_or_prefix s x cells bytes)) c n
+command_in c (nth n x place) = over command.LookUp (λ s. and_then (λ i. Ok (look_up.Nth i place)) (index_in is_ranked s x)) c n
+command_in c (count n x cells bytes) = over command.LookUp (λ s. and_then (λ k. Ok (look_up.Count k.0 k.1)) (key_or_prefix s x cells bytes)) c n
 command_in c (range n x lower lower_key upper upper_key bytes reverse limit) =
-    and_then (λ t. and_then (λ i. and_then (λ e. Ok (command.Range t i e.0 e.1 reverse limit))
-    (ends_in (lower_in (schema_at c t) i lower bytes lower_key) (upper_in (schema_at c t) i upper bytes upper_key)))
-    (index_in is_sorted (schema_at c t) x)) (table_in c n)
-command_in c (list n x after limit) =
-    and_then (λ t. and_then (λ i. Ok (command.List t i after limit)) (index_in is_sequenced (schema_at c t) x)) (table_in c n)
-command_in c (rank n x id) = and_then (λ t. and_then (λ i. Ok (command.Rank t i id)) (index_in is_ranked (schema_at c t) x)) (table_in c n)
-command_in c (lower_rank n x cells bytes) =
-    and_then (λ t. and_then (λ k. Ok (command.LowerRank t k.0 k.1)) (ranked_key (schema_at c t) x cells bytes)) (table_in c n)
-command_in c (upper_rank n x cells bytes) =
-    and_then (λ t. and_then (λ k. Ok (command.UpperRank t k.0 k.1)) (ranked_key (schema_at c t) x cells bytes)) (table_in c n)
-command_in c (size n) = and_then (λ t. Ok (command.Size t)) (table_in c n)
+    over command.LookUp (λ s. and_then (λ i. and_then (λ e. Ok (look_up.Range i e.0 e.1 reverse limit))
+    (ends_in (lower_in s i lower bytes lower_key) (upper_in s i upper bytes upper_key))) (index_in is_sorted s x)) c n
+command_in c (list n x after limit) = over command.LookUp (λ s. and_then (λ i. Ok (look_up.List i after limit)) (index_in is_sequenced s x)) c n
+command_in c (rank n x id) = over command.LookUp (λ s. and_then (λ i. Ok (look_up.Rank i id)) (index_in is_ranked s x)) c n
+command_in c (lower_rank n x cells bytes) = over command.LookUp (λ s. and_then (λ k. Ok (look_up.LowerRank k.0 k.1)) (ranked_key s x cells bytes)) c n
+command_in c (upper_rank n x cells bytes) = over command.LookUp (λ s. and_then (λ k. Ok (look_up.UpperRank k.0 k.1)) (ranked_key s x cells bytes)) c n
+command_in c (size n) = over command.LookUp (λ s. Ok look_up.Size) c n
 
 -- a look-up, which is answered whoever holds sessions; any other call is kept out while another connection holds some
 abbrev pub looks : Call → Bool
@@ -175,17 +182,21 @@ MayAnswer conn s k said t = ToldOrMemory (takes_none k ≡ false) (call_answer s
 abbrev pub Tells : ℕ → Call → Told → EngineState → EngineState → Type 0
 Tells conn k told old new = (said : Said) × MayAnswer conn old.held k said new.held × (told ≡ told_of said) × (new.reply ≡ old.reply)
 
--- what is said of what is asked, whatever call asks it; a refusal takes no memory
-abbrev pub MayLack : Result Command Refusal → Type 0
-MayLack (Ok c) = done_without c ≡ false
-MayLack (Err e) = ⊥
+-- what is told of the change that is asked of table n, whatever call asks it; or of why it is refused
+abbrev pub TellsChange : ℕ → Result Change Refusal → Told → EngineState → EngineState → Type 0
+TellsChange n asked told old new =
+    (said : Said) × ToldOrMemory (Unit {0}) (command_answer old.held 0 (of_table command.Change n asked)) old.held said new.held
+    × (told ≡ told_of said) × (new.reply ≡ old.reply)
 
-abbrev pub TellsAsked : ℕ → Result Command Refusal → Told → EngineState → EngineState → Type 0
-TellsAsked conn asked told old new =
-    (said : Said) × ToldOrMemory (MayLack asked) (command_answer old.held conn asked) old.held said new.held × (told ≡ told_of said) × (new.reply ≡ old.reply)
+-- what is told of a command over sessions
+abbrev pub TellsDone : ℕ → SessionCommand → Told → EngineState → EngineState → Type 0
+TellsDone conn x told old new =
+    let c = command.Session x in
+    (said : Said) × ToldOrMemory (done_without c ≡ false) (performed old.held conn c) old.held said new.held × (told ≡ told_of said) × (new.reply ≡ old.reply)
 
--- what is said of a session step, unless it is kept out
-abbrev pub TellsStep : ℕ → Command → Told → EngineState → EngineState → Type 0
-TellsStep conn c told old new =
+-- the same, unless it is kept out
+abbrev pub TellsStep : ℕ → SessionCommand → Told → EngineState → EngineState → Type 0
+TellsStep conn x told old new =
+    let c = command.Session x in
     (said : Said) × ToldOrMemory (done_without c ≡ false) (command_answer old.held conn (unless_busy old.held conn (Ok c))) old.held said new.held
     × (told ≡ told_of said) × (new.reply ≡ old.reply)

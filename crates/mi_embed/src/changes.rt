@@ -1,14 +1,14 @@
-//! The changes with values in place of a line: from cells to a command, and from its answer to what is told. What a line's text would be refused
+//! The changes with values in place of a line: from cells to a change, and from its answer to what is told. What a line's text would be refused
 //! for is refused here.
 ghost use Rattle.std.specs.Prelude.{◌≡◌, IfOk, MatchResult, true, false};
 ghost use Rattle.mi_catalog.specs.Fits.{fits_edit};
 ghost use Rattle.mi_commands.specs.Holder.{is_busy};
-ghost use Rattle.mi_commands.specs.Told.{looks_up};
 ghost use Rattle.mi_protocol.specs.Binding.{FitsCatalog};
+ghost use Rattle.mi_protocol.specs.declared.command.Command.TheVariants as command;
 ghost use Rattle.mi_request.specs.Answers.{IsAnswer};
 ghost use Rattle.mi_value.specs.declared.edit.Edit.TheVariants as edit;
 ghost use Rattle.mi_embed.specs.Calls as call;
-ghost use Rattle.mi_embed.specs.Calls.{Tells};
+ghost use Rattle.mi_embed.specs.Calls.{of_table, Tells};
 
 use crate::asked::{key_for, keyed_index, row_of, schema_of, sequenced_index};
 use crate::cell::Cell;
@@ -16,7 +16,7 @@ use crate::edits::{EditCell, edits_for};
 use crate::engine::Engine;
 use crate::told::Told;
 use mi_catalog::{Catalog, Column};
-use mi_protocol::{Command, Edits};
+use mi_protocol::{Change, Edits};
 use mi_sessions::Sessions;
 use mi_value::{ColumnType, Edit, Refusal};
 
@@ -30,7 +30,7 @@ fn can_add(columns: &[Column], column: usize, n: i64) -> bool
     }
 }
 
-/// Which command a change asks, where nothing is refused first. `Busy`, while another connection holds sessions, comes before all else.
+/// Which change a call asks, where nothing is refused first. `Busy`, while another connection holds sessions, comes before all else.
 impl Engine {
     /// The catalog, where this connection may change tables. Refusal: `Busy`.
     fn changeable(&self, conn: u64) -> Result<&Catalog, Refusal>
@@ -51,14 +51,14 @@ impl Engine {
         table: usize,
         cells: &[Cell],
         texts: &[u8],
-    ) -> Result<Command, Refusal>
-        ensures asked { IsAnswer result (call.asked self.now.held conn (call.insert table cells.now texts.now)) }
-        ensures fits { IfOk result (λ c. FitsCatalog self.now.held.database.catalog c × (looks_up c ≡ false)) }
+    ) -> Result<Change, Refusal>
+        ensures asked { IsAnswer (of_table command.Change table result) (call.asked self.now.held conn (call.insert table cells.now texts.now)) }
+        ensures fits { IfOk result (λ change. FitsCatalog self.now.held.database.catalog (command.Change table change)) }
     {
         let schema = schema_of(self.changeable(conn)?, table)?;
         let row = row_of(self.alloc, schema, cells, texts)?;
         let before = None;
-        Ok(Command::Insert { table, row, before })
+        Ok(Change::Insert { row, before })
     }
 
     /// What an insert before a record asks: its index is judged before its row.
@@ -70,15 +70,15 @@ impl Engine {
         texts: &[u8],
         index: usize,
         before: u64,
-    ) -> Result<Command, Refusal>
-        ensures asked { IsAnswer result (call.asked self.now.held conn (call.insert_before table cells.now texts.now index before)) }
-        ensures fits { IfOk result (λ c. FitsCatalog self.now.held.database.catalog c × (looks_up c ≡ false)) }
+    ) -> Result<Change, Refusal>
+        ensures asked { IsAnswer (of_table command.Change table result) (call.asked self.now.held conn (call.insert_before table cells.now texts.now index before)) }
+        ensures fits { IfOk result (λ change. FitsCatalog self.now.held.database.catalog (command.Change table change)) }
     {
         let schema = schema_of(self.changeable(conn)?, table)?;
         let index = sequenced_index(schema, index)?;
         let row = row_of(self.alloc, schema, cells, texts)?;
         let before = Some((index, before));
-        Ok(Command::Insert { table, row, before })
+        Ok(Change::Insert { row, before })
     }
 
     /// What a replacement asks.
@@ -89,13 +89,13 @@ impl Engine {
         id: u64,
         cells: &[Cell],
         texts: &[u8],
-    ) -> Result<Command, Refusal>
-        ensures asked { IsAnswer result (call.asked self.now.held conn (call.replace table id cells.now texts.now)) }
-        ensures fits { IfOk result (λ c. FitsCatalog self.now.held.database.catalog c × (looks_up c ≡ false)) }
+    ) -> Result<Change, Refusal>
+        ensures asked { IsAnswer (of_table command.Change table result) (call.asked self.now.held conn (call.replace table id cells.now texts.now)) }
+        ensures fits { IfOk result (λ change. FitsCatalog self.now.held.database.catalog (command.Change table change)) }
     {
         let schema = schema_of(self.changeable(conn)?, table)?;
         let row = row_of(self.alloc, schema, cells, texts)?;
-        Ok(Command::Replace { table, id, row })
+        Ok(Change::Replace { id, row })
     }
 
     /// What an addition asks. It takes no memory.
@@ -107,16 +107,15 @@ impl Engine {
         column: usize,
         n: i64,
         rollback: bool,
-    ) -> Result<Command, Refusal>
-        ensures asked { IsAnswer result (call.asked self.now.held conn (call.modify_add table id column n rollback)) }
-        ensures fits { IfOk result (λ c. FitsCatalog self.now.held.database.catalog c × (looks_up c ≡ false)) }
+    ) -> Result<Change, Refusal>
+        ensures asked { IsAnswer (of_table command.Change table result) (call.asked self.now.held conn (call.modify_add table id column n rollback)) }
+        ensures fits { IfOk result (λ change. FitsCatalog self.now.held.database.catalog (command.Change table change)) }
     {
         let schema = schema_of(self.changeable(conn)?, table)?;
         if !can_add(schema.columns(), column, n) {
             return Err(Refusal::Row);
         }
-        Ok(Command::Modify {
-            table,
+        Ok(Change::Modify {
             id,
             edits: Edits::one(Edit::Add(column, n)),
             rollback,
@@ -132,14 +131,13 @@ impl Engine {
         edits: &[EditCell],
         texts: &[u8],
         rollback: bool,
-    ) -> Result<Command, Refusal>
-        ensures asked { IsAnswer result (call.asked self.now.held conn (call.modify table id edits.now texts.now rollback)) }
-        ensures fits { IfOk result (λ c. FitsCatalog self.now.held.database.catalog c × (looks_up c ≡ false)) }
+    ) -> Result<Change, Refusal>
+        ensures asked { IsAnswer (of_table command.Change table result) (call.asked self.now.held conn (call.modify table id edits.now texts.now rollback)) }
+        ensures fits { IfOk result (λ change. FitsCatalog self.now.held.database.catalog (command.Change table change)) }
     {
         let schema = schema_of(self.changeable(conn)?, table)?;
         let edits = edits_for(self.alloc, schema, edits, texts)?;
-        Ok(Command::Modify {
-            table,
+        Ok(Change::Modify {
             id,
             edits: Edits::of(edits),
             rollback,
@@ -147,12 +145,12 @@ impl Engine {
     }
 
     /// What an erasure asks.
-    fn erase_asked(&self, conn: u64, table: usize, id: u64) -> Result<Command, Refusal>
-        ensures asked { IsAnswer result (call.asked self.now.held conn (call.erase table id)) }
-        ensures fits { IfOk result (λ c. FitsCatalog self.now.held.database.catalog c × (looks_up c ≡ false)) }
+    fn erase_asked(&self, conn: u64, table: usize, id: u64) -> Result<Change, Refusal>
+        ensures asked { IsAnswer (of_table command.Change table result) (call.asked self.now.held conn (call.erase table id)) }
+        ensures fits { IfOk result (λ change. FitsCatalog self.now.held.database.catalog (command.Change table change)) }
     {
         let _ = schema_of(self.changeable(conn)?, table)?;
-        Ok(Command::Erase { table, id })
+        Ok(Change::Erase { id })
     }
 
     /// What an erasure by a whole key asks.
@@ -163,14 +161,14 @@ impl Engine {
         index: usize,
         key: &[Cell],
         texts: &[u8],
-    ) -> Result<Command, Refusal>
-        ensures asked { IsAnswer result (call.asked self.now.held conn (call.erase_key table index key.now texts.now)) }
-        ensures fits { IfOk result (λ c. FitsCatalog self.now.held.database.catalog c × (looks_up c ≡ false)) }
+    ) -> Result<Change, Refusal>
+        ensures asked { IsAnswer (of_table command.Change table result) (call.asked self.now.held conn (call.erase_key table index key.now texts.now)) }
+        ensures fits { IfOk result (λ change. FitsCatalog self.now.held.database.catalog (command.Change table change)) }
     {
         let schema = schema_of(self.changeable(conn)?, table)?;
         let index = keyed_index(schema, index)?;
         let key = key_for(self.alloc, schema, index, true, key, texts)?;
-        Ok(Command::EraseKey { table, index, key })
+        Ok(Change::EraseKey { index, key })
     }
 
     /// What a relocation asks.
@@ -181,18 +179,13 @@ impl Engine {
         index: usize,
         id: u64,
         before: Option<u64>,
-    ) -> Result<Command, Refusal>
-        ensures asked { IsAnswer result (call.asked self.now.held conn (call.relocate table index id before)) }
-        ensures fits { IfOk result (λ c. FitsCatalog self.now.held.database.catalog c × (looks_up c ≡ false)) }
+    ) -> Result<Change, Refusal>
+        ensures asked { IsAnswer (of_table command.Change table result) (call.asked self.now.held conn (call.relocate table index id before)) }
+        ensures fits { IfOk result (λ change. FitsCatalog self.now.held.database.catalog (command.Change table change)) }
     {
         let schema = schema_of(self.changeable(conn)?, table)?;
         let index = sequenced_index(schema, index)?;
-        Ok(Command::Relocate {
-            table,
-            index,
-            id,
-            before,
-        })
+        Ok(Change::Relocate { index, id, before })
     }
 }
 
@@ -206,7 +199,7 @@ impl Engine {
         ensures { Tells conn (call.insert table cells.now texts.now) result self.old self.new }
     {
         let asked = self.insert_asked(conn, table, cells, texts);
-        self.told(conn, asked)
+        self.told(table, asked)
     }
 
     /// Adds the record that cells are as `insert` does, in a sequenced index directly before a record, and tells its id. Refusals, in this
@@ -224,7 +217,7 @@ impl Engine {
         ensures { Tells conn (call.insert_before table cells.now texts.now index before) result self.old self.new }
     {
         let asked = self.insert_before_asked(conn, table, cells, texts, index, before);
-        self.told(conn, asked)
+        self.told(table, asked)
     }
 
     /// Sets the record that cells are for an id. Refusals, in this order: `Busy`, `NoTable`, `Row`, and those of `Sessions::replace`.
@@ -240,7 +233,7 @@ impl Engine {
         ensures { Tells conn (call.replace table id cells.now texts.now) result self.old self.new }
     {
         let asked = self.replace_asked(conn, table, id, cells, texts);
-        self.told(conn, asked)
+        self.told(table, asked)
     }
 
     /// Adds a number to a column of a record. Refusals, in this order: `Busy`, `NoTable`, `Row` (no column of whole numbers has this
@@ -258,7 +251,7 @@ impl Engine {
         ensures { Tells conn (call.modify_add table id column n rollback) result self.old self.new }
     {
         let asked = self.modify_add_asked(conn, table, id, column, n, rollback);
-        self.told(conn, asked)
+        self.told(table, asked)
     }
 
     /// Changes columns of a record. Refusals, in this order: `Busy`, `NoTable`, `Row` (an edit is none, or doesn't fit its column, or two are of
@@ -276,7 +269,7 @@ impl Engine {
         ensures { Tells conn (call.modify table id edits.now texts.now rollback) result self.old self.new }
     {
         let asked = self.modify_asked(conn, table, id, edits, texts, rollback);
-        self.told(conn, asked)
+        self.told(table, asked)
     }
 
     /// Erases a record. Refusals, in this order: `Busy`, `NoTable`, and those of `Sessions::erase`.
@@ -285,7 +278,7 @@ impl Engine {
         ensures { Tells conn (call.erase table id) result self.old self.new }
     {
         let asked = self.erase_asked(conn, table, id);
-        self.told(conn, asked)
+        self.told(table, asked)
     }
 
     /// Erases the records of a whole key, and tells how many. Refusals, in this order: `Busy`, `NoTable`, `Index`, `Kind` (a sequenced index),
@@ -302,7 +295,7 @@ impl Engine {
         ensures { Tells conn (call.erase_key table index key.now texts.now) result self.old self.new }
     {
         let asked = self.erase_key_asked(conn, table, index, key, texts);
-        self.told(conn, asked)
+        self.told(table, asked)
     }
 
     /// Moves a record in a sequenced index directly before another, or to its end. Refusals, in this order: `Busy`, `NoTable`, `Index`, `Kind`,
@@ -319,6 +312,6 @@ impl Engine {
         ensures { Tells conn (call.relocate table index id before) result self.old self.new }
     {
         let asked = self.relocate_asked(conn, table, index, id, before);
-        self.told(conn, asked)
+        self.told(table, asked)
     }
 }

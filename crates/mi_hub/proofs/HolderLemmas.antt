@@ -3,7 +3,7 @@ use Rattle.std.proofs.Common.{◌≡◌, ℕ, ◌-◌, min, List, [], ◌∷◌,
 use Rattle.std.proofs.Common.{Option, Some, None, IsSome, is_some, Result, Ok, Err, OnOk, OnErr, refl, sym, ap, ◌∙◌, subst, inl, inr, arith}
 use Rattle.mi_value.specs.declared.refusal.Refusal.{Refusal}
 use Rattle.mi_protocol.specs.Lines.{command_line}
-use Rattle.mi_protocol.specs.declared.binding.Command.{Command}
+use Rattle.mi_protocol.specs.declared.command.Command.{Command}
 use Rattle.mi_commands.specs.Asked.{Asked, text, too_long}
 use Rattle.mi_hub.specs.Lines.{Rest}
 use Rattle.mi_commands.specs.Holder.{HeldDatabase, one_more, one_less, at_most, without_holder, released}

@@ -7,11 +7,12 @@ use Rattle.mi_model.specs.Database.{Database}
 use Rattle.mi_request.specs.Lines.{command_line}
 use Rattle.mi_request.specs.Commands.{keeps_out}
 use Rattle.mi_request.specs.declared.request.Request.{Request}
-use Rattle.mi_request.specs.declared.request.Request.TheVariants.{Reserve}
+use Rattle.mi_request.specs.declared.request.Request.TheVariants.{Session}
+use Rattle.mi_request.specs.declared.request.SessionCommand.TheVariants.{Reserve}
 use Rattle.mi_protocol.specs.Binding.{bound_command}
 use Rattle.mi_protocol.specs.Replies as say
-use Rattle.mi_protocol.specs.declared.binding.Command.{Command}
-use Rattle.mi_protocol.specs.declared.binding.Command.TheVariants as command
+use Rattle.mi_protocol.specs.declared.command.Command.{Command}
+use Rattle.mi_protocol.specs.declared.command.Command.TheVariants as command
 use Rattle.mi_commands.specs.Asked.{Asked, text, too_long}
 use Rattle.mi_commands.specs.Answer.{command_answer, command_of, answer, command_changes, line_changes, MayAnswer}
 use Rattle.mi_commands.specs.Holder.{HeldDatabase, is_busy, held_by}
@@ -80,11 +81,11 @@ kept_lines_are_taken conn line out again changed old new start end kept same ask
 
 -- ---- a reserve
 
-reserve_says : (s : HeldDatabase) (t : List ℕ) (changes sessions : ℕ) → command_line t ≡ Ok (Reserve changes sessions)
+reserve_says : (s : HeldDatabase) (t : List ℕ) (changes sessions : ℕ) → command_line t ≡ Ok (Session (Reserve changes sessions))
     → is_busy s.holder replayer ≡ false → (answer s replayer (text t)).0 ≡ say.done
 reserve_says s t changes sessions is free =
     ap (λ r. (command_answer s replayer (command_of s replayer r)).0) is
-    ∙ ap (λ b. (command_answer s replayer (cond b (Err Busy) (Ok (command.Reserve changes sessions)))).0) free
+    ∙ ap (λ b. (command_answer s replayer (cond b (Err Busy) (Ok (command.Session (Reserve changes sessions))))).0) free
 
 reserved_by : (t : List ℕ) (out : List ℕ) (changed : Bool) (s later : HeldDatabase) (lines : List Asked) → lines ≡ text t ∷ []
     → (answer s replayer (text t)).0 ≡ say.done → AnswersOne replayer s lines out changed later → IsTaken changed out ⊎ IsForMemory out

@@ -1,7 +1,8 @@
 -- How far a replay has come: of "start⏎undo⏎st" the first line is asked, and "undo⏎st" is left; then the second, and "st" is torn.
 use Rattle.std.specs.Prelude.{◌≡◌, ◌⊎◌, ℕ, zero, suc, List, [], ◌∷◌, ◌++◌, Bool, true, false, ⊤, Option, Some, None, Ok, codes}
 use Rattle.mi_request.specs.Lines.{command_line}
-use Rattle.mi_request.specs.declared.request.Request.TheVariants.{Reserve}
+use Rattle.mi_request.specs.declared.request.Request.TheVariants.{Session}
+use Rattle.mi_request.specs.declared.request.SessionCommand.TheVariants.{Reserve}
 use Rattle.mi_commands.specs.Asked.{text}
 use Rattle.mi_commands.specs.Holder.{HeldDatabase, is_busy}
 use Rattle.mi_hub.specs.Ended.{after_newlines}
@@ -52,5 +53,5 @@ KeptLinesAreTaken = (conn : ℕ) (line out again : List ℕ) (changed : Bool) (o
 -- So it does with a reserve.
 abbrev pub ReservesAreTaken : Type 0
 ReservesAreTaken = (line t again : List ℕ) (changes sessions : ℕ) (changed : Bool) (start end : HubState) → lines_of line ≡ text t ∷ []
-    → command_line t ≡ Ok (Reserve changes sessions) → is_busy start.held.holder replayer ≡ false
+    → command_line t ≡ Ok (Session (Reserve changes sessions)) → is_busy start.held.holder replayer ≡ false
     → AsksLine replayer line again changed start end → IsTaken changed again ⊎ IsForMemory again

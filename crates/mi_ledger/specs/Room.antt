@@ -7,6 +7,7 @@ use Rattle.mi_request.specs.Commands.{keeps_out}
 use Rattle.mi_request.specs.Lines.{command_line}
 use Rattle.mi_request.specs.declared.request.Request.{Request}
 use Rattle.mi_request.specs.declared.request.Request.TheVariants as request
+use Rattle.mi_request.specs.declared.request.SessionCommand.TheVariants as session
 use Rattle.mi_hub.specs.Served.{with_newline}
 use Rattle.mi_replay.specs.Replayed.{memory_reply}
 use Rattle.mi_ledger.specs.declared.room.TheConstants.{SHORT_UNDO}
@@ -21,8 +22,8 @@ undo_room = SHORT_UNDO * MAX_SESSIONS
 
 -- whether a request undoes sessions, where some are open
 abbrev pub undoes_some : ℕ → Request → Bool
-undoes_some depth request.Undo = nat_le 1 depth
-undoes_some depth request.UndoAll = nat_le 1 depth
+undoes_some depth (request.Session session.Undo) = nat_le 1 depth
+undoes_some depth (request.Session session.UndoAll) = nat_le 1 depth
 undoes_some depth r = false
 
 -- A change waits for room, but for an undo of an open session, whose line isn't longer than the room that is kept for it.

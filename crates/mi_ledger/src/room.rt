@@ -2,7 +2,7 @@
 ghost use Rattle.std.specs.Prelude.{◌≡◌, ◌+◌, length, IfOk};
 ghost use Rattle.mi_ledger.specs.Room as spec;
 
-use mi_request::{LineReader, Request};
+use mi_request::{LineReader, Request, SessionCommand};
 use mi_value::Refusal;
 use mi_value::limits::{MAX_LINE, MAX_SESSIONS};
 use std::alloc::{AllocError, Global};
@@ -18,7 +18,7 @@ fn undoes_some(request: &Request<'_>, depth: u64) -> bool
     ensures { result ≡ spec.undoes_some depth request.now }
 {
     match request {
-        Request::Undo | Request::UndoAll => depth >= 1,
+        Request::Session(SessionCommand::Undo | SessionCommand::UndoAll) => depth >= 1,
         _ => false,
     }
 }

@@ -36,14 +36,19 @@ use Rattle.mi_request.specs.Json.{has_only, option_map₂}
 use Rattle.mi_protocol.specs.Keys.{plain_values, if_key, bound_key, bound_lower, bound_upper}
 use Rattle.mi_catalog.specs.Kinds.{has_keys, is_sequenced, is_sorted, is_ranked, is_hashed}
 use Rattle.mi_protocol.specs.Values.{short_text, fitting, values_of, bound_row}
-use Rattle.mi_protocol.specs.Binding.{and_then, table_number, of_kind, index_number, bound_place, bound_insert, bound_replace}
-use Rattle.mi_protocol.specs.Binding.{bound_modify, named_key, bound_ends, bound_range, bound_relocate, bound_command, FitsCatalog}
+use Rattle.mi_protocol.specs.Binding.{and_then, table_number, of_kind, index_number, bound_place, named_key, bound_ends, bound_change, bound_look_up}
+use Rattle.mi_protocol.specs.Binding.{bound_over, bound_command, FitsChange, FitsTableLookUp, FitsCatalog}
+use Rattle.mi_request.specs.declared.request.ChangeRequest.{ChangeRequest}
+use Rattle.mi_request.specs.declared.request.ChangeRequest.TheVariants as change_request
 use Rattle.mi_request.specs.declared.request.End.{End}
 use Rattle.mi_request.specs.declared.request.End.TheVariants.{Open, With, Without}
+use Rattle.mi_request.specs.declared.request.LookUpRequest.{LookUpRequest}
+use Rattle.mi_request.specs.declared.request.LookUpRequest.TheVariants as look_up_request
 use Rattle.mi_request.specs.declared.request.NamedPlace.{NamedPlace}
 use Rattle.mi_request.specs.declared.request.Request.{Request}
 use Rattle.mi_request.specs.declared.request.Request.TheVariants as request
-use Rattle.mi_protocol.specs.declared.binding.Command.{Command}
+use Rattle.mi_protocol.specs.declared.command.Command.{Command}
+use Rattle.mi_protocol.specs.declared.command.Command.TheVariants as command
 use Rattle.mi_protocol.proofs.EditOrderLaws.{lines_edit_columns_once}
 
 -- ---- a row
@@ -251,26 +256,6 @@ AreEditsOf s edits = AreEdits s.columns edits
 abbrev IsKeyOf : Shape → ℕ → Bool → List Value → Type 0
 IsKeyOf s x whole key = fits_key s.columns (index_at s x).parts whole key ≡ true
 
-insert-fits : (c : CatalogShape) (n : ℕ) (row : Members) (before : Option NamedPlace)
-    → n < length c.tables → Holds (bound_insert (schema_at c n) n row before) (FitsCatalog c)
-insert-fits c n row before there =
-    then (IsPlaceOf (schema_at c n)) (FitsCatalog c) _ (bound_place (schema_at c n) before) (place-fits (schema_at c n) before)
-    (λ at place. then (IsRowOf (schema_at c n)) (FitsCatalog c) _ (ok_or (bound_row (schema_at c n).columns row) Row)
-    (some (IsRowOf (schema_at c n)) Row tt (bound_row (schema_at c n).columns row) (row-fits (schema_at c n).columns row))
-    (λ values fits. (there, fits, place)))
-
-replace-fits : (c : CatalogShape) (n id : ℕ) (row : Members) → n < length c.tables → Holds (bound_replace (schema_at c n) n id row) (FitsCatalog c)
-replace-fits c n id row there =
-    then (IsRowOf (schema_at c n)) (FitsCatalog c) _ (ok_or (bound_row (schema_at c n).columns row) Row)
-    (some (IsRowOf (schema_at c n)) Row tt (bound_row (schema_at c n).columns row) (row-fits (schema_at c n).columns row)) (λ values fits. (there, fits))
-
-modify-fits : (c : CatalogShape) (n id : ℕ) (set add : Members) (rollback : Bool)
-    → n < length c.tables → Holds (bound_modify (schema_at c n) n id set add rollback) (FitsCatalog c)
-modify-fits c n id set add rollback there =
-    then (AreEditsOf (schema_at c n)) (FitsCatalog c) _ (ok_or (bound_edits (schema_at c n).columns set add) Row)
-    (some (AreEditsOf (schema_at c n)) Row tt (bound_edits (schema_at c n).columns set add) (edits-fit (schema_at c n).columns set add))
-    (λ edits fits. (there, fits))
-
 -- an index of one of these kinds, and a key of it
 abbrev IsNamedKeyOf : (IndexKind → Bool) → (IndexKind → Bool) → Shape → ℕ × List Value → Type 0
 IsNamedKeyOf kinds whole s k = IsIndexOf kinds s k.0 × IsKeyOf s k.0 (whole (index_at s k.0).kind) k.1
@@ -284,19 +269,15 @@ named_key-fits kinds whole s index key =
     (λ values fits. (at, fits)))
 
 -- what is made of a named key
-by_key : (c : CatalogShape) (n : ℕ) (kinds whole : IndexKind → Bool) (index : List ℕ) (key : Items) (f : ℕ × List Value → Result Command Refusal)
-    → ((k : ℕ × List Value) → IsNamedKeyOf kinds whole (schema_at c n) k → Holds (f k) (FitsCatalog c))
-    → Holds (and_then f (named_key kinds whole (schema_at c n) index key)) (FitsCatalog c)
-by_key c n kinds whole index key f more =
-    then (IsNamedKeyOf kinds whole (schema_at c n)) (FitsCatalog c) f
-    (named_key kinds whole (schema_at c n) index key) (named_key-fits kinds whole (schema_at c n) index key) more
+by_key : {A : Type 0} (P : A → Type 0) (s : Shape) (kinds whole : IndexKind → Bool) (index : List ℕ) (key : Items) (f : ℕ × List Value → Result A Refusal)
+    → ((k : ℕ × List Value) → IsNamedKeyOf kinds whole s k → Holds (f k) P) → Holds (and_then f (named_key kinds whole s index key)) P
+by_key P s kinds whole index key f more =
+    then (IsNamedKeyOf kinds whole s) P f (named_key kinds whole s index key) (named_key-fits kinds whole s index key) more
 
 -- what is made of a named index
-by_index : (c : CatalogShape) (n : ℕ) (kinds : IndexKind → Bool) (index : List ℕ) (f : ℕ → Result Command Refusal)
-    → ((x : ℕ) → IsIndexOf kinds (schema_at c n) x → Holds (f x) (FitsCatalog c))
-    → Holds (and_then f (index_number kinds (schema_at c n) index)) (FitsCatalog c)
-by_index c n kinds index f more = then (IsIndexOf kinds (schema_at c n)) (FitsCatalog c) f
-    (index_number kinds (schema_at c n) index) (index-fits kinds (schema_at c n) index) more
+by_index : {A : Type 0} (P : A → Type 0) (s : Shape) (kinds : IndexKind → Bool) (index : List ℕ) (f : ℕ → Result A Refusal)
+    → ((x : ℕ) → IsIndexOf kinds s x → Holds (f x) P) → Holds (and_then f (index_number kinds s index)) P
+by_index P s kinds index f more = then (IsIndexOf kinds s) P f (index_number kinds s index) (index-fits kinds s index) more
 
 -- bounds of a range in index x
 abbrev IsLowerOf : Shape → ℕ → Lower → Type 0
@@ -340,49 +321,67 @@ ends-fit s x lower upper =
     (λ l below. then (IsUpperOf s x) (AreBoundsOf s x) _ (ok_or (bound_upper s x upper) Key)
     (some (IsUpperOf s x) Key tt (bound_upper s x upper) (upper-fits s x upper)) (λ u above. (below, above)))
 
-range-fits : (c : CatalogShape) (n : ℕ) (index : List ℕ) (lower upper : End) (reverse : Bool) (limit : ℕ)
-    → n < length c.tables → Holds (bound_range (schema_at c n) n index lower upper reverse limit) (FitsCatalog c)
-range-fits c n index lower upper reverse limit there =
-    by_index c n is_sorted index _
-    (λ x at. then (AreBoundsOf (schema_at c n) x) (FitsCatalog c) _ (bound_ends (schema_at c n) x lower upper)
-    (ends-fit (schema_at c n) x lower upper) (λ e fit. (there, at.1, fit.0, fit.1)))
+-- ---- changes and look-ups
 
-relocate-fits : (c : CatalogShape) (n : ℕ) (index : List ℕ) (id : ℕ) (before : Option ℕ)
-    → n < length c.tables → Holds (bound_relocate (schema_at c n) n index id before) (FitsCatalog c)
-relocate-fits c n index id before there = by_index c n is_sequenced index _ (λ x at. (there, sequenced (index_at (schema_at c n) x).kind at.1))
+row-fits-table : {A : Type 0} (P : A → Type 0) (s : Shape) (row : Members) (f : List Value → Result A Refusal)
+    → ((values : List Value) → IsRowOf s values → Holds (f values) P) → Holds (and_then f (ok_or (bound_row s.columns row) Row)) P
+row-fits-table P s row f more =
+    then (IsRowOf s) P f (ok_or (bound_row s.columns row) Row) (some (IsRowOf s) Row tt (bound_row s.columns row) (row-fits s.columns row)) more
 
-over-table : (c : CatalogShape) (name : Option (List ℕ)) (f : ℕ → Result Command Refusal) → is_catalog c ≡ true
-    → ((n : ℕ) → n < length c.tables → Holds (f n) (FitsCatalog c)) → Holds (and_then f (table_number c name)) (FitsCatalog c)
-over-table c name f h more = then (IsTableOf c) (FitsCatalog c) f (table_number c name) (table-there c name h) more
+module _ (c : CatalogShape) (n : ℕ) where
+  abbrev s : Shape
+  s = schema_at c n
+
+  change-fits : (r : ChangeRequest) → Holds (bound_change s r) (FitsChange c n)
+  change-fits (change_request.Insert row before) =
+      then (IsPlaceOf s) (FitsChange c n) _ (bound_place s before) (place-fits s before)
+      (λ at place. row-fits-table (FitsChange c n) s row _ (λ values fits. (fits, place)))
+  change-fits (change_request.Replace id row) = row-fits-table (FitsChange c n) s row _ (λ values fits. fits)
+  change-fits (change_request.Modify id set add rollback) =
+      then (AreEditsOf s) (FitsChange c n) _ (ok_or (bound_edits s.columns set add) Row)
+      (some (AreEditsOf s) Row tt (bound_edits s.columns set add) (edits-fit s.columns set add)) (λ edits fits. fits)
+  change-fits (change_request.Erase id) = tt
+  change-fits (change_request.EraseKey index key) =
+      by_key (FitsChange c n) s has_keys (λ kind. true) index key _ (λ k fits. (fits.0, fits.1))
+  change-fits (change_request.Relocate index id before) =
+      by_index (FitsChange c n) s is_sequenced index _ (λ x at. sequenced (index_at s x).kind at.1)
+
+  look_up-fits : (r : LookUpRequest) → Holds (bound_look_up s r) (FitsTableLookUp c n)
+  look_up-fits (look_up_request.Get id) = tt
+  look_up-fits (look_up_request.Find index key) =
+      by_key (FitsTableLookUp c n) s has_keys is_hashed index key _ (λ k fits. (fits.0, fits.1))
+  look_up-fits (look_up_request.Nth index k) =
+      by_index (FitsTableLookUp c n) s is_ranked index _ (λ x at. ranked (index_at s x).kind at.1)
+  look_up-fits (look_up_request.Count index key) =
+      by_key (FitsTableLookUp c n) s has_keys is_hashed index key _ (λ k fits. (fits.0, fits.1))
+  look_up-fits (look_up_request.Range index lower upper reverse limit) =
+      by_index (FitsTableLookUp c n) s is_sorted index _
+      (λ x at. then (AreBoundsOf s x) (FitsTableLookUp c n) _ (bound_ends s x lower upper) (ends-fit s x lower upper) (λ e fit. (at.1, fit.0, fit.1)))
+  look_up-fits (look_up_request.List index after limit) =
+      by_index (FitsTableLookUp c n) s is_sequenced index _ (λ x at. sequenced (index_at s x).kind at.1)
+  look_up-fits (look_up_request.Rank index id) =
+      by_index (FitsTableLookUp c n) s is_ranked index _ (λ x at. ranked (index_at s x).kind at.1)
+  look_up-fits (look_up_request.LowerRank index key) =
+      by_key (FitsTableLookUp c n) s is_ranked (λ kind. false) index key _ (λ k fits. (ranked (index_at s k.0).kind fits.0.1, fits.1))
+  look_up-fits (look_up_request.UpperRank index key) =
+      by_key (FitsTableLookUp c n) s is_ranked (λ kind. false) index key _ (λ k fits. (ranked (index_at s k.0).kind fits.0.1, fits.1))
+  look_up-fits look_up_request.Size = tt
+
+-- ---- commands
+
+over-fits : {A : Type 0} (P : ℕ → A → Type 0) (make : ℕ → A → Command) (bound : Shape → Result A Refusal) (c : CatalogShape) (table : Option (List ℕ))
+    → is_catalog c ≡ true → ((n : ℕ) → Holds (bound (schema_at c n)) (P n)) → ((n : ℕ) (x : A) → n < length c.tables → P n x → FitsCatalog c (make n x))
+    → Holds (bound_over make bound c table) (FitsCatalog c)
+over-fits P make bound c table h fits made =
+    then (IsTableOf c) (FitsCatalog c) _ (table_number c table) (table-there c table h)
+    (λ n there. then (P n) (FitsCatalog c) _ (bound (schema_at c n)) (fits n) (λ x fit. made n x there fit))
 
 bound-fits : (c : CatalogShape) (r : Request) → is_catalog c ≡ true → Holds (bound_command c r) (FitsCatalog c)
-bound-fits c (request.Insert table row before) h = over-table c table _ h (λ n there. insert-fits c n row before there)
-bound-fits c (request.Replace table id row) h = over-table c table _ h (λ n there. replace-fits c n id row there)
-bound-fits c (request.Modify table id set add rollback) h = over-table c table _ h (λ n there. modify-fits c n id set add rollback there)
-bound-fits c (request.Erase table id) h = over-table c table _ h (λ n there. there)
-bound-fits c (request.EraseKey table index key) h = over-table c table _ h
-    (λ n there. by_key c n has_keys (λ kind. true) index key _ (λ k fits. (there, fits.0, fits.1)))
-bound-fits c (request.Relocate table index id before) h = over-table c table _ h (λ n there. relocate-fits c n index id before there)
-bound-fits c (request.Get table id) h = over-table c table _ h (λ n there. there)
-bound-fits c (request.Find table index key) h = over-table c table _ h
-    (λ n there. by_key c n has_keys is_hashed index key _ (λ k fits. (there, fits.0, fits.1)))
-bound-fits c (request.Nth table index n) h = over-table c table _ h
-    (λ t there. by_index c t is_ranked index _ (λ x at. (there, ranked (index_at (schema_at c t) x).kind at.1)))
-bound-fits c (request.Count table index key) h = over-table c table _ h
-    (λ n there. by_key c n has_keys is_hashed index key _ (λ k fits. (there, fits.0, fits.1)))
-bound-fits c (request.Range table index lower upper reverse limit) h = over-table c table _ h (λ n there. range-fits c n index lower upper reverse limit there)
-bound-fits c (request.List table index after limit) h = over-table c table _ h
-    (λ n there. by_index c n is_sequenced index _ (λ x at. (there, sequenced (index_at (schema_at c n) x).kind at.1)))
-bound-fits c (request.Rank table index id) h = over-table c table _ h
-    (λ n there. by_index c n is_ranked index _ (λ x at. (there, ranked (index_at (schema_at c n) x).kind at.1)))
-bound-fits c (request.LowerRank table index key) h =
-    over-table c table _ h (λ n there. by_key c n is_ranked (λ kind. false) index key
-    _ (λ k fits. (there, ranked (index_at (schema_at c n) k.0).kind fits.0.1, fits.1)))
-bound-fits c (request.UpperRank table index key) h =
-    over-table c table _ h (λ n there. by_key c n is_ranked (λ kind. false) index key
-    _ (λ k fits. (there, ranked (index_at (schema_at c n) k.0).kind fits.0.1, fits.1)))
-bound-fits c (request.Size table) h = over-table c table _ h (λ n there. there)
-bound-fits c session h = tt
+bound-fits c (request.Change table r) h =
+    over-fits (FitsChange c) command.Change (λ s. bound_change s r) c table h (λ n. change-fits c n r) (λ n x there fit. (there, fit))
+bound-fits c (request.LookUp table r) h =
+    over-fits (FitsTableLookUp c) command.LookUp (λ s. bound_look_up s r) c table h (λ n. look_up-fits c n r) (λ n x there fit. (there, fit))
+bound-fits c (request.Session s) h = tt
 
 -- the answer of the code
 pub answer-fits : (c : CatalogShape) (request : Request) (r : Result Command Refusal)

@@ -1,5 +1,5 @@
 -- The command that a request is over a catalog, with tables, indexes and columns by number.
-use Rattle.std.specs.Prelude.{ℕ, Bool, true, false, if◌then◌else◌, List, Option, Some, None, is_none, IfSome, Result, Ok, Err}
+use Rattle.std.specs.Prelude.{ℕ, Bool, true, false, if◌then◌else◌, List, Option, Some, None, IfSome, Result, Ok, Err}
 use Rattle.std.specs.Option.{ok_or}
 use Rattle.mi_value.specs.declared.refusal.Refusal.{Refusal}
 use Rattle.mi_value.specs.declared.refusal.Refusal.TheVariants.{NoTable, Index, Kind, Row, Key}
@@ -10,18 +10,25 @@ use Rattle.mi_catalog.specs.declared.index.IndexKind.{IndexKind}
 use Rattle.mi_catalog.specs.Shape.{Shape, CatalogShape, schema_at, index_at, find_table, find_index}
 use Rattle.mi_catalog.specs.Fitting.{HasTable, IsKeyedIndex, IsSortedIndex, IsRankedIndex, IsSequencedIndex}
 use Rattle.mi_catalog.specs.Fitting.{FitsTable, FitsEdits, FitsWhole, FitsPrefix, FitsLookUp, FitsLower, FitsUpper}
-use Rattle.serde_json.specs.Data.{Items, Members}
+use Rattle.serde_json.specs.Data.{Items}
 use Rattle.mi_protocol.specs.Edits.{bound_edits}
 use Rattle.mi_protocol.specs.Keys.{bound_key, bound_lower, bound_upper}
 use Rattle.mi_catalog.specs.Kinds.{has_keys, is_sequenced, is_sorted, is_ranked, is_hashed}
 use Rattle.mi_protocol.specs.Values.{bound_row}
-use Rattle.mi_request.specs.Commands.{table_member}
+use Rattle.mi_request.specs.declared.request.ChangeRequest.{ChangeRequest}
+use Rattle.mi_request.specs.declared.request.ChangeRequest.TheVariants as change_request
 use Rattle.mi_request.specs.declared.request.End.{End}
+use Rattle.mi_request.specs.declared.request.LookUpRequest.{LookUpRequest}
+use Rattle.mi_request.specs.declared.request.LookUpRequest.TheVariants as look_up_request
 use Rattle.mi_request.specs.declared.request.NamedPlace.{NamedPlace}
 use Rattle.mi_request.specs.declared.request.Request.{Request}
 use Rattle.mi_request.specs.declared.request.Request.TheVariants as request
-use Rattle.mi_protocol.specs.declared.binding.Command.{Command}
-use Rattle.mi_protocol.specs.declared.binding.Command.TheVariants as command
+use Rattle.mi_protocol.specs.declared.command.Change.{Change}
+use Rattle.mi_protocol.specs.declared.command.Change.TheVariants as change
+use Rattle.mi_protocol.specs.declared.command.Command.{Command}
+use Rattle.mi_protocol.specs.declared.command.Command.TheVariants as command
+use Rattle.mi_protocol.specs.declared.command.LookUp.{LookUp}
+use Rattle.mi_protocol.specs.declared.command.LookUp.TheVariants as look_up
 
 -- what follows from a value, or the refusal in its place
 abbrev pub and_then : {A B : Type 0} → (A → Result B Refusal) → Result A Refusal → Result B Refusal
@@ -46,17 +53,6 @@ abbrev pub bound_place : Shape → Option NamedPlace → Result (Option (ℕ × 
 bound_place s None = Ok None
 bound_place s (Some p) = and_then (λ x. Ok (Some (x, p.id))) (index_number is_sequenced s p.index)
 
--- an insert into table n, whose place is bound before its row
-abbrev pub bound_insert : Shape → ℕ → Members → Option NamedPlace → Result Command Refusal
-bound_insert s n row before =
-    and_then (λ at. and_then (λ values. Ok (command.Insert n values at)) (ok_or (bound_row s.columns row) Row)) (bound_place s before)
-
-abbrev pub bound_replace : Shape → ℕ → ℕ → Members → Result Command Refusal
-bound_replace s n id row = and_then (λ values. Ok (command.Replace n id values)) (ok_or (bound_row s.columns row) Row)
-
-abbrev pub bound_modify : Shape → ℕ → ℕ → Members → Members → Bool → Result Command Refusal
-bound_modify s n id set add rollback = and_then (λ edits. Ok (command.Modify n id edits rollback)) (ok_or (bound_edits s.columns set add) Row)
-
 -- the index that is named, of a kind that the command is for, and a key of it: whole where its kind wants that
 abbrev pub named_key : (IndexKind → Bool) → (IndexKind → Bool) → Shape → List ℕ → Items → Result (ℕ × List Value) Refusal
 named_key kinds whole s index key =
@@ -78,91 +74,83 @@ ranked_key s index key = named_key is_ranked (λ kind. false) s index key
 abbrev pub bound_ends : Shape → ℕ → End → End → Result (Lower × Upper) Refusal
 bound_ends s x lower upper = and_then (λ l. and_then (λ u. Ok (l, u)) (ok_or (bound_upper s x upper) Key)) (ok_or (bound_lower s x lower) Key)
 
-abbrev pub bound_range : Shape → ℕ → List ℕ → End → End → Bool → ℕ → Result Command Refusal
-bound_range s n index lower upper reverse limit =
-    and_then (λ x. and_then (λ e. Ok (command.Range n x e.0 e.1 reverse limit)) (bound_ends s x lower upper)) (index_number is_sorted s index)
+-- ---- commands
 
-abbrev pub bound_relocate : Shape → ℕ → List ℕ → ℕ → Option ℕ → Result Command Refusal
-bound_relocate s n index id before = and_then (λ x. Ok (command.Relocate n x id before)) (index_number is_sequenced s index)
+-- a change of a table of this schema; an insert's place is bound before its row
+abbrev pub bound_change : Shape → ChangeRequest → Result Change Refusal
+bound_change s (change_request.Insert row before) =
+    and_then (λ at. and_then (λ values. Ok (change.Insert values at)) (ok_or (bound_row s.columns row) Row)) (bound_place s before)
+bound_change s (change_request.Replace id row) = and_then (λ values. Ok (change.Replace id values)) (ok_or (bound_row s.columns row) Row)
+bound_change s (change_request.Modify id set add rollback) =
+    and_then (λ edits. Ok (change.Modify id edits rollback)) (ok_or (bound_edits s.columns set add) Row)
+bound_change s (change_request.Erase id) = Ok (change.Erase id)
+bound_change s (change_request.EraseKey index key) = and_then (λ k. Ok (change.EraseKey k.0 k.1)) (whole_key s index key)
+bound_change s (change_request.Relocate index id before) = and_then (λ x. Ok (change.Relocate x id before)) (index_number is_sequenced s index)
+
+-- a look-up of a table of this schema
+abbrev pub bound_look_up : Shape → LookUpRequest → Result LookUp Refusal
+bound_look_up s (look_up_request.Get id) = Ok (look_up.Get id)
+bound_look_up s (look_up_request.Find index key) = and_then (λ k. Ok (look_up.Find k.0 k.1)) (key_or_prefix s index key)
+bound_look_up s (look_up_request.Nth index n) = and_then (λ x. Ok (look_up.Nth x n)) (index_number is_ranked s index)
+bound_look_up s (look_up_request.Count index key) = and_then (λ k. Ok (look_up.Count k.0 k.1)) (key_or_prefix s index key)
+bound_look_up s (look_up_request.Range index lower upper reverse limit) =
+    and_then (λ x. and_then (λ e. Ok (look_up.Range x e.0 e.1 reverse limit)) (bound_ends s x lower upper)) (index_number is_sorted s index)
+bound_look_up s (look_up_request.List index after limit) = and_then (λ x. Ok (look_up.List x after limit)) (index_number is_sequenced s index)
+bound_look_up s (look_up_request.Rank index id) = and_then (λ x. Ok (look_up.Rank x id)) (index_number is_ranked s index)
+bound_look_up s (look_up_request.LowerRank index key) = and_then (λ k. Ok (look_up.LowerRank k.0 k.1)) (ranked_key s index key)
+bound_look_up s (look_up_request.UpperRank index key) = and_then (λ k. Ok (look_up.UpperRank k.0 k.1)) (ranked_key s index key)
+bound_look_up s look_up_request.Size = Ok look_up.Size
+
+-- what is made of the table that is named and of what is bound over its schema
+abbrev pub bound_over : {A : Type 0} → (ℕ → A → Command) → (Shape → Result A Refusal) → CatalogShape → Option (List ℕ) → Result Command Refusal
+bound_over make bound c table = and_then (λ n. and_then (λ x. Ok (make n x)) (bound (schema_at c n))) (table_number c table)
 
 -- the command that a request is: refused as `table`, `index`, `kind`, `row`, `key` in this order
 abbrev pub bound_command : CatalogShape → Request → Result Command Refusal
-bound_command c (request.Insert table row before) = and_then (λ n. bound_insert (schema_at c n) n row before) (table_number c table)
-bound_command c (request.Replace table id row) = and_then (λ n. bound_replace (schema_at c n) n id row) (table_number c table)
-bound_command c (request.Modify table id set add rollback) = and_then (λ n. bound_modify (schema_at c n) n id set add rollback) (table_number c table)
-bound_command c (request.Erase table id) = and_then (λ n. Ok (command.Erase n id)) (table_number c table)
-bound_command c (request.EraseKey table index key) =
-    and_then (λ n. and_then (λ k. Ok (command.EraseKey n k.0 k.1)) (whole_key (schema_at c n) index key)) (table_number c table)
-bound_command c (request.Relocate table index id before) = and_then (λ n. bound_relocate (schema_at c n) n index id before) (table_number c table)
-bound_command c request.Start = Ok command.Start
-bound_command c request.Undo = Ok command.Undo
-bound_command c request.Squash = Ok command.Squash
-bound_command c (request.Commit revision) = Ok (command.Commit revision)
-bound_command c request.UndoAll = Ok command.UndoAll
-bound_command c request.Push = Ok command.Push
-bound_command c (request.Reserve changes sessions) = Ok (command.Reserve changes sessions)
-bound_command c request.Revision = Ok command.Revision
-bound_command c (request.Get table id) = and_then (λ n. Ok (command.Get n id)) (table_number c table)
-bound_command c (request.Find table index key) =
-    and_then (λ n. and_then (λ k. Ok (command.Find n k.0 k.1)) (key_or_prefix (schema_at c n) index key)) (table_number c table)
-bound_command c (request.Nth table index n) =
-    and_then (λ t. and_then (λ x. Ok (command.Nth t x n)) (index_number is_ranked (schema_at c t) index)) (table_number c table)
-bound_command c (request.Count table index key) =
-    and_then (λ n. and_then (λ k. Ok (command.Count n k.0 k.1)) (key_or_prefix (schema_at c n) index key)) (table_number c table)
-bound_command c (request.Range table index lower upper reverse limit) =
-    and_then (λ n. bound_range (schema_at c n) n index lower upper reverse limit) (table_number c table)
-bound_command c (request.List table index after limit) =
-    and_then (λ n. and_then (λ x. Ok (command.List n x after limit)) (index_number is_sequenced (schema_at c n) index)) (table_number c table)
-bound_command c (request.Rank table index id) =
-    and_then (λ n. and_then (λ x. Ok (command.Rank n x id)) (index_number is_ranked (schema_at c n) index)) (table_number c table)
-bound_command c (request.LowerRank table index key) =
-    and_then (λ n. and_then (λ k. Ok (command.LowerRank n k.0 k.1)) (ranked_key (schema_at c n) index key)) (table_number c table)
-bound_command c (request.UpperRank table index key) =
-    and_then (λ n. and_then (λ k. Ok (command.UpperRank n k.0 k.1)) (ranked_key (schema_at c n) index key)) (table_number c table)
-bound_command c (request.Size table) = and_then (λ n. Ok (command.Size n)) (table_number c table)
+bound_command c (request.Change table r) = bound_over command.Change (λ s. bound_change s r) c table
+bound_command c (request.LookUp table r) = bound_over command.LookUp (λ s. bound_look_up s r) c table
+bound_command c (request.Session s) = Ok (command.Session s)
 
--- a request that is bound without memory: one of sessions, a size or a rank. A row, edits and a key are made in memory that is asked for
+-- a request that is bound without memory: one over sessions, a size or a rank. A row, edits and a key are made in memory that is asked for
+abbrev pub look_up_binds_without : LookUpRequest → Bool
+look_up_binds_without (look_up_request.Rank index id) = true
+look_up_binds_without look_up_request.Size = true
+look_up_binds_without other = false
+
 abbrev pub binds_without : Request → Bool
-binds_without (request.Rank table index id) = true
-binds_without (request.Size table) = true
-binds_without r = is_none (table_member r)
+binds_without (request.Change table r) = false
+binds_without (request.LookUp table r) = look_up_binds_without r
+binds_without (request.Session s) = true
 
--- the table is there, and records, edits, keys and indexes are as its schema wants them; what is over sessions fits each catalog
+-- records, edits, keys and indexes are as the schema of table n wants them
+abbrev pub FitsChange : CatalogShape → ℕ → Change → Type 0
+FitsChange c n (change.Insert row before) = FitsTable c n row × IfSome before (λ at. IsSequencedIndex c n at.0)
+FitsChange c n (change.Replace id row) = FitsTable c n row
+FitsChange c n (change.Modify id edits rollback) = FitsEdits c n edits
+FitsChange c n (change.Erase id) = Unit {0}
+FitsChange c n (change.EraseKey x key) = IsKeyedIndex c n x × FitsWhole c n x key
+FitsChange c n (change.Relocate x id before) = IsSequencedIndex c n x
+
+abbrev pub FitsTableLookUp : CatalogShape → ℕ → LookUp → Type 0
+FitsTableLookUp c n (look_up.Get id) = Unit {0}
+FitsTableLookUp c n (look_up.Find x key) = IsKeyedIndex c n x × FitsLookUp c n x key
+FitsTableLookUp c n (look_up.Nth x k) = IsRankedIndex c n x
+FitsTableLookUp c n (look_up.Count x key) = IsKeyedIndex c n x × FitsLookUp c n x key
+FitsTableLookUp c n (look_up.Range x low high reverse limit) = IsSortedIndex c n x × FitsLower c n x low × FitsUpper c n x high
+FitsTableLookUp c n (look_up.List x after limit) = IsSequencedIndex c n x
+FitsTableLookUp c n (look_up.Rank x id) = IsRankedIndex c n x
+FitsTableLookUp c n (look_up.LowerRank x key) = IsRankedIndex c n x × FitsPrefix c n x key
+FitsTableLookUp c n (look_up.UpperRank x key) = IsRankedIndex c n x × FitsPrefix c n x key
+FitsTableLookUp c n look_up.Size = Unit {0}
+
+-- the table is there, and what is over it fits its schema; what is over sessions fits each catalog
 abbrev pub FitsCatalog : CatalogShape → Command → Type 0
-FitsCatalog c (command.Insert n row before) = HasTable c n × FitsTable c n row × IfSome before (λ at. IsSequencedIndex c n at.0)
-FitsCatalog c (command.Replace n id row) = HasTable c n × FitsTable c n row
-FitsCatalog c (command.Modify n id edits rollback) = HasTable c n × FitsEdits c n edits
-FitsCatalog c (command.Erase n id) = HasTable c n
-FitsCatalog c (command.EraseKey n x key) = HasTable c n × IsKeyedIndex c n x × FitsWhole c n x key
-FitsCatalog c (command.Relocate n x id before) = HasTable c n × IsSequencedIndex c n x
-FitsCatalog c (command.Get n id) = HasTable c n
-FitsCatalog c (command.Find n x key) = HasTable c n × IsKeyedIndex c n x × FitsLookUp c n x key
-FitsCatalog c (command.Nth t x n) = HasTable c t × IsRankedIndex c t x
-FitsCatalog c (command.Count n x key) = HasTable c n × IsKeyedIndex c n x × FitsLookUp c n x key
-FitsCatalog c (command.Range n x low high reverse limit) = HasTable c n × IsSortedIndex c n x × FitsLower c n x low × FitsUpper c n x high
-FitsCatalog c (command.List n x after limit) = HasTable c n × IsSequencedIndex c n x
-FitsCatalog c (command.Rank n x id) = HasTable c n × IsRankedIndex c n x
-FitsCatalog c (command.LowerRank n x key) = HasTable c n × IsRankedIndex c n x × FitsPrefix c n x key
-FitsCatalog c (command.UpperRank n x key) = HasTable c n × IsRankedIndex c n x × FitsPrefix c n x key
-FitsCatalog c (command.Size n) = HasTable c n
-FitsCatalog c session = Unit {0}
+FitsCatalog c (command.Change n x) = HasTable c n × FitsChange c n x
+FitsCatalog c (command.LookUp n x) = HasTable c n × FitsTableLookUp c n x
+FitsCatalog c (command.Session s) = Unit {0}
 
 -- the table that a command is over; one over sessions has none
 abbrev pub over_table : Command → Option ℕ
-over_table (command.Insert n row before) = Some n
-over_table (command.Replace n id row) = Some n
-over_table (command.Modify n id edits rollback) = Some n
-over_table (command.Erase n id) = Some n
-over_table (command.EraseKey n x key) = Some n
-over_table (command.Relocate n x id before) = Some n
-over_table (command.Get n id) = Some n
-over_table (command.Find n x key) = Some n
-over_table (command.Nth t x n) = Some t
-over_table (command.Count n x key) = Some n
-over_table (command.Range n x low high reverse limit) = Some n
-over_table (command.List n x after limit) = Some n
-over_table (command.Rank n x id) = Some n
-over_table (command.LowerRank n x key) = Some n
-over_table (command.UpperRank n x key) = Some n
-over_table (command.Size n) = Some n
-over_table session = None
+over_table (command.Change n x) = Some n
+over_table (command.LookUp n x) = Some n
+over_table (command.Session s) = None

@@ -3,7 +3,7 @@ use Rattle.std.specs.Prelude.{◌≡◌, false, [], ◌∷◌, IfOk, IfSome}
 use Rattle.mi_catalog.specs.Shape.{CatalogShape, schema_at}
 use Rattle.mi_request.specs.Commands.{names_table}
 use Rattle.mi_request.specs.declared.request.Request.{Request}
-use Rattle.mi_protocol.specs.declared.binding.Command.{Command}
+use Rattle.mi_protocol.specs.declared.command.Command.{Command}
 use Rattle.mi_protocol.specs.Binding.{bound_command, over_table}
 
 -- a command over the first table, or over sessions

@@ -1,116 +1,66 @@
-//! The changes of a table: from the members of a request to a command over a catalog.
+//! The changes of a table: from what is asked to a change over the table's schema.
 ghost use Rattle.mi_request.specs.Answers.{IsAnswer};
-ghost use Rattle.mi_request.specs.declared.request.Request.TheVariants as request;
-ghost use Rattle.mi_protocol.specs.Binding.{bound_command};
+ghost use Rattle.mi_request.specs.declared.request.ChangeRequest.TheVariants as request;
+ghost use Rattle.mi_protocol.specs.Binding.{bound_change};
 
-use crate::binding::{Command, named_table, table_number};
+use crate::command::Change;
 use crate::edits::bind_edits;
 use crate::indexes::{bind_place, sequenced_index, whole_key};
 use crate::row::bind_row;
-use mi_catalog::Catalog;
-use mi_request::{Array, Name, NamedPlace, Object};
+use mi_catalog::Schema;
+use mi_request::{ChangeRequest, NamedPlace, Object};
 use mi_value::Refusal;
 use std::alloc::Global;
 
-/// A record, and a place of its own where one is named. Refusals, in this order: `NoTable`, `Index`, `Kind`, `Row`, and `Memory`.
-pub(crate) fn bind_insert(
+/// A record, and a place of its own where one is named. Refusals, in this order: `Index`, `Kind`, `Row`, and `Memory`.
+fn bind_insert(
     alloc: Global,
-    table: Option<Name>,
     row: Object,
     before: Option<NamedPlace>,
-    catalog: &Catalog,
-) -> Result<Command, Refusal>
-    ensures { IsAnswer result (bound_command catalog.now (request.Insert table.entry row.entry before.entry)) }
+    schema: &Schema,
+) -> Result<Change, Refusal>
+    ensures { IsAnswer result (bound_change schema.now (request.Insert row.entry before.entry)) }
 {
-    let (table, schema) = named_table(table, catalog)?;
     let before = bind_place(before, schema)?;
     let row = bind_row(alloc, &row, schema)?;
-    Ok(Command::Insert { table, row, before })
+    Ok(Change::Insert { row, before })
 }
 
-/// Another record for an id. Refusals, in this order: `NoTable`, `Row`, and `Memory`.
-pub(crate) fn bind_replace(
+/// The change that is asked of a table of this schema. Refusals, in this order: `Index`, `Kind`, `Row`, `Key`, and `Memory`.
+pub(crate) fn bind_change(
     alloc: Global,
-    table: Option<Name>,
-    id: u64,
-    row: Object,
-    catalog: &Catalog,
-) -> Result<Command, Refusal>
-    ensures { IsAnswer result (bound_command catalog.now (request.Replace table.entry id row.entry)) }
+    change: ChangeRequest,
+    schema: &Schema,
+) -> Result<Change, Refusal>
+    ensures { IsAnswer result (bound_change schema.now change.entry) }
 {
-    let (table, schema) = named_table(table, catalog)?;
-    Ok(Command::Replace {
-        table,
-        id,
-        row: bind_row(alloc, &row, schema)?,
-    })
-}
-
-/// Edits of columns. Refusals, in this order: `NoTable`, `Row`, and `Memory`.
-pub(crate) fn bind_modify(
-    alloc: Global,
-    table: Option<Name>,
-    id: u64,
-    set: Object,
-    add: Object,
-    rollback: bool,
-    catalog: &Catalog,
-) -> Result<Command, Refusal>
-    ensures { IsAnswer result (bound_command catalog.now (request.Modify table.entry id set.entry add.entry rollback)) }
-{
-    let (table, schema) = named_table(table, catalog)?;
-    let edits = bind_edits(alloc, &set, &add, schema)?;
-    Ok(Command::Modify {
-        table,
-        id,
-        edits,
-        rollback,
-    })
-}
-
-/// Refusal: `NoTable`.
-pub(crate) fn bind_erase(
-    table: Option<Name>,
-    id: u64,
-    catalog: &Catalog,
-) -> Result<Command, Refusal>
-    ensures { IsAnswer result (bound_command catalog.now (request.Erase table.entry id)) }
-{
-    let table = table_number(table, catalog)?;
-    Ok(Command::Erase { table, id })
-}
-
-/// A whole key. Refusals, in this order: `NoTable`, `Index`, `Kind`, `Key`, and `Memory`.
-pub(crate) fn bind_erase_key(
-    alloc: Global,
-    table: Option<Name>,
-    index: Name,
-    key: Array,
-    catalog: &Catalog,
-) -> Result<Command, Refusal>
-    ensures { IsAnswer result (bound_command catalog.now (request.EraseKey table.entry index.entry key.entry)) }
-{
-    let (table, schema) = named_table(table, catalog)?;
-    let (index, key) = whole_key(alloc, &index, key, schema)?;
-    Ok(Command::EraseKey { table, index, key })
-}
-
-/// Refusals, in this order: `NoTable`, `Index`, `Kind`.
-pub(crate) fn bind_relocate(
-    table: Option<Name>,
-    index: Name,
-    id: u64,
-    before: Option<u64>,
-    catalog: &Catalog,
-) -> Result<Command, Refusal>
-    ensures { IsAnswer result (bound_command catalog.now (request.Relocate table.entry index.entry id before)) }
-{
-    let (table, schema) = named_table(table, catalog)?;
-    let index = sequenced_index(&index, schema)?;
-    Ok(Command::Relocate {
-        table,
-        index,
-        id,
-        before,
-    })
+    match change {
+        ChangeRequest::Insert { row, before } => bind_insert(alloc, row, before, schema),
+        ChangeRequest::Replace { id, row } => {
+            let row = bind_row(alloc, &row, schema)?;
+            Ok(Change::Replace { id, row })
+        }
+        ChangeRequest::Modify {
+            id,
+            set,
+            add,
+            rollback,
+        } => {
+            let edits = bind_edits(alloc, &set, &add, schema)?;
+            Ok(Change::Modify {
+                id,
+                edits,
+                rollback,
+            })
+        }
+        ChangeRequest::Erase { id } => Ok(Change::Erase { id }),
+        ChangeRequest::EraseKey { index, key } => {
+            let (index, key) = whole_key(alloc, &index, key, schema)?;
+            Ok(Change::EraseKey { index, key })
+        }
+        ChangeRequest::Relocate { index, id, before } => {
+            let index = sequenced_index(&index, schema)?;
+            Ok(Change::Relocate { index, id, before })
+        }
+    }
 }

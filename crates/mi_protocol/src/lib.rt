@@ -5,6 +5,7 @@
 mod binding;
 mod changes;
 mod columns;
+mod command;
 mod edits;
 mod indexes;
 mod keys;
@@ -16,11 +17,15 @@ mod reply;
 mod row;
 mod text;
 
-pub use binding::{Command, bind};
+pub use binding::bind;
+pub use command::{Change, Command, LookUp};
 pub use edits::Edits;
 pub use labels::ReplyLabels;
 pub use laws::{lines_edit_columns_once, lines_without_a_table, replies_are_compact_json};
-pub use mi_request::{Array, End, Json, LineReader, Name, NamedPlace, Object, Request};
+pub use mi_request::{
+    Array, ChangeRequest, End, Json, LineReader, LookUpRequest, Name, NamedPlace, Object, Request,
+    SessionCommand,
+};
 pub use output::Output;
 pub use reply::Reply;
 pub use text::ReplyText;

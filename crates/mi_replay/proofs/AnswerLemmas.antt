@@ -9,17 +9,17 @@ use Rattle.mi_value.specs.declared.limits.TheConstants.{MAX_SESSIONS}
 use Rattle.mi_catalog.specs.Shape.{schema_at, CatalogShape}
 use Rattle.mi_model.specs.Table.{Table}
 use Rattle.mi_model.specs.Verdict.{is_spent}
-use Rattle.mi_model.specs.Database.{Database, depth, started, undone, squashed, committed, start_step, undo_step, squash_step}
+use Rattle.mi_model.specs.Database.{Database, schema_of, table_of, depth, started, undone, squashed, committed, start_step, undo_step, squash_step}
 use Rattle.mi_request.specs.Lines.{command_line}
 use Rattle.mi_request.specs.Commands.{keeps_out}
 use Rattle.mi_request.specs.declared.request.Request.{Request}
 use Rattle.mi_request.specs.declared.request.Request.TheVariants as request
+use Rattle.mi_request.specs.declared.request.SessionCommand.TheVariants as session
 use Rattle.mi_replay.proofs.UndoLemmas.{undo_means}
-use Rattle.mi_protocol.specs.Binding.{and_then, table_number, key_or_prefix, ranked_key, index_number, bound_ends, bound_command}
-use Rattle.mi_catalog.specs.Kinds.{is_ranked, is_sorted, is_sequenced}
+use Rattle.mi_protocol.specs.Binding.{and_then, table_number, bound_look_up, bound_command}
 use Rattle.mi_protocol.specs.Replies.{Said}
-use Rattle.mi_protocol.specs.declared.binding.Command.{Command}
-use Rattle.mi_protocol.specs.declared.binding.Command.TheVariants as command
+use Rattle.mi_protocol.specs.declared.command.Command.{Command}
+use Rattle.mi_protocol.specs.declared.command.Command.TheVariants as command
 use Rattle.mi_commands.specs.Asked.{Asked, text, too_long}
 use Rattle.mi_commands.specs.Answer.{answer, command_answer, command_of, command_changes, line_changes, MayGive}
 use Rattle.mi_commands.proofs.ToldLemmas.{look_quiet, line_keeps, answer_keeps}
@@ -44,30 +44,10 @@ module _ (s : HeldDatabase) (conn : ℕ) where
 
   -- what isn't kept out is a look-up
   look_up_quiet : (c : CatalogShape) (r : Request) → keeps_out r ≡ false → IsQuiet s conn (bound_command c r)
-  look_up_quiet c request.Revision h = refl
-  look_up_quiet c (request.Get table id) h = quiet_then _ (table_number c table) (λ n. look_quiet s conn (command.Get n id) refl)
-  look_up_quiet c (request.Find table index key) h =
-      quiet_then _ (table_number c table) (λ n. quiet_then _ (key_or_prefix (schema_at c n) index key)
-      (λ k. look_quiet s conn (command.Find n k.0 k.1) refl))
-  look_up_quiet c (request.Nth table index n) h =
-      quiet_then _ (table_number c table) (λ t. quiet_then _ (index_number is_ranked (schema_at c t) index)
-      (λ x. look_quiet s conn (command.Nth t x n) refl))
-  look_up_quiet c (request.Count table index key) h =
-      quiet_then _ (table_number c table) (λ n. quiet_then _ (key_or_prefix (schema_at c n) index key) (λ k. refl))
-  look_up_quiet c (request.Range table index lower upper reverse limit) h =
-      quiet_then _ (table_number c table) (λ n. quiet_then _ (index_number is_sorted (schema_at c n) index)
-      (λ x. quiet_then _ (bound_ends (schema_at c n) x lower upper) (λ e. refl)))
-  look_up_quiet c (request.List table index after limit) h =
-      quiet_then _ (table_number c table) (λ n. quiet_then _ (index_number is_sequenced (schema_at c n) index)
-      (λ x. look_quiet s conn (command.List n x after limit) refl))
-  look_up_quiet c (request.Rank table index id) h =
-      quiet_then _ (table_number c table) (λ n. quiet_then _ (index_number is_ranked (schema_at c n) index)
-      (λ x. look_quiet s conn (command.Rank n x id) refl))
-  look_up_quiet c (request.LowerRank table index key) h =
-      quiet_then _ (table_number c table) (λ n. quiet_then _ (ranked_key (schema_at c n) index key) (λ k. refl))
-  look_up_quiet c (request.UpperRank table index key) h =
-      quiet_then _ (table_number c table) (λ n. quiet_then _ (ranked_key (schema_at c n) index key) (λ k. refl))
-  look_up_quiet c (request.Size table) h = quiet_then _ (table_number c table) (λ n. refl)
+  look_up_quiet c (request.LookUp table r) h =
+      quiet_then _ (table_number c table) (λ n. quiet_then _ (bound_look_up (schema_at c n) r)
+      (λ x. look_quiet n (schema_of s.database n) (table_of s.database n) x))
+  look_up_quiet c (request.Session session.Revision) h = refl
   look_up_quiet c r h = absurd (cc)
 
   kept_out : (busy keeps : Bool) (c : Result Command Refusal) → busy ≡ true → (keeps ≡ false → IsQuiet s conn c)
@@ -329,13 +309,13 @@ module _ (d : Database) (o : Option Holder) (fits : held_count o ≤ depth d) (c
   no_more (if_accepted (Err e) m) h = omega arith
 
   command_fits : (c : Command) → Fits (performed (on d o) conn c).1
-  command_fits command.Start = start_fits
-  command_fits command.Undo = undo_fits
-  command_fits command.Squash = squash_fits
-  command_fits (command.Commit revision) =
+  command_fits (command.Session session.Start) = start_fits
+  command_fits (command.Session session.Undo) = undo_fits
+  command_fits (command.Session session.Squash) = squash_fits
+  command_fits (command.Session (session.Commit revision)) =
       let n : ℕ = depth (committed revision d) in
       let count : held_count (at_most n o) ≡ min (held_count o) n = most_count n o in omega arith
-  command_fits command.UndoAll = omega arith
+  command_fits (command.Session session.UndoAll) = omega arith
   command_fits c = le_trans (no_more (effect d c).move refl) fits
 
   bound_fits : (c : Result Command Refusal) → Fits (command_answer (on d o) conn c).1
@@ -368,6 +348,6 @@ module _ (d : Database) (o : Option Holder) (free : is_busy o replayer ≡ false
   pub undo_left : (answer (on d o) replayer undo_line).1 ≡ on (undone d) (one_less o)
   undo_left =
       ap (λ r. (command_answer (on d o) replayer (command_of (on d o) replayer r)).1) undo_means
-      ∙ ap (λ b. (command_answer (on d o) replayer (cond b (Err Busy) (Ok command.Undo))).1) free
+      ∙ ap (λ b. (command_answer (on d o) replayer (cond b (Err Busy) (Ok (command.Session session.Undo)))).1) free
       ∙ ap {A = Result ℕ NoSession × Database} (λ a. on a.1 (holder_after (or_session a.0) one_less o))
       (ap (λ b. cond b (Err (record {}), d) (Ok (d.revision - 1), undone d)) some_open)

@@ -16,13 +16,15 @@ use Rattle.mi_tokens.specs.Tokens.{tokens_at}
 use Rattle.mi_tokens.specs.declared.tokens.Context.TheVariants.{AfterComma}
 use Rattle.mi_request.specs.Commands.{look_up_named, lower_end, page}
 use Rattle.mi_request.specs.Flat.{IsRest, IsMember, IsMaybe, put_if, command_start, named, keyed_members}
-use Rattle.mi_request.specs.Json.{has_only, natural, if_there, default_if, option_map₃, option_map₅, option_map₆}
+use Rattle.mi_request.specs.Json.{has_only, natural, if_there, default_if, option_map₂, option_map₄, option_map₅}
 use Rattle.mi_request.specs.Keyed.{key_name, asked_key}
 use Rattle.mi_request.specs.Lines.{request_in, command_line}
 use Rattle.mi_request.specs.declared.keyed.KeyCommand.{KeyCommand}
 use Rattle.mi_request.specs.declared.keyed.KeyCommand.TheVariants as keyed
 use Rattle.mi_request.specs.declared.request.End.{End}
 use Rattle.mi_request.specs.declared.request.End.TheVariants.{Open}
+use Rattle.mi_request.specs.declared.request.ChangeRequest.TheVariants as change
+use Rattle.mi_request.specs.declared.request.LookUpRequest.TheVariants as look_up
 use Rattle.mi_request.specs.declared.request.Request.{Request}
 use Rattle.mi_request.specs.declared.request.Request.TheVariants as request
 use Rattle.mi_request.proofs.ParsingLemmas.{request_found}
@@ -89,9 +91,8 @@ line_means command text rest all r plain is utf8 others asked = request_found te
 
 -- ---- what each command asks
 
-three : {A B C : Type 0} (f : A → B → C → Request) (a : Option A) (b : Option B) (c : Option C) (x : A) (y : B) (z : C) → a ≡ Some x → b ≡ Some y → c ≡ Some z
-    → option_map₃ f a b c ≡ Some (f x y z)
-three f a b c x y z p q r = rw (p, q, r) refl
+two : {A B C : Type 0} (f : A → B → C) (a : Option A) (b : Option B) (x : A) (y : B) → a ≡ Some x → b ≡ Some y → option_map₂ f a b ≡ Some (f x y)
+two f a b x y p q = rw (p, q) refl
 
 pub key_plain : (k : KeyCommand) → escape (key_name k) ≡ key_name k
 unfolding escape_byte
@@ -101,40 +102,47 @@ key_plain keyed.Count = refl
 key_plain keyed.LowerRank = refl
 key_plain keyed.UpperRank = refl
 
+keyed_is : {C : Type 0} (make : Option (List ℕ) → C → Request) (f : List ℕ → Items → C) (t : Option (Option (List ℕ))) (i : Option (List ℕ)) (k : Option Items)
+    (table : Option (List ℕ)) (index : List ℕ) (ks : Items) → t ≡ Some table → i ≡ Some index → k ≡ Some ks
+    → option_map₂ make t (option_map₂ f i k) ≡ Some (make table (f index ks))
+keyed_is make f t i k table index ks p q r = two make t _ table (f index ks) p (two f i k index ks q r)
+
 pub key_asked : (c : KeyCommand) (t : Option Data) (i k : Data) (table : Option (List ℕ)) (index : List ℕ) (ks : Items) → if_there as_str t ≡ Some table
     → as_str i ≡ Some index → as_array k ≡ Some ks → request_in (keyed_members (key_name c) t i k) ≡ Some (asked_key c table index ks)
 unfolding has_only look_up_named
-key_asked keyed.EraseKey None i k table index ks p q r = three request.EraseKey _ _ _ table index ks p q r
-key_asked keyed.EraseKey (Some t) i k table index ks p q r = three request.EraseKey _ _ _ table index ks p q r
-key_asked keyed.Find None i k table index ks p q r = three request.Find _ _ _ table index ks p q r
-key_asked keyed.Find (Some t) i k table index ks p q r = three request.Find _ _ _ table index ks p q r
-key_asked keyed.Count None i k table index ks p q r = three request.Count _ _ _ table index ks p q r
-key_asked keyed.Count (Some t) i k table index ks p q r = three request.Count _ _ _ table index ks p q r
-key_asked keyed.LowerRank None i k table index ks p q r = three request.LowerRank _ _ _ table index ks p q r
-key_asked keyed.LowerRank (Some t) i k table index ks p q r = three request.LowerRank _ _ _ table index ks p q r
-key_asked keyed.UpperRank None i k table index ks p q r = three request.UpperRank _ _ _ table index ks p q r
-key_asked keyed.UpperRank (Some t) i k table index ks p q r = three request.UpperRank _ _ _ table index ks p q r
+key_asked keyed.EraseKey None i k table index ks p q r = keyed_is request.Change change.EraseKey _ _ _ table index ks p q r
+key_asked keyed.EraseKey (Some t) i k table index ks p q r = keyed_is request.Change change.EraseKey _ _ _ table index ks p q r
+key_asked keyed.Find None i k table index ks p q r = keyed_is request.LookUp look_up.Find _ _ _ table index ks p q r
+key_asked keyed.Find (Some t) i k table index ks p q r = keyed_is request.LookUp look_up.Find _ _ _ table index ks p q r
+key_asked keyed.Count None i k table index ks p q r = keyed_is request.LookUp look_up.Count _ _ _ table index ks p q r
+key_asked keyed.Count (Some t) i k table index ks p q r = keyed_is request.LookUp look_up.Count _ _ _ table index ks p q r
+key_asked keyed.LowerRank None i k table index ks p q r = keyed_is request.LookUp look_up.LowerRank _ _ _ table index ks p q r
+key_asked keyed.LowerRank (Some t) i k table index ks p q r = keyed_is request.LookUp look_up.LowerRank _ _ _ table index ks p q r
+key_asked keyed.UpperRank None i k table index ks p q r = keyed_is request.LookUp look_up.UpperRank _ _ _ table index ks p q r
+key_asked keyed.UpperRank (Some t) i k table index ks p q r = keyed_is request.LookUp look_up.UpperRank _ _ _ table index ks p q r
 
 pub insert_asked : (t : Option Data) (d : Data) (table : Option (List ℕ)) (row : Members) → if_there as_str t ≡ Some table → as_object d ≡ Some row
-    → request_in (put (codes "row") d (put_if (codes "table") t (named (codes "insert")))) ≡ Some (request.Insert table row None)
+    → request_in (put (codes "row") d (put_if (codes "table") t (named (codes "insert")))) ≡ Some (request.Change table (change.Insert row None))
 unfolding has_only
-insert_asked None d table row p q = three request.Insert _ _ _ table row None p q refl
-insert_asked (Some t) d table row p q = three request.Insert _ _ _ table row None p q refl
+insert_asked None d table row p q = two request.Change _ _ table (change.Insert row None) p (two change.Insert _ _ row None q refl)
+insert_asked (Some t) d table row p q = two request.Change _ _ table (change.Insert row None) p (two change.Insert _ _ row None q refl)
 
 pub replace_asked : (t : Option Data) (i d : Data) (table : Option (List ℕ)) (id : ℕ) (row : Members) → if_there as_str t ≡ Some table → natural i ≡ Some id
-    → as_object d ≡ Some row → request_in (put (codes "row") d (put (codes "id") i (put_if (codes "table") t (named (codes "replace"))))) ≡ Some (request.Replace table id row)
+    → as_object d ≡ Some row
+    → request_in (put (codes "row") d (put (codes "id") i (put_if (codes "table") t (named (codes "replace"))))) ≡ Some (request.Change table (change.Replace id row))
 unfolding has_only
-replace_asked None i d table id row p q r = three request.Replace _ _ _ table id row p q r
-replace_asked (Some t) i d table id row p q r = three request.Replace _ _ _ table id row p q r
+replace_asked None i d table id row p q r = two request.Change _ _ table (change.Replace id row) p (two change.Replace _ _ id row q r)
+replace_asked (Some t) i d table id row p q r = two request.Change _ _ table (change.Replace id row) p (two change.Replace _ _ id row q r)
 
 modified : (t : Option (Option (List ℕ))) (i : Option ℕ) (s a : Option Members) (table : Option (List ℕ)) (id : ℕ) (set add : Members) → t ≡ Some table → i ≡ Some id
-    → s ≡ Some set → a ≡ Some add → option_map₅ request.Modify t i s a (Some false) ≡ Some (request.Modify table id set add false)
+    → s ≡ Some set → a ≡ Some add
+    → option_map₂ request.Change t (option_map₄ change.Modify i s a (Some false)) ≡ Some (request.Change table (change.Modify id set add false))
 modified t i s a table id set add p q r u = rw (p, q, r, u) refl
 
 pub modify_asked : (t : Option Data) (i : Data) (s a : Option Data) (table : Option (List ℕ)) (id : ℕ) (set add : Members) → if_there as_str t ≡ Some table
     → natural i ≡ Some id → default_if no_members as_object s ≡ Some set → default_if no_members as_object a ≡ Some add
     → request_in (put_if (codes "add") a (put_if (codes "set") s (put (codes "id") i (put_if (codes "table") t (named (codes "modify"))))))
-    ≡ Some (request.Modify table id set add false)
+    ≡ Some (request.Change table (change.Modify id set add false))
 unfolding has_only
 modify_asked None i None None table id set add p q r u = modified _ _ _ _ table id set add p q r u
 modify_asked None i None (Some a) table id set add p q r u = modified _ _ _ _ table id set add p q r u
@@ -147,13 +155,13 @@ modify_asked (Some t) i (Some s) (Some a) table id set add p q r u = modified _ 
 
 ranged : (t : Option (Option (List ℕ))) (i : Option (List ℕ)) (l : Option End) (m : Option ℕ) (table : Option (List ℕ)) (index : List ℕ) (lower : End) (limit : ℕ)
     → t ≡ Some table → i ≡ Some index → l ≡ Some lower → m ≡ Some limit
-    → option_map₆ request.Range t i l (Some Open) (Some false) m ≡ Some (request.Range table index lower Open false limit)
+    → option_map₂ request.LookUp t (option_map₅ look_up.Range i l (Some Open) (Some false) m) ≡ Some (request.LookUp table (look_up.Range index lower Open false limit))
 ranged t i l m table index lower limit p q r u = rw (p, q, r, u) refl
 
 pub range_asked : (t : Option Data) (i l m : Data) (table : Option (List ℕ)) (index : List ℕ) (lower : End) (limit : ℕ) → if_there as_str t ≡ Some table
     → as_str i ≡ Some index → lower_end l ≡ Some lower → page m ≡ Some limit
     → request_in (put (codes "limit") m (put (codes "lower") l (put (codes "index") i (put_if (codes "table") t (named (codes "range"))))))
-    ≡ Some (request.Range table index lower Open false limit)
+    ≡ Some (request.LookUp table (look_up.Range index lower Open false limit))
 unfolding has_only look_up_named
 range_asked None i l m table index lower limit p q r u = ranged _ _ _ _ table index lower limit p q r u
 range_asked (Some t) i l m table index lower limit p q r u = ranged _ _ _ _ table index lower limit p q r u

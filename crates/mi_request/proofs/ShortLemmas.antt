@@ -34,8 +34,12 @@ use Rattle.mi_request.specs.Short.{members_text, command_front, line_text, table
 use Rattle.mi_request.specs.ShortCode.{IsRead, a_name, perhaps_name, a_whole, perhaps_whole}
 use Rattle.mi_request.specs.declared.bare.Bare.{Bare}
 use Rattle.mi_request.specs.declared.bare.Bare.TheVariants as bare
+use Rattle.mi_request.specs.declared.request.ChangeRequest.TheVariants as change
+use Rattle.mi_request.specs.declared.request.LookUpRequest.TheVariants as look_up
 use Rattle.mi_request.specs.declared.request.Request.{Request}
 use Rattle.mi_request.specs.declared.request.Request.TheVariants as request
+use Rattle.mi_request.specs.declared.request.SessionCommand.{SessionCommand}
+use Rattle.mi_request.specs.declared.request.SessionCommand.TheVariants as session
 use Rattle.mi_request.proofs.ParsingLemmas.{json-found}
 use Rattle.mi_request.proofs.WordLemmas.{name_byte, utf8_name, line-read}
 
@@ -277,43 +281,43 @@ meant_by c ms line r command named is asked =
 
 -- ---- what each command asks
 
-get_asked : (t : Option (List ℕ)) (id : ℕ) → nat_lt id (2 ^ 63) ≡ true → request_of (line_data (codes "get") (table_is t ∷ id_is id ∷ [])) ≡ Some (request.Get t id)
+get_asked : (t : Option (List ℕ)) (id : ℕ) → nat_lt id (2 ^ 63) ≡ true → request_of (line_data (codes "get") (table_is t ∷ id_is id ∷ [])) ≡ Some (request.LookUp t (look_up.Get id))
 unfolding has_only step_named look_up_named
 get_asked None id h = rw h refl
 get_asked (Some t) id h = rw h refl
 
-erase_asked : (t : Option (List ℕ)) (id : ℕ) → nat_lt id (2 ^ 63) ≡ true → request_of (line_data (codes "erase") (table_is t ∷ id_is id ∷ [])) ≡ Some (request.Erase t id)
+erase_asked : (t : Option (List ℕ)) (id : ℕ) → nat_lt id (2 ^ 63) ≡ true → request_of (line_data (codes "erase") (table_is t ∷ id_is id ∷ [])) ≡ Some (request.Change t (change.Erase id))
 unfolding has_only
 erase_asked None id h = rw h refl
 erase_asked (Some t) id h = rw h refl
 
-size_asked : (t : Option (List ℕ)) → request_of (line_data (codes "size") (table_is t ∷ [])) ≡ Some (request.Size t)
+size_asked : (t : Option (List ℕ)) → request_of (line_data (codes "size") (table_is t ∷ [])) ≡ Some (request.LookUp t look_up.Size)
 unfolding has_only look_up_named
 size_asked None = refl
 size_asked (Some t) = refl
 
 rank_asked : (t : Option (List ℕ)) (index : List ℕ) (id : ℕ) → nat_lt id (2 ^ 63) ≡ true
-    → request_of (line_data (codes "rank") (table_is t ∷ index_is index ∷ id_is id ∷ [])) ≡ Some (request.Rank t index id)
+    → request_of (line_data (codes "rank") (table_is t ∷ index_is index ∷ id_is id ∷ [])) ≡ Some (request.LookUp t (look_up.Rank index id))
 unfolding has_only look_up_named
 rank_asked None index id h = rw h refl
 rank_asked (Some t) index id h = rw h refl
 
 nth_asked : (t : Option (List ℕ)) (index : List ℕ) (n : ℕ) → nat_lt n (2 ^ 63) ≡ true
-    → request_of (line_data (codes "nth") (table_is t ∷ index_is index ∷ (codes "n", whole n) ∷ [])) ≡ Some (request.Nth t index n)
+    → request_of (line_data (codes "nth") (table_is t ∷ index_is index ∷ (codes "n", whole n) ∷ [])) ≡ Some (request.LookUp t (look_up.Nth index n))
 unfolding has_only look_up_named
 nth_asked None index n h = rw h refl
 nth_asked (Some t) index n h = rw h refl
 
 relocate_asked : (t : Option (List ℕ)) (index : List ℕ) (id : ℕ) (before : Option ℕ) → nat_lt id (2 ^ 63) ≡ true → is_word (maybe_whole before) ≡ true
     → request_of (line_data (codes "relocate") (table_is t ∷ index_is index ∷ id_is id ∷ (codes "before", maybe_whole before) ∷ []))
-    ≡ Some (request.Relocate t index id before)
+    ≡ Some (request.Change t (change.Relocate index id before))
 unfolding has_only
 relocate_asked None index id None h k = rw h refl
 relocate_asked (Some t) index id None h k = rw h refl
 relocate_asked None index id (Some before) h k = rw (h, k) refl
 relocate_asked (Some t) index id (Some before) h k = rw (h, k) refl
 
-commit_asked : (n : ℕ) → nat_lt n (2 ^ 63) ≡ true → request_of (line_data (codes "commit") ((codes "revision", whole n) ∷ [])) ≡ Some (request.Commit n)
+commit_asked : (n : ℕ) → nat_lt n (2 ^ 63) ≡ true → request_of (line_data (codes "commit") ((codes "revision", whole n) ∷ [])) ≡ Some (request.Session (session.Commit n))
 unfolding has_only step_named look_up_named
 commit_asked n h = rw h refl
 
@@ -330,7 +334,7 @@ fourth a b c d ms words = third b c d ms (rest_words a (b ∷ (c ∷ (d ∷ ms))
 -- ---- commands without members
 
 -- the line of a command without members means it
-bare_means : (b : Bare) → command_line (bare_text b) ≡ Ok (asked_bare b)
+bare_means : (b : Bare) → command_line (bare_text b) ≡ Ok (request.Session (asked_bare b))
 unfolding serde_json_on_literals is_utf8 chars has_only bare_named step_named look_up_named
 bare_means bare.Undo = refl
 bare_means b = refl
@@ -339,23 +343,23 @@ bare_line_is : (b : Bare) → line_text (bare_name b) [] ≡ bare_text b
 bare_line_is bare.Undo = refl
 bare_line_is b = refl
 
--- which of them a request is asks that request
-abbrev asked_or : Request → Option Bare → Request
-asked_or r None = r
-asked_or r (Some b) = asked_bare b
+-- the one that a command over sessions is, if it is one, is that command
+abbrev asked_or : SessionCommand → Option Bare → SessionCommand
+asked_or s None = s
+asked_or s (Some b) = asked_bare b
 
-asked_back : (r : Request) → asked_or r (bare_of r) ≡ r
-asked_back request.Undo = refl
-asked_back r = refl
+asked_back : (s : SessionCommand) → asked_or s (bare_of s) ≡ s
+asked_back session.Undo = refl
+asked_back s = refl
 
 abbrev bare_words : Option Bare → Option (List ℕ)
 bare_words o = option_and_then written (option_map (λ b. (bare_name b, [])) o)
 
--- what holds of the request and the line of each command without members holds of each request that is one, and its line
-by_bare : (P : Request → List ℕ → Type 0) → ((b : Bare) → P (asked_bare b) (bare_text b)) → (r : Request) (line : List ℕ) → (o : Option Bare)
-    → asked_or r o ≡ r → bare_words o ≡ Some line → P r line
-by_bare P h r line None back is = absurd (none-some line is)
-by_bare P h r line (Some b) back is =
+-- what holds of each command without members and its line holds of each command over sessions that is one, and its line
+by_bare : (P : SessionCommand → List ℕ → Type 0) → ((b : Bare) → P (asked_bare b) (bare_text b)) → (s : SessionCommand) (line : List ℕ) → (o : Option Bare)
+    → asked_or s o ≡ s → bare_words o ≡ Some line → P s line
+by_bare P h s line None back is = absurd (none-some line is)
+by_bare P h s line (Some b) back is =
     subst (λ q. P q line) back (subst (P (asked_bare b)) (sym (bare_line_is b) ∙ same_Some (line_text (bare_name b) []) line is) (h b))
 
 -- ---- all short lines
@@ -363,25 +367,26 @@ by_bare P h r line (Some b) back is =
 -- a short line means its request
 pub short_means : (r : Request) (line : List ℕ) → short_line r ≡ Some line → command_line line ≡ Ok r
 unfolding is_name_byte
-short_means (request.Get t id) line is =
+short_means (request.LookUp t (look_up.Get id)) line is =
     meant_by (codes "get") (table_is t ∷ id_is id ∷ []) line _ refl refl is (λ words. get_asked t id (second (table_is t) (id_is id) [] words))
-short_means (request.Erase t id) line is =
+short_means (request.Change t (change.Erase id)) line is =
     meant_by (codes "erase") (table_is t ∷ id_is id ∷ []) line _ refl refl is (λ words. erase_asked t id (second (table_is t) (id_is id) [] words))
-short_means (request.Size t) line is = meant_by (codes "size") (table_is t ∷ []) line _ refl refl is (λ words. size_asked t)
-short_means (request.Rank t index id) line is =
+short_means (request.LookUp t look_up.Size) line is = meant_by (codes "size") (table_is t ∷ []) line _ refl refl is (λ words. size_asked t)
+short_means (request.LookUp t (look_up.Rank index id)) line is =
     meant_by (codes "rank") (table_is t ∷ index_is index ∷ id_is id ∷ []) line _ refl refl is
     (λ words. rank_asked t index id (third (table_is t) (index_is index) (id_is id) [] words))
-short_means (request.Nth t index n) line is =
+short_means (request.LookUp t (look_up.Nth index n)) line is =
     meant_by (codes "nth") (table_is t ∷ index_is index ∷ (codes "n", whole n) ∷ []) line _ refl refl is
     (λ words. nth_asked t index n (third (table_is t) (index_is index) (codes "n", whole n) [] words))
-short_means (request.Relocate t index id before) line is =
+short_means (request.Change t (change.Relocate index id before)) line is =
     let last : Member = (codes "before", maybe_whole before) in
     meant_by (codes "relocate") (table_is t ∷ index_is index ∷ id_is id ∷ last ∷ []) line _ refl refl is
     (λ words. relocate_asked t index id before (third (table_is t) (index_is index) (id_is id) (last ∷ []) words)
     (fourth (table_is t) (index_is index) (id_is id) last [] words))
-short_means (request.Commit n) line is =
+short_means (request.Session (session.Commit n)) line is =
     meant_by (codes "commit") ((codes "revision", whole n) ∷ []) line _ refl refl is (λ words. commit_asked n (head_word (codes "revision", whole n) [] words))
-short_means r line is = by_bare (λ q t. command_line t ≡ Ok q) bare_means r line (bare_of r) (asked_back r) is
+short_means (request.Session s) line is = by_bare (λ q t. command_line t ≡ Ok (request.Session q)) bare_means s line (bare_of s) (asked_back s) is
+short_means r line is = absurd (none-some line is)
 
 abbrev request_in : Request → Result Request Refusal → Request
 request_in q (Ok r) = r
@@ -442,28 +447,29 @@ bare_told d b = refl
 
 -- a short line is found by its letter
 pub told : (r : Request) (line : List ℕ) (d : ℕ) → short_line r ≡ Some line → Found (which (get_or line 10 d)) line
-told (request.Get t id) line d is =
+told (request.LookUp t (look_up.Get id)) line d is =
     let ms = table_is t ∷ id_is id ∷ [] in
     at_letter line d 116 (lettered (codes "get") ms line d 116 is (λ rest. refl)) (λ o done. line-read (codes "get") ms line o done refl is)
-told (request.Erase t id) line d is =
+told (request.Change t (change.Erase id)) line d is =
     let ms = table_is t ∷ id_is id ∷ [] in
     at_letter line d 97 (lettered (codes "erase") ms line d 97 is (λ rest. refl)) (inl (λ o done. line-read (codes "erase") ms line o done refl is))
-told (request.Size t) line d is =
+told (request.LookUp t look_up.Size) line d is =
     let ms = table_is t ∷ [] in
     at_letter line d 122 (lettered (codes "size") ms line d 122 is (λ rest. refl)) (λ o done. line-read (codes "size") ms line o done refl is)
-told (request.Rank t index id) line d is =
+told (request.LookUp t (look_up.Rank index id)) line d is =
     let ms = table_is t ∷ index_is index ∷ id_is id ∷ [] in
     at_letter line d 110 (lettered (codes "rank") ms line d 110 is (λ rest. refl)) (λ o done. line-read (codes "rank") ms line o done refl is)
-told (request.Nth t index n) line d is =
+told (request.LookUp t (look_up.Nth index n)) line d is =
     let ms = table_is t ∷ index_is index ∷ (codes "n", whole n) ∷ [] in
     at_letter line d 104 (lettered (codes "nth") ms line d 104 is (λ rest. refl)) (λ o done. line-read (codes "nth") ms line o done refl is)
-told (request.Relocate t index id before) line d is =
+told (request.Change t (change.Relocate index id before)) line d is =
     let ms = table_is t ∷ index_is index ∷ id_is id ∷ (codes "before", maybe_whole before) ∷ [] in
     at_letter line d 108 (lettered (codes "relocate") ms line d 108 is (λ rest. refl)) (λ o done. line-read (codes "relocate") ms line o done refl is)
-told (request.Commit n) line d is =
+told (request.Session (session.Commit n)) line d is =
     let ms = (codes "revision", whole n) ∷ [] in
     at_letter line d 109 (lettered (codes "commit") ms line d 109 is (λ rest. refl)) (λ o done. line-read (codes "commit") ms line o done refl is)
-told r line d is = by_bare (λ q t. Found (which (get_or t 10 d)) t) (bare_told d) r line (bare_of r) (asked_back r) is
+told (request.Session s) line d is = by_bare (λ q t. Found (which (get_or t 10 d)) t) (bare_told d) s line (bare_of s) (asked_back s) is
+told r line d is = absurd (none-some line is)
 
 -- ---- which request is found
 
@@ -476,12 +482,12 @@ first_is : (bs : List Bare) (line : List ℕ) (b : Bare) → first_with bare_tex
 first_is [] line b e = absurd (none-some b e)
 first_is (k ∷ bs) line b e = first_at (bytes_eq line (bare_text k)) k b line (first_with bare_text bs line) refl e (first_is bs line b)
 
-bare_short : (b : Bare) → short_line (asked_bare b) ≡ Some (bare_text b)
+bare_short : (b : Bare) → short_line (request.Session (asked_bare b)) ≡ Some (bare_text b)
 bare_short bare.Undo = refl
 bare_short b = refl
 
 -- a command without members that is found has this line
-pub bare_found : (line : List ℕ) (b : Bare) → bare_line line ≡ Some b → short_line (asked_bare b) ≡ Some line
+pub bare_found : (line : List ℕ) (b : Bare) → bare_line line ≡ Some b → short_line (request.Session (asked_bare b)) ≡ Some line
 bare_found line b is = bare_short b ∙ ap Some (first_is bares line b is)
 
 -- a short line by its letter

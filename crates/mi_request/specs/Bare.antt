@@ -1,10 +1,10 @@
--- The table of commands without members: the name of each, and the request that it is. Their lines are written by one rule:
+-- The table of commands without members: the name of each, and the command that it is. Their lines are written by one rule:
 -- {"cmd":"push"} asks a push.
 use Rattle.std.specs.Prelude.{ℕ, List, [], ◌∷◌, ◌++◌, if◌then◌else◌, Option, Some, None, codes, bytes_eq}
 use Rattle.mi_request.specs.declared.bare.Bare.{Bare}
 use Rattle.mi_request.specs.declared.bare.Bare.TheVariants as bare
-use Rattle.mi_request.specs.declared.request.Request.{Request}
-use Rattle.mi_request.specs.declared.request.Request.TheVariants as request
+use Rattle.mi_request.specs.declared.request.SessionCommand.{SessionCommand}
+use Rattle.mi_request.specs.declared.request.SessionCommand.TheVariants as session
 
 -- all of them
 abbrev pub bares : List Bare
@@ -19,23 +19,23 @@ bare_name bare.UndoAll = codes "undo_all"
 bare_name bare.Push = codes "push"
 bare_name bare.Revision = codes "revision"
 
--- the request that each is
-abbrev pub asked_bare : Bare → Request
-asked_bare bare.Undo = request.Undo
-asked_bare bare.Start = request.Start
-asked_bare bare.Squash = request.Squash
-asked_bare bare.UndoAll = request.UndoAll
-asked_bare bare.Push = request.Push
-asked_bare bare.Revision = request.Revision
+-- the command that each is
+abbrev pub asked_bare : Bare → SessionCommand
+asked_bare bare.Undo = session.Undo
+asked_bare bare.Start = session.Start
+asked_bare bare.Squash = session.Squash
+asked_bare bare.UndoAll = session.UndoAll
+asked_bare bare.Push = session.Push
+asked_bare bare.Revision = session.Revision
 
--- which of them a request is
-abbrev pub bare_of : Request → Option Bare
-bare_of request.Undo = Some bare.Undo
-bare_of request.Start = Some bare.Start
-bare_of request.Squash = Some bare.Squash
-bare_of request.UndoAll = Some bare.UndoAll
-bare_of request.Push = Some bare.Push
-bare_of request.Revision = Some bare.Revision
+-- which of them a command is
+abbrev pub bare_of : SessionCommand → Option Bare
+bare_of session.Undo = Some bare.Undo
+bare_of session.Start = Some bare.Start
+bare_of session.Squash = Some bare.Squash
+bare_of session.UndoAll = Some bare.UndoAll
+bare_of session.Push = Some bare.Push
+bare_of session.Revision = Some bare.Revision
 bare_of other = None
 
 -- how the line of each is written without spaces

@@ -1,21 +1,27 @@
--- The table of commands: the members of each, and the request that they are.
+-- The table of commands: the members of each, and the change, the look-up or the command over sessions that they are.
 use Rattle.std.specs.Prelude.{ℕ, List, [], ◌∷◌, Bool, true, false, ◌&&◌, nat_le, if◌then◌else◌}
 use Rattle.std.specs.Prelude.{Option, Some, None, is_some, option_map, option_and_then, codes, bytes_eq}
 use Rattle.std.specs.Option.{option_map_or}
 use Rattle.serde_json.specs.Data.{Data, null, boolean, number, string, array, object, Items, Members, no_members}
 use Rattle.serde_json.specs.Find.{get_member, as_str, as_array, as_bool, as_object}
 use Rattle.mi_request.specs.Bare.{asked_bare, bare_named}
-use Rattle.mi_request.specs.Keyed.{asked_key}
-use Rattle.mi_request.specs.Json.{has_only, natural, needed, optional, default, option_map₂, option_map₃, option_map₄, option_map₅, option_map₆}
+use Rattle.mi_request.specs.Json.{has_only, natural, needed, optional, default, option_map₂, option_map₃, option_map₄, option_map₅}
 use Rattle.mi_value.specs.declared.limits.TheConstants.{MAX_PAGE, MAX_RESERVED_CHANGES, MAX_RESERVED_SESSIONS}
 use Rattle.mi_request.specs.declared.command.CommandName.{CommandName}
 use Rattle.mi_request.specs.declared.command.CommandName.TheVariants as name
+use Rattle.mi_request.specs.declared.keyed.KeyCommand.{KeyCommand}
 use Rattle.mi_request.specs.declared.keyed.KeyCommand.TheVariants as keyed
+use Rattle.mi_request.specs.declared.request.ChangeRequest.{ChangeRequest}
+use Rattle.mi_request.specs.declared.request.ChangeRequest.TheVariants as change
 use Rattle.mi_request.specs.declared.request.End.{End}
 use Rattle.mi_request.specs.declared.request.End.TheVariants.{Open, With, Without}
+use Rattle.mi_request.specs.declared.request.LookUpRequest.{LookUpRequest}
+use Rattle.mi_request.specs.declared.request.LookUpRequest.TheVariants as look_up
 use Rattle.mi_request.specs.declared.request.NamedPlace.{NamedPlace}
 use Rattle.mi_request.specs.declared.request.Request.{Request}
 use Rattle.mi_request.specs.declared.request.Request.TheVariants as request
+use Rattle.mi_request.specs.declared.request.SessionCommand.{SessionCommand}
+use Rattle.mi_request.specs.declared.request.SessionCommand.TheVariants as session
 
 -- the command without members of a name
 abbrev pub named_bare : List ℕ → Option CommandName
@@ -109,11 +115,27 @@ lower_end d = option_and_then (end_of (codes "ge") (codes "gt")) (as_object d)
 abbrev pub upper_end : Data → Option End
 upper_end d = option_and_then (end_of (codes "le") (codes "lt")) (as_object d)
 
--- a row of the table: the members that a command may have beside `cmd`, and the request that they are, or none where a
--- needed one is missing or one is of another kind
+-- what members are: a change of a table, a look-up of one, or a command over sessions; or none where a needed one is missing or one is of
+-- another kind
+pub data Asks : Type 0 where
+  a_change : (Members → Option ChangeRequest) → Asks
+  a_look_up : (Members → Option LookUpRequest) → Asks
+  of_sessions : (Members → Option SessionCommand) → Asks
+
+-- a row of the table: the members that a command may have beside `cmd` and `table`, and what they are
 pub record Form : Type 0 where
   pub members : List (List ℕ)
-  pub request : Members → Option Request
+  pub asks : Asks
+
+-- the names with that of the table, which a change and a look-up may have
+abbrev pub with_table : Asks → List (List ℕ) → List (List ℕ)
+with_table (a_change f) names = codes "table" ∷ names
+with_table (a_look_up f) names = codes "table" ∷ names
+with_table (of_sessions f) names = names
+
+-- all members that a command may have beside `cmd`
+abbrev pub member_names : Form → List (List ℕ)
+member_names form = with_table form.asks form.members
 
 -- members that many commands have
 abbrev pub table_in : Members → Option (Option (List ℕ))
@@ -132,97 +154,93 @@ key_in ms = needed as_array (codes "key") ms
 abbrev pub limit_in : Members → Option ℕ
 limit_in ms = default MAX_PAGE page (codes "limit") ms
 
+-- the request that members are
+abbrev pub asked : Asks → Members → Option Request
+asked (a_change f) ms = option_map₂ request.Change (table_in ms) (f ms)
+asked (a_look_up f) ms = option_map₂ request.LookUp (table_in ms) (f ms)
+asked (of_sessions f) ms = option_map request.Session (f ms)
+
+-- ---- what the members of each command are
+
+abbrev pub insert_in : Members → Option ChangeRequest
+insert_in ms = option_map₂ change.Insert (needed as_object (codes "row") ms) (default None place_or_none (codes "before") ms)
+
+abbrev pub replace_in : Members → Option ChangeRequest
+replace_in ms = option_map₂ change.Replace (id_in ms) (needed as_object (codes "row") ms)
+
+abbrev pub modify_in : Members → Option ChangeRequest
+modify_in ms = option_map₄ change.Modify (id_in ms) (default no_members as_object (codes "set") ms)
+    (default no_members as_object (codes "add") ms) (default false as_bool (codes "rollback") ms)
+
+abbrev pub erase_in : Members → Option ChangeRequest
+erase_in ms = option_map change.Erase (id_in ms)
+
+abbrev pub relocate_in : Members → Option ChangeRequest
+relocate_in ms = option_map₃ change.Relocate (index_in ms) (id_in ms) (default None natural_or_null (codes "before") ms)
+
+abbrev pub get_in : Members → Option LookUpRequest
+get_in ms = option_map look_up.Get (id_in ms)
+
+abbrev pub nth_in : Members → Option LookUpRequest
+nth_in ms = option_map₂ look_up.Nth (index_in ms) (needed natural (codes "n") ms)
+
+abbrev pub range_in : Members → Option LookUpRequest
+range_in ms = option_map₅ look_up.Range (index_in ms) (default Open lower_end (codes "lower") ms)
+    (default Open upper_end (codes "upper") ms) (default false as_bool (codes "reverse") ms) (limit_in ms)
+
+abbrev pub list_in : Members → Option LookUpRequest
+list_in ms = option_map₃ look_up.List (index_in ms) (optional natural (codes "after") ms) (limit_in ms)
+
+abbrev pub rank_in : Members → Option LookUpRequest
+rank_in ms = option_map₂ look_up.Rank (index_in ms) (id_in ms)
+
+abbrev pub commit_in : Members → Option SessionCommand
+commit_in ms = option_map session.Commit (needed natural (codes "revision") ms)
+
+abbrev pub reserve_in : Members → Option SessionCommand
+reserve_in ms = option_map₂ session.Reserve (needed (up_to MAX_RESERVED_CHANGES) (codes "changes") ms)
+    (needed (up_to MAX_RESERVED_SESSIONS) (codes "sessions") ms)
+
+-- what an index and a key are, of the commands over a key
+abbrev pub asks_key : KeyCommand → Asks
+asks_key keyed.EraseKey = a_change (λ ms. option_map₂ change.EraseKey (index_in ms) (key_in ms))
+asks_key keyed.Find = a_look_up (λ ms. option_map₂ look_up.Find (index_in ms) (key_in ms))
+asks_key keyed.Count = a_look_up (λ ms. option_map₂ look_up.Count (index_in ms) (key_in ms))
+asks_key keyed.LowerRank = a_look_up (λ ms. option_map₂ look_up.LowerRank (index_in ms) (key_in ms))
+asks_key keyed.UpperRank = a_look_up (λ ms. option_map₂ look_up.UpperRank (index_in ms) (key_in ms))
+
 -- the table of commands
 abbrev pub form_of : CommandName → Form
-form_of name.Insert = record {
-  members = codes "table" ∷ codes "row" ∷ codes "before" ∷ [];
-  request = λ ms. option_map₃ request.Insert (table_in ms) (needed as_object (codes "row") ms) (default None place_or_none (codes "before") ms);
-}
-form_of name.Replace = record {
-  members = codes "table" ∷ codes "id" ∷ codes "row" ∷ [];
-  request = λ ms. option_map₃ request.Replace (table_in ms) (id_in ms) (needed as_object (codes "row") ms);
-}
-form_of name.Modify = record {
-  members = codes "table" ∷ codes "id" ∷ codes "set" ∷ codes "add" ∷ codes "rollback" ∷ [];
-  request = λ ms. option_map₅ request.Modify (table_in ms) (id_in ms)
-      (default no_members as_object (codes "set") ms) (default no_members as_object (codes "add") ms) (default false as_bool (codes "rollback") ms);
-}
-form_of name.Erase = record {
-  members = codes "table" ∷ codes "id" ∷ [];
-  request = λ ms. option_map₂ request.Erase (table_in ms) (id_in ms);
-}
-form_of (name.Keyed k) = record {
-  members = codes "table" ∷ codes "index" ∷ codes "key" ∷ [];
-  request = λ ms. option_map₃ (asked_key k) (table_in ms) (index_in ms) (key_in ms);
-}
-form_of name.Relocate = record {
-  members = codes "table" ∷ codes "index" ∷ codes "id" ∷ codes "before" ∷ [];
-  request = λ ms. option_map₄ request.Relocate (table_in ms) (index_in ms) (id_in ms) (default None natural_or_null (codes "before") ms);
-}
-form_of (name.Bare b) = record { members = []; request = λ ms. Some (asked_bare b) }
-form_of name.Commit = record { members = codes "revision" ∷ []; request = λ ms. option_map request.Commit (needed natural (codes "revision") ms) }
-form_of name.Reserve = record {
-  members = codes "changes" ∷ codes "sessions" ∷ [];
-  request = λ ms. option_map₂ request.Reserve (needed (up_to MAX_RESERVED_CHANGES) (codes "changes") ms)
-      (needed (up_to MAX_RESERVED_SESSIONS) (codes "sessions") ms);
-}
-form_of name.Get = record {
-  members = codes "table" ∷ codes "id" ∷ [];
-  request = λ ms. option_map₂ request.Get (table_in ms) (id_in ms);
-}
-form_of name.Nth = record {
-  members = codes "table" ∷ codes "index" ∷ codes "n" ∷ [];
-  request = λ ms. option_map₃ request.Nth (table_in ms) (index_in ms) (needed natural (codes "n") ms);
-}
+form_of name.Insert = record { members = codes "row" ∷ codes "before" ∷ []; asks = a_change insert_in }
+form_of name.Replace = record { members = codes "id" ∷ codes "row" ∷ []; asks = a_change replace_in }
+form_of name.Modify = record { members = codes "id" ∷ codes "set" ∷ codes "add" ∷ codes "rollback" ∷ []; asks = a_change modify_in }
+form_of name.Erase = record { members = codes "id" ∷ []; asks = a_change erase_in }
+form_of (name.Keyed k) = record { members = codes "index" ∷ codes "key" ∷ []; asks = asks_key k }
+form_of name.Relocate = record { members = codes "index" ∷ codes "id" ∷ codes "before" ∷ []; asks = a_change relocate_in }
+form_of (name.Bare b) = record { members = []; asks = of_sessions (λ ms. Some (asked_bare b)) }
+form_of name.Commit = record { members = codes "revision" ∷ []; asks = of_sessions commit_in }
+form_of name.Reserve = record { members = codes "changes" ∷ codes "sessions" ∷ []; asks = of_sessions reserve_in }
+form_of name.Get = record { members = codes "id" ∷ []; asks = a_look_up get_in }
+form_of name.Nth = record { members = codes "index" ∷ codes "n" ∷ []; asks = a_look_up nth_in }
 form_of name.Range = record {
-  members = codes "table" ∷ codes "index" ∷ codes "lower" ∷ codes "upper" ∷ codes "reverse" ∷ codes "limit" ∷ [];
-  request = λ ms. option_map₆ request.Range (table_in ms) (index_in ms)
-      (default Open lower_end (codes "lower") ms) (default Open upper_end (codes "upper") ms) (default false as_bool (codes "reverse") ms) (limit_in ms);
+  members = codes "index" ∷ codes "lower" ∷ codes "upper" ∷ codes "reverse" ∷ codes "limit" ∷ [];
+  asks = a_look_up range_in;
 }
-form_of name.List = record {
-  members = codes "table" ∷ codes "index" ∷ codes "after" ∷ codes "limit" ∷ [];
-  request = λ ms. option_map₄ request.List (table_in ms) (index_in ms) (optional natural (codes "after") ms) (limit_in ms);
-}
-form_of name.Rank = record {
-  members = codes "table" ∷ codes "index" ∷ codes "id" ∷ [];
-  request = λ ms. option_map₃ request.Rank (table_in ms) (index_in ms) (id_in ms);
-}
-form_of name.Size = record { members = codes "table" ∷ []; request = λ ms. option_map request.Size (table_in ms) }
+form_of name.List = record { members = codes "index" ∷ codes "after" ∷ codes "limit" ∷ []; asks = a_look_up list_in }
+form_of name.Rank = record { members = codes "index" ∷ codes "id" ∷ []; asks = a_look_up rank_in }
+form_of name.Size = record { members = []; asks = a_look_up (λ ms. Some look_up.Size) }
 
 -- a change, a session command or a reserve, which waits while another connection holds sessions: whatever isn't a look-up
 abbrev pub keeps_out : Request → Bool
-keeps_out request.Revision = false
-keeps_out (request.Get table id) = false
-keeps_out (request.Find table index key) = false
-keeps_out (request.Nth table index n) = false
-keeps_out (request.Count table index key) = false
-keeps_out (request.Range table index lower upper reverse limit) = false
-keeps_out (request.List table index after limit) = false
-keeps_out (request.Rank table index id) = false
-keeps_out (request.LowerRank table index key) = false
-keeps_out (request.UpperRank table index key) = false
-keeps_out (request.Size table) = false
+keeps_out (request.LookUp table l) = false
+keeps_out (request.Session session.Revision) = false
 keeps_out other = true
 
--- the member `table` of a request, which those of sessions never have
+-- the member `table` of a request, which those over sessions never have
 abbrev pub table_member : Request → Option (Option (List ℕ))
-table_member (request.Insert table row before) = Some table
-table_member (request.Replace table id row) = Some table
-table_member (request.Modify table id set add rollback) = Some table
-table_member (request.Erase table id) = Some table
-table_member (request.EraseKey table index key) = Some table
-table_member (request.Relocate table index id before) = Some table
-table_member (request.Get table id) = Some table
-table_member (request.Find table index key) = Some table
-table_member (request.Nth table index n) = Some table
-table_member (request.Count table index key) = Some table
-table_member (request.Range table index lower upper reverse limit) = Some table
-table_member (request.List table index after limit) = Some table
-table_member (request.Rank table index id) = Some table
-table_member (request.LowerRank table index key) = Some table
-table_member (request.UpperRank table index key) = Some table
-table_member (request.Size table) = Some table
-table_member session = None
+table_member (request.Change table c) = Some table
+table_member (request.LookUp table l) = Some table
+table_member (request.Session s) = None
 
 -- whether a request names its table
 abbrev pub names_table : Request → Bool

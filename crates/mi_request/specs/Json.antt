@@ -59,6 +59,3 @@ option_map₅ f (Some a) b c d e = option_map₄ (f a) b c d e
 option_map₅ f None b c d e = None
 
 -- all of six parts, or none
-abbrev pub option_map₆ : {A B C D E F G : Type 0} → (A → B → C → D → E → F → G) → Option A → Option B → Option C → Option D → Option E → Option F → Option G
-option_map₆ f (Some a) b c d e g = option_map₅ (f a) b c d e g
-option_map₆ f None b c d e g = None

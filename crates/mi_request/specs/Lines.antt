@@ -8,7 +8,7 @@ use Rattle.serde_json.specs.Read.{read}
 use Rattle.mi_value.specs.declared.refusal.Refusal.{Refusal}
 use Rattle.mi_value.specs.declared.refusal.Refusal.TheVariants.{Json, Form}
 use Rattle.mi_request.specs.Json.{has_only, needed}
-use Rattle.mi_request.specs.Commands.{command_named, form_of}
+use Rattle.mi_request.specs.Commands.{command_named, form_of, member_names, asked}
 use Rattle.mi_request.specs.Commands as table
 use Rattle.mi_request.specs.declared.request.Request.{Request}
 
@@ -18,7 +18,7 @@ json_of bytes = if is_utf8 bytes then read bytes else None
 
 -- the request that members of this form are; none where there is a member that the form doesn't have
 abbrev pub request_by : Members → table.Form → Option Request
-request_by ms form = if has_only (codes "cmd" ∷ form.members) ms then form.request ms else None
+request_by ms form = if has_only (codes "cmd" ∷ member_names form) ms then asked form.asks ms else None
 
 -- the form that `cmd` names
 abbrev pub form_in : Members → Option table.Form

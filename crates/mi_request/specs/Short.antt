@@ -4,8 +4,11 @@ use Rattle.std.specs.Prelude.{ℕ, ◌^◌, List, [], ◌∷◌, ◌++◌, Bool,
 use Rattle.std.specs.Prelude.{Option, Some, None, option_map, option_and_then, codes, decimal}
 use Rattle.std.specs.List.{list_all}
 use Rattle.mi_request.specs.Bare.{bare_of, bare_name}
+use Rattle.mi_request.specs.declared.request.ChangeRequest.TheVariants as change
+use Rattle.mi_request.specs.declared.request.LookUpRequest.TheVariants as look_up
 use Rattle.mi_request.specs.declared.request.Request.{Request}
 use Rattle.mi_request.specs.declared.request.Request.TheVariants as request
+use Rattle.mi_request.specs.declared.request.SessionCommand.TheVariants as session
 
 -- what a member is: a name of a table or an index, or a whole number; each that must be there, or that may be absent
 pub data Word : Type 0 where
@@ -84,15 +87,16 @@ id_is id = (codes "id", whole id)
 
 -- the command and the members of a request that has such a line. Other requests have none
 abbrev pub words_of : Request → Option (List ℕ × List Member)
-words_of (request.Get table id) = Some (codes "get", table_is table ∷ id_is id ∷ [])
-words_of (request.Erase table id) = Some (codes "erase", table_is table ∷ id_is id ∷ [])
-words_of (request.Size table) = Some (codes "size", table_is table ∷ [])
-words_of (request.Rank table index id) = Some (codes "rank", table_is table ∷ index_is index ∷ id_is id ∷ [])
-words_of (request.Nth table index n) = Some (codes "nth", table_is table ∷ index_is index ∷ (codes "n", whole n) ∷ [])
-words_of (request.Relocate table index id before) =
+words_of (request.LookUp table (look_up.Get id)) = Some (codes "get", table_is table ∷ id_is id ∷ [])
+words_of (request.Change table (change.Erase id)) = Some (codes "erase", table_is table ∷ id_is id ∷ [])
+words_of (request.LookUp table look_up.Size) = Some (codes "size", table_is table ∷ [])
+words_of (request.LookUp table (look_up.Rank index id)) = Some (codes "rank", table_is table ∷ index_is index ∷ id_is id ∷ [])
+words_of (request.LookUp table (look_up.Nth index n)) = Some (codes "nth", table_is table ∷ index_is index ∷ (codes "n", whole n) ∷ [])
+words_of (request.Change table (change.Relocate index id before)) =
     Some (codes "relocate", table_is table ∷ index_is index ∷ id_is id ∷ (codes "before", maybe_whole before) ∷ [])
-words_of (request.Commit revision) = Some (codes "commit", (codes "revision", whole revision) ∷ [])
-words_of r = option_map (λ b. (bare_name b, [])) (bare_of r)
+words_of (request.Session (session.Commit revision)) = Some (codes "commit", (codes "revision", whole revision) ∷ [])
+words_of (request.Session other) = option_map (λ b. (bare_name b, [])) (bare_of other)
+words_of other = None
 
 -- the line, where each member can stand in it
 abbrev pub written : List ℕ × List Member → Option (List ℕ)

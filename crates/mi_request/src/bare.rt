@@ -1,8 +1,8 @@
-//! The commands without members: of each its name, its line as it is written without spaces, and its request. It takes no memory.
+//! The commands without members: of each its name, its line as it is written without spaces, and what it is. It takes no memory.
 ghost use Rattle.std.specs.Prelude.{◌≡◌, bytes_eq};
 ghost use Rattle.mi_request.specs.Bare.{asked_bare, bare_named, bare_line};
 
-use crate::request::Request;
+use crate::request::SessionCommand;
 
 /// A command without members.
 #[derive(Clone, Copy)]
@@ -62,18 +62,18 @@ impl Bare {
         }
     }
 
-    /// The request that it is.
+    /// The command that it is.
     #[inline(always)]
-    pub(crate) fn request<'a>(self) -> Request<'a>
+    pub(crate) fn command(self) -> SessionCommand
         ensures { result ≡ asked_bare self }
     {
         match self {
-            Bare::Undo => Request::Undo,
-            Bare::Start => Request::Start,
-            Bare::Squash => Request::Squash,
-            Bare::UndoAll => Request::UndoAll,
-            Bare::Push => Request::Push,
-            Bare::Revision => Request::Revision,
+            Bare::Undo => SessionCommand::Undo,
+            Bare::Start => SessionCommand::Start,
+            Bare::Squash => SessionCommand::Squash,
+            Bare::UndoAll => SessionCommand::UndoAll,
+            Bare::Push => SessionCommand::Push,
+            Bare::Revision => SessionCommand::Revision,
         }
     }
 }

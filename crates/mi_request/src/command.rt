@@ -1,6 +1,6 @@
 //! The commands by name, and the members that each may have. It reads no member's value.
 ghost use Rattle.std.specs.Prelude.{◌≡◌, ◌∷◌, codes};
-ghost use Rattle.mi_request.specs.Commands.{look_up_named, step_named, command_named, form_of};
+ghost use Rattle.mi_request.specs.Commands.{look_up_named, step_named, command_named, form_of, member_names};
 ghost use Rattle.mi_request.specs.Json.{has_only};
 
 use crate::bare::Bare;
@@ -79,7 +79,7 @@ impl CommandName {
 
     /// Whether an object has no other members than it may have, `cmd` among them. Each form's names are compared in place.
     pub(crate) fn allows(self, object: &Object<'_>) -> bool
-        ensures { result ≡ has_only (codes "cmd" ∷ (form_of self).members) object.now }
+        ensures { result ≡ has_only (codes "cmd" ∷ member_names (form_of self)) object.now }
     {
         match self {
             CommandName::Insert => object.has_only(&["cmd", "table", "row", "before"]),

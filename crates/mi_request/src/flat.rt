@@ -21,7 +21,7 @@ use crate::keyed::KeyCommand;
 use crate::name::Name;
 use crate::object::Object;
 use crate::reading::{if_page, natural_of};
-use crate::request::{End, Request};
+use crate::request::{ChangeRequest, End, LookUpRequest, Request};
 use crate::text::text_of;
 use bumpalo::Bump;
 use mi_tokens::{Json, Tokens, pass_object, pass_one};
@@ -174,10 +174,9 @@ pub(crate) fn insert<'a>(arena: &'a Bump, text: &'a str) -> Option<Request<'a>>
     if !tokens.take_end() {
         return None;
     }
-    Some(Request::Insert {
+    Some(Request::Change {
         table,
-        row,
-        before: None,
+        change: ChangeRequest::Insert { row, before: None },
     })
 }
 
@@ -192,7 +191,10 @@ pub(crate) fn replace<'a>(arena: &'a Bump, text: &'a str) -> Option<Request<'a>>
     if !tokens.take_end() {
         return None;
     }
-    Some(Request::Replace { table, id, row })
+    Some(Request::Change {
+        table,
+        change: ChangeRequest::Replace { id, row },
+    })
 }
 
 #[inline(always)]
@@ -207,12 +209,14 @@ pub(crate) fn modify<'a>(arena: &'a Bump, text: &'a str) -> Option<Request<'a>>
     if !tokens.take_end() {
         return None;
     }
-    Some(Request::Modify {
+    Some(Request::Change {
         table,
-        id,
-        set,
-        add,
-        rollback: false,
+        change: ChangeRequest::Modify {
+            id,
+            set,
+            add,
+            rollback: false,
+        },
     })
 }
 
@@ -229,13 +233,15 @@ pub(crate) fn range<'a>(arena: &'a Bump, text: &'a str) -> Option<Request<'a>>
     if !tokens.take_end() {
         return None;
     }
-    Some(Request::Range {
+    Some(Request::LookUp {
         table,
-        index,
-        lower,
-        upper: End::Open,
-        reverse: false,
-        limit,
+        look_up: LookUpRequest::Range {
+            index,
+            lower,
+            upper: End::Open,
+            reverse: false,
+            limit,
+        },
     })
 }
 

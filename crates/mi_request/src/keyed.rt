@@ -4,7 +4,7 @@ ghost use Rattle.mi_request.specs.Keyed.{asked_key};
 
 use crate::array::Array;
 use crate::name::Name;
-use crate::request::Request;
+use crate::request::{ChangeRequest, LookUpRequest, Request};
 
 /// A command over a key of an index.
 #[derive(Clone, Copy)]
@@ -28,11 +28,26 @@ impl KeyCommand {
         ensures { result ≡ asked_key self table.entry index.entry key.entry }
     {
         match self {
-            KeyCommand::EraseKey => Request::EraseKey { table, index, key },
-            KeyCommand::Find => Request::Find { table, index, key },
-            KeyCommand::Count => Request::Count { table, index, key },
-            KeyCommand::LowerRank => Request::LowerRank { table, index, key },
-            KeyCommand::UpperRank => Request::UpperRank { table, index, key },
+            KeyCommand::EraseKey => {
+                let change = ChangeRequest::EraseKey { index, key };
+                Request::Change { table, change }
+            }
+            KeyCommand::Find => {
+                let look_up = LookUpRequest::Find { index, key };
+                Request::LookUp { table, look_up }
+            }
+            KeyCommand::Count => {
+                let look_up = LookUpRequest::Count { index, key };
+                Request::LookUp { table, look_up }
+            }
+            KeyCommand::LowerRank => {
+                let look_up = LookUpRequest::LowerRank { index, key };
+                Request::LookUp { table, look_up }
+            }
+            KeyCommand::UpperRank => {
+                let look_up = LookUpRequest::UpperRank { index, key };
+                Request::LookUp { table, look_up }
+            }
         }
     }
 }

@@ -24,4 +24,4 @@ pub use line_reader::LineReader;
 pub use mi_tokens::Json;
 pub use name::Name;
 pub use object::Object;
-pub use request::{End, NamedPlace, Request};
+pub use request::{ChangeRequest, End, LookUpRequest, NamedPlace, Request, SessionCommand};

@@ -9,7 +9,7 @@ ghost use Rattle.mi_request.specs.declared.request.Request.TheVariants as reques
 
 use crate::bare::Bare;
 use crate::flat::{Flat, flat_of, insert, keyed, modify, range, replace};
-use crate::request::{Request, request_of};
+use crate::request::{Request, SessionCommand, request_of};
 use crate::short::short_of;
 use crate::value::read_value;
 use bumpalo::Bump;
@@ -102,11 +102,11 @@ impl LineReader {
     pub fn parse<'a>(&'a mut self, line: &'a [u8]) -> Result<Request<'a>, Refusal>
         ensures answer { IsAnswer result (command_line line.now) }
         ensures refusal { IfErr result NamesNoIndex }
-        ensures undo { line.now ≡ codes "{\"cmd\":\"undo\"}" → result ≡ Ok request.Undo }
+        ensures undo { line.now ≡ codes "{\"cmd\":\"undo\"}" → result ≡ Ok (request.Session SessionCommand.Undo) }
         ensures short { (r : Asked) → short_line r ≡ Some line.now → result ≡ Ok r }
     {
         if let Some(bare) = Bare::of_line(line) {
-            return Ok(bare.request());
+            return Ok(Request::Session(bare.command()));
         }
         match short_of(line) {
             Some(request) => Ok(request),

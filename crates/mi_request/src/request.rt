@@ -30,44 +30,89 @@ pub enum End<'a> {
     Without(Array<'a>),
 }
 
-/// A command as it is asked, whatever the catalog: names as they were written, ids 0 to 2^63 - 1. An absent `table` is the
-/// first.
+/// A change of a table as it is asked: names as they were written, ids 0 to 2^63 - 1.
 #[derive(Drop)]
-pub enum Request<'a> {
+pub enum ChangeRequest<'a> {
     Insert {
-        table: Option<Name<'a>>,
         row: Object<'a>,
         before: Option<NamedPlace<'a>>,
     },
     Replace {
-        table: Option<Name<'a>>,
         id: u64,
         row: Object<'a>,
     },
     /// `set` and `add` have no members where they are absent.
     Modify {
-        table: Option<Name<'a>>,
         id: u64,
         set: Object<'a>,
         add: Object<'a>,
         rollback: bool,
     },
     Erase {
-        table: Option<Name<'a>>,
         id: u64,
     },
     EraseKey {
-        table: Option<Name<'a>>,
         index: Name<'a>,
         key: Array<'a>,
     },
     /// Without `before` the record goes to the end.
     Relocate {
-        table: Option<Name<'a>>,
         index: Name<'a>,
         id: u64,
         before: Option<u64>,
     },
+}
+
+/// A look-up of a table as it is asked.
+#[derive(Drop)]
+pub enum LookUpRequest<'a> {
+    Get {
+        id: u64,
+    },
+    Find {
+        index: Name<'a>,
+        key: Array<'a>,
+    },
+    Nth {
+        index: Name<'a>,
+        n: u64,
+    },
+    Count {
+        index: Name<'a>,
+        key: Array<'a>,
+    },
+    /// At most `limit` rows, 1 to 1,000.
+    Range {
+        index: Name<'a>,
+        lower: End<'a>,
+        upper: End<'a>,
+        reverse: bool,
+        limit: usize,
+    },
+    /// At most `limit` rows, 1 to 1,000, behind the record `after` or from the first.
+    List {
+        index: Name<'a>,
+        after: Option<u64>,
+        limit: usize,
+    },
+    Rank {
+        index: Name<'a>,
+        id: u64,
+    },
+    LowerRank {
+        index: Name<'a>,
+        key: Array<'a>,
+    },
+    UpperRank {
+        index: Name<'a>,
+        key: Array<'a>,
+    },
+    Size,
+}
+
+/// A command over sessions, whatever the tables: what it asks is what it does.
+#[derive(Clone, Copy, Drop)]
+pub enum SessionCommand {
     Start,
     Undo,
     Squash,
@@ -83,59 +128,20 @@ pub enum Request<'a> {
         sessions: u64,
     },
     Revision,
-    Get {
+}
+
+/// A command as it is asked, whatever the catalog. An absent `table` is the first.
+#[derive(Drop)]
+pub enum Request<'a> {
+    Change {
         table: Option<Name<'a>>,
-        id: u64,
+        change: ChangeRequest<'a>,
     },
-    Find {
+    LookUp {
         table: Option<Name<'a>>,
-        index: Name<'a>,
-        key: Array<'a>,
+        look_up: LookUpRequest<'a>,
     },
-    Nth {
-        table: Option<Name<'a>>,
-        index: Name<'a>,
-        n: u64,
-    },
-    Count {
-        table: Option<Name<'a>>,
-        index: Name<'a>,
-        key: Array<'a>,
-    },
-    /// At most `limit` rows, 1 to 1,000.
-    Range {
-        table: Option<Name<'a>>,
-        index: Name<'a>,
-        lower: End<'a>,
-        upper: End<'a>,
-        reverse: bool,
-        limit: usize,
-    },
-    /// At most `limit` rows, 1 to 1,000, behind the record `after` or from the first.
-    List {
-        table: Option<Name<'a>>,
-        index: Name<'a>,
-        after: Option<u64>,
-        limit: usize,
-    },
-    Rank {
-        table: Option<Name<'a>>,
-        index: Name<'a>,
-        id: u64,
-    },
-    LowerRank {
-        table: Option<Name<'a>>,
-        index: Name<'a>,
-        key: Array<'a>,
-    },
-    UpperRank {
-        table: Option<Name<'a>>,
-        index: Name<'a>,
-        key: Array<'a>,
-    },
-    Size {
-        table: Option<Name<'a>>,
-    },
+    Session(SessionCommand),
 }
 
 impl<'a> Request<'a> {
@@ -143,32 +149,10 @@ impl<'a> Request<'a> {
     pub fn keeps_out(&self) -> bool
         ensures { result ≡ commands.keeps_out self.now }
     {
-        match self {
-            Request::Revision
-            | Request::Get { .. }
-            | Request::Find { .. }
-            | Request::Nth { .. }
-            | Request::Count { .. }
-            | Request::Range { .. }
-            | Request::List { .. }
-            | Request::Rank { .. }
-            | Request::LowerRank { .. }
-            | Request::UpperRank { .. }
-            | Request::Size { .. } => false,
-            Request::Insert { .. }
-            | Request::Replace { .. }
-            | Request::Modify { .. }
-            | Request::Erase { .. }
-            | Request::EraseKey { .. }
-            | Request::Relocate { .. }
-            | Request::Start
-            | Request::Undo
-            | Request::Squash
-            | Request::Commit { .. }
-            | Request::UndoAll
-            | Request::Reserve { .. }
-            | Request::Push => true,
-        }
+        !matches!(
+            self,
+            Request::LookUp { .. } | Request::Session(SessionCommand::Revision)
+        )
     }
 }
 

@@ -6,7 +6,7 @@ ghost use Rattle.mi_request.specs.ShortCode.{IsRead, read_members, a_name, perha
 ghost use Rattle.mi_request.specs.declared.request.Request.{Request as Asked};
 
 use crate::name::Name;
-use crate::request::Request;
+use crate::request::{ChangeRequest, LookUpRequest, Request, SessionCommand};
 use crate::words::{
     behind, is_end, maybe_name_behind, maybe_whole_behind, name_behind, whole_behind,
 };
@@ -67,9 +67,9 @@ fn get(line: &[u8]) -> Option<Request<'_>>
     ensures { IsRead (codes "get") ((codes "table", perhaps_name) ∷ (codes "id", a_whole) ∷ []) line.now result }
 {
     let members = record_of(behind(b"{\"cmd\":\"get\"".as_slice(), line)?)?;
-    Some(Request::Get {
+    Some(Request::LookUp {
         table: members.table,
-        id: members.id,
+        look_up: LookUpRequest::Get { id: members.id },
     })
 }
 
@@ -79,9 +79,9 @@ fn erase(line: &[u8]) -> Option<Request<'_>>
     ensures { IsRead (codes "erase") ((codes "table", perhaps_name) ∷ (codes "id", a_whole) ∷ []) line.now result }
 {
     let members = record_of(behind(b"{\"cmd\":\"erase\"".as_slice(), line)?)?;
-    Some(Request::Erase {
+    Some(Request::Change {
         table: members.table,
-        id: members.id,
+        change: ChangeRequest::Erase { id: members.id },
     })
 }
 
@@ -92,10 +92,12 @@ fn rank(line: &[u8]) -> Option<Request<'_>>
 {
     let rest = behind(b"{\"cmd\":\"rank\"".as_slice(), line)?;
     let members = number_of(b",\"id\":".as_slice(), rest)?;
-    Some(Request::Rank {
+    Some(Request::LookUp {
         table: members.table,
-        index: members.index,
-        id: members.n,
+        look_up: LookUpRequest::Rank {
+            index: members.index,
+            id: members.n,
+        },
     })
 }
 
@@ -106,10 +108,12 @@ fn nth(line: &[u8]) -> Option<Request<'_>>
 {
     let rest = behind(b"{\"cmd\":\"nth\"".as_slice(), line)?;
     let members = number_of(b",\"n\":".as_slice(), rest)?;
-    Some(Request::Nth {
+    Some(Request::LookUp {
         table: members.table,
-        index: members.index,
-        n: members.n,
+        look_up: LookUpRequest::Nth {
+            index: members.index,
+            n: members.n,
+        },
     })
 }
 
@@ -121,7 +125,10 @@ fn size(line: &[u8]) -> Option<Request<'_>>
     let rest = behind(b"{\"cmd\":\"size\"".as_slice(), line)?;
     let (table, rest) = maybe_name_behind(b",\"table\":\"".as_slice(), rest)?;
     if is_end(rest) {
-        Some(Request::Size { table })
+        Some(Request::LookUp {
+            table,
+            look_up: LookUpRequest::Size,
+        })
     } else {
         None
     }
@@ -135,7 +142,7 @@ fn commit(line: &[u8]) -> Option<Request<'_>>
     let rest = behind(b"{\"cmd\":\"commit\"".as_slice(), line)?;
     let (revision, rest) = whole_behind(b",\"revision\":".as_slice(), rest)?;
     if is_end(rest) {
-        Some(Request::Commit { revision })
+        Some(Request::Session(SessionCommand::Commit { revision }))
     } else {
         None
     }
@@ -153,11 +160,9 @@ fn relocate(line: &[u8]) -> Option<Request<'_>>
     let (id, rest) = whole_behind(b",\"id\":".as_slice(), rest)?;
     let (before, rest) = maybe_whole_behind(b",\"before\":".as_slice(), rest)?;
     if is_end(rest) {
-        Some(Request::Relocate {
+        Some(Request::Change {
             table,
-            index,
-            id,
-            before,
+            change: ChangeRequest::Relocate { index, id, before },
         })
     } else {
         None

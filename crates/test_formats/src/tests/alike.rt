@@ -1,6 +1,9 @@
 //! Random lines, read to values that lend and by `serde_json` alone: both read the same.
 use mi_random::Random;
-use mi_request::{Array, End, Json as Lent, LineReader, Name, NamedPlace, Object, Request};
+use mi_request::{
+    Array, ChangeRequest, End, Json as Lent, LineReader, LookUpRequest, Name, NamedPlace, Object,
+    Request, SessionCommand,
+};
 use mi_value::Refusal;
 use serde_json::{Map, Value as Json};
 use std::alloc::{AllocError, Global};
@@ -329,15 +332,18 @@ fn is_list(
 }
 
 /// Whether a look-up is that of the members that `serde_json` read.
-fn is_look_up(alloc: Global, read: &Json, request: Request<'_>) -> Result<bool, AllocError> {
-    match request {
-        Request::Revision => Ok(is_named(read, "revision", None, None)),
-        Request::Get { table, id } => Ok(is_of_id(read, "get", table, id)),
-        Request::Find { table, index, key } => is_keyed(alloc, read, "find", table, index, key),
-        Request::Nth { table, index, n } => Ok(is_numbered(read, "nth", table, index, "n", n)),
-        Request::Count { table, index, key } => is_keyed(alloc, read, "count", table, index, key),
-        Request::Range {
-            table,
+fn is_look_up(
+    alloc: Global,
+    read: &Json,
+    table: Option<Name<'_>>,
+    look_up: LookUpRequest<'_>,
+) -> Result<bool, AllocError> {
+    match look_up {
+        LookUpRequest::Get { id } => Ok(is_of_id(read, "get", table, id)),
+        LookUpRequest::Find { index, key } => is_keyed(alloc, read, "find", table, index, key),
+        LookUpRequest::Nth { index, n } => Ok(is_numbered(read, "nth", table, index, "n", n)),
+        LookUpRequest::Count { index, key } => is_keyed(alloc, read, "count", table, index, key),
+        LookUpRequest::Range {
             index,
             lower,
             upper,
@@ -348,51 +354,39 @@ fn is_look_up(alloc: Global, read: &Json, request: Request<'_>) -> Result<bool, 
                 && is_limit(read.get("limit"), limit)
                 && is_range(alloc, read, table, index, lower, upper)?,
         ),
-        Request::List {
-            table,
+        LookUpRequest::List {
             index,
             after,
             limit,
         } => Ok(is_list(read, table, index, after, limit)),
-        Request::Rank { table, index, id } => Ok(is_numbered(read, "rank", table, index, "id", id)),
-        Request::LowerRank { table, index, key } => is_keyed(
-            alloc,
-            read,
-            "lower_rank",
-            table,
-            index,
-            key,
-        ),
-        Request::UpperRank { table, index, key } => is_keyed(
-            alloc,
-            read,
-            "upper_rank",
-            table,
-            index,
-            key,
-        ),
-        Request::Size { table } => Ok(is_named(read, "size", table.as_ref(), None)),
-        _other => Ok(false),
+        LookUpRequest::Rank { index, id } => Ok(is_numbered(read, "rank", table, index, "id", id)),
+        LookUpRequest::LowerRank { index, key } => {
+            is_keyed(alloc, read, "lower_rank", table, index, key)
+        }
+        LookUpRequest::UpperRank { index, key } => {
+            is_keyed(alloc, read, "upper_rank", table, index, key)
+        }
+        LookUpRequest::Size => Ok(is_named(read, "size", table.as_ref(), None)),
     }
 }
 
-/// Whether a session command or reserve is that of the members that `serde_json` read, or else the look-up is.
-fn is_step(alloc: Global, read: &Json, request: Request<'_>) -> Result<bool, AllocError> {
-    match request {
-        Request::Start => Ok(is_named(read, "start", None, None)),
-        Request::Undo => Ok(is_named(read, "undo", None, None)),
-        Request::Squash => Ok(is_named(read, "squash", None, None)),
-        Request::Commit { revision } => Ok(
-            is_named(read, "commit", None, None) && is_number(read.get("revision"), revision),
-        ),
-        Request::UndoAll => Ok(is_named(read, "undo_all", None, None)),
-        Request::Push => Ok(is_named(read, "push", None, None)),
-        Request::Reserve { changes, sessions } => Ok(
+/// Whether a command over sessions is that of the members that `serde_json` read.
+fn is_session(read: &Json, command: SessionCommand) -> bool {
+    match command {
+        SessionCommand::Start => is_named(read, "start", None, None),
+        SessionCommand::Undo => is_named(read, "undo", None, None),
+        SessionCommand::Squash => is_named(read, "squash", None, None),
+        SessionCommand::Commit { revision } => {
+            is_named(read, "commit", None, None) && is_number(read.get("revision"), revision)
+        }
+        SessionCommand::UndoAll => is_named(read, "undo_all", None, None),
+        SessionCommand::Push => is_named(read, "push", None, None),
+        SessionCommand::Reserve { changes, sessions } => {
             is_named(read, "reserve", None, None)
                 && is_number(read.get("changes"), changes)
-                && is_number(read.get("sessions"), sessions),
-        ),
-        other => is_look_up(alloc, read, other),
+                && is_number(read.get("sessions"), sessions)
+        }
+        SessionCommand::Revision => is_named(read, "revision", None, None),
     }
 }
 
@@ -429,13 +423,17 @@ fn is_modify(
     Ok(is_object(alloc, read.get("set"), &set)? && is_object(alloc, read.get("add"), &add)?)
 }
 
-/// Whether a request is that of the members that `serde_json` read.
-fn is_request(alloc: Global, read: &Json, request: Request<'_>) -> Result<bool, AllocError> {
-    match request {
-        Request::Insert { table, row, before } => is_insert(alloc, read, table, row, before),
-        Request::Replace { table, id, row } => is_replace(alloc, read, table, id, row),
-        Request::Modify {
-            table,
+/// Whether a change is that of the members that `serde_json` read.
+fn is_change(
+    alloc: Global,
+    read: &Json,
+    table: Option<Name<'_>>,
+    change: ChangeRequest<'_>,
+) -> Result<bool, AllocError> {
+    match change {
+        ChangeRequest::Insert { row, before } => is_insert(alloc, read, table, row, before),
+        ChangeRequest::Replace { id, row } => is_replace(alloc, read, table, id, row),
+        ChangeRequest::Modify {
             id,
             set,
             add,
@@ -445,25 +443,23 @@ fn is_request(alloc: Global, read: &Json, request: Request<'_>) -> Result<bool, 
                 && is_flag(read.get("rollback"), rollback)
                 && is_modify(alloc, read, set, add)?,
         ),
-        Request::Erase { table, id } => Ok(is_of_id(read, "erase", table, id)),
-        Request::EraseKey { table, index, key } => is_keyed(
-            alloc,
-            read,
-            "erase_key",
-            table,
-            index,
-            key,
-        ),
-        Request::Relocate {
-            table,
-            index,
-            id,
-            before,
-        } => Ok(
+        ChangeRequest::Erase { id } => Ok(is_of_id(read, "erase", table, id)),
+        ChangeRequest::EraseKey { index, key } => {
+            is_keyed(alloc, read, "erase_key", table, index, key)
+        }
+        ChangeRequest::Relocate { index, id, before } => Ok(
             is_numbered(read, "relocate", table, index, "id", id)
                 && is_optional(read.get("before"), before),
         ),
-        other => is_step(alloc, read, other),
+    }
+}
+
+/// Whether a request is that of the members that `serde_json` read.
+fn is_request(alloc: Global, read: &Json, request: Request<'_>) -> Result<bool, AllocError> {
+    match request {
+        Request::Change { table, change } => is_change(alloc, read, table, change),
+        Request::LookUp { table, look_up } => is_look_up(alloc, read, table, look_up),
+        Request::Session(command) => Ok(is_session(read, command)),
     }
 }
 

@@ -2,6 +2,7 @@
 use Rattle.std.proofs.Common.{◌≡◌, ◌∷◌, [], List, None, codes, option_map, refl, ap, sym, ◌∙◌, rules}
 use Rattle.mi_request.specs.Short.{Member, whole, table_is, index_is}
 use Rattle.mi_request.specs.ShortCode.{a_name, a_whole, perhaps_name, Template}
+use Rattle.mi_request.specs.declared.request.LookUpRequest.TheVariants as look_up
 use Rattle.mi_request.specs.declared.request.Request.TheVariants as request
 use Rattle.mi_request.specs.declared.short.NumberIn.{NumberIn}
 use Rattle.mi_request.proofs.WordLemmas.{line_from, not_read, was_read}
@@ -27,6 +28,6 @@ returns c =
     let command : c.as_slice.result.now ≡ codes "{\"cmd\":\"rank\"" = search rules in
     let number : c.as_slice-2.result.now ≡ codes ",\"id\":" = search rules in
     let m = c.in_ok-members.members in
-    was_read (codes "rank") members c.args.line.now (request.Rank m.table m.index m.n) (words m) refl
+    was_read (codes "rank") members c.args.line.now (request.LookUp m.table (look_up.Rank m.index m.n)) (words m) refl
     (line_from (codes "rank") members c.args.line.now c.as_slice.result.now c.behind.result c.behind.ensures command c.in_ok-rest.rest c.in_ok-rest.was
     ∙ sym (c.number_of.ensures (codes "id") number) ∙ ap (option_map words) c.in_ok-members.was)

@@ -2,6 +2,7 @@
 use Rattle.std.proofs.Common.{◌≡◌, ◌∷◌, [], List, Option, Some, None, codes, option_map, refl, ap, ◌∙◌, rules}
 use Rattle.mi_request.specs.Short.{Member, name, maybe_name, whole, maybe_whole, name_front, whole_front, table_is, index_is, id_is}
 use Rattle.mi_request.specs.ShortCode.{name_at, whole_at, needed_at, maybe_at, read_line, read_members, read_member, a_name, a_whole, perhaps_name, perhaps_whole, Template}
+use Rattle.mi_request.specs.declared.request.ChangeRequest.TheVariants as change
 use Rattle.mi_request.specs.declared.request.Request.TheVariants as request
 use Rattle.mi_request.proofs.WordLemmas.{line_from, not_read, was_read, member_then, no_member, word_there, no_word, at_end, no_end}
 use Rattle.mi_request.proofs.short.relocate.Goals.{After-whole_behind, After-maybe_whole_behind}
@@ -75,7 +76,7 @@ returns-then-is_end c =
     let before = word_there maybe_whole c.maybe_whole_behind.result _ (maybe_at whole_at (whole_front (codes "before")) w) c.maybe_whole_behind.ensures
     (ap (λ f. maybe_at whole_at f w) before_front) c.in_ok-before.before c.in_ok-before.rest c.in_ok-before.was in
     let end = at_end x c.is_end.result c.is_end.ensures c.if-is_end.true in
-    was_read (codes "relocate") members c.args.line.now (request.Relocate c.in_ok-table.table c.in_ok-index.index c.in_ok-id.id c.in_ok-before.before)
+    was_read (codes "relocate") members c.args.line.now (request.Change c.in_ok-table.table (change.Relocate c.in_ok-index.index c.in_ok-id.id c.in_ok-before.before))
     (table_is c.in_ok-table.table ∷ index_is c.in_ok-index.index ∷ id_is c.in_ok-id.id ∷ (codes "before", maybe_whole c.in_ok-before.before) ∷ []) refl
     (to_index o (Some (id_is c.in_ok-id.id ∷ (codes "before", maybe_whole c.in_ok-before.before) ∷ []))
     (member_then a_whole (codes "id") c.in_ok-index.rest.now w (whole c.in_ok-id.id) ((codes "before", perhaps_whole) ∷ [])

@@ -9,5 +9,5 @@ pub returns : goal.returns
 returns g c =
     let told = said c.change-outcome.result.reply in
     let put : PutOrMemory c.change-outcome.new.self.database.catalog told c.put.new.self = search rules in
-    change_put c.args.self.now c.change-outcome.new.self c.args.conn c.args.command told c.put.new.self c.change-outcome.result.changed
-    c.requires.changes c.change-outcome.ensures.told put c.change-outcome.ensures.changed
+    change_put c.args.self.now c.change-outcome.new.self c.args.table c.args.change told c.put.new.self c.change-outcome.result.changed
+    c.change-outcome.ensures.told put c.change-outcome.ensures.changed

@@ -3,4 +3,4 @@ use Rattle.mi_embed.proofs.CallLemmas.{tells_refusal}
 use Rattle.mi_embed.proofs.engine.Engine.told.Goals as goal
 
 pub returns-in-Err : goal.returns-in-Err
-returns-in-Err c = tells_refusal c.args.conn c.args.asked c.in-Err.refusal c.refused.result _ c.in-Err.is c.refused.ensures
+returns-in-Err c = tells_refusal c.args.table c.args.asked c.in-Err.refusal c.refused.result _ c.in-Err.is c.refused.ensures
