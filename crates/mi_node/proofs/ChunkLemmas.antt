@@ -47,7 +47,7 @@ module _ {C E : Type 0} (items : C → List E) where
   full_at n zero (x ∷ cs) c full less at = ap (λ (v : C). length (items v)) at ∙ full.0
   full_at n (suc q) (x ∷ cs) c full less at = full_at n q cs c full.1 (omega (arith, less)) at
 
-  pub index-flat : (q r i : ℕ) (cs : List C) (c : C) (d : E) → AreFull items 4096 cs → q < length cs → c ≡ slice_index_or cs q c → r < 4096 → i ≡ 4096 * q + r
+  pub index-flat : (q r i : ℕ) (cs : List C) (c : C) (d : E) → AreFull items 1024 cs → q < length cs → c ≡ slice_index_or cs q c → r < 1024 → i ≡ 1024 * q + r
       → slice_index_or (flat items cs) i d ≡ slice_index_or (items c) r d
   index-flat q r i [] c d full less at small is = absurd (omega (arith, less))
   index-flat zero r i (x ∷ cs) c d full less at small is =
@@ -55,12 +55,12 @@ module _ {C E : Type 0} (items : C → List E) where
       ap (λ m. slice_index_or (items x ++ flat items cs) m d) f ∙ in_left (items x) (flat items cs) r d inside
       ∙ ap (λ (v : C). slice_index_or (items v) r d) (sym at)
   index-flat (suc q) r i (x ∷ cs) c d full less at small is =
-      let e = full.0 in let f : i ≡ length (items x) + (4096 * q + r) = omega (arith, is, e) in
-      in_right (items x) (flat items cs) (4096 * q + r) i d f ∙ index-flat q r (4096 * q + r) cs c d full.1 (omega (arith, less)) at small refl
+      let e = full.0 in let f : i ≡ length (items x) + (1024 * q + r) = omega (arith, is, e) in
+      in_right (items x) (flat items cs) (1024 * q + r) i d f ∙ index-flat q r (1024 * q + r) cs c d full.1 (omega (arith, less)) at small refl
 
   -- the chunk e is c with another element
-  pub set-flat : (q r i : ℕ) (cs : List C) (c e : C) (w : E) → AreFull items 4096 cs → q < length cs
-      → c ≡ slice_index_or cs q c → items e ≡ slice_set (items c) r w → r < 4096 → i ≡ 4096 * q + r
+  pub set-flat : (q r i : ℕ) (cs : List C) (c e : C) (w : E) → AreFull items 1024 cs → q < length cs
+      → c ≡ slice_index_or cs q c → items e ≡ slice_set (items c) r w → r < 1024 → i ≡ 1024 * q + r
       → flat items (slice_set cs q e) ≡ slice_set (flat items cs) i w
   set-flat q r i [] c e w full less at put small is = absurd (omega (arith, less))
   set-flat zero r i (x ∷ cs) c e w full less at put small is =
@@ -68,29 +68,29 @@ module _ {C E : Type 0} (items : C → List E) where
       ap (λ l. l ++ flat items cs) put ∙ ap (λ (v : C). slice_set (items v) r w ++ flat items cs) at
       ∙ sym (set_left (items x) (flat items cs) r w inside) ∙ ap (λ m. slice_set (items x ++ flat items cs) m w) f
   set-flat (suc q) r i (x ∷ cs) c e w full less at put small is =
-      let long = full.0 in let f : i ≡ length (items x) + (4096 * q + r) = omega (arith, is, long) in
-      ap (λ l. items x ++ l) (set-flat q r (4096 * q + r) cs c e w full.1 (omega (arith, less)) at put small refl)
-      ∙ sym (set_right (items x) (flat items cs) (4096 * q + r) i w f)
+      let long = full.0 in let f : i ≡ length (items x) + (1024 * q + r) = omega (arith, is, long) in
+      ap (λ l. items x ++ l) (set-flat q r (1024 * q + r) cs c e w full.1 (omega (arith, less)) at put small refl)
+      ∙ sym (set_right (items x) (flat items cs) (1024 * q + r) i w f)
 
   AreFull-set : (n q : ℕ) (cs : List C) (c : C) → AreFull items n cs → length (items c) ≡ n → AreFull items n (slice_set cs q c)
   AreFull-set n q [] c full size = tt
   AreFull-set n zero (x ∷ cs) c full size = (size, full.1)
   AreFull-set n (suc q) (x ∷ cs) c full size = (full.0, AreFull-set n q cs c full.1 size)
 
-  pub length-flat : (cs : List C) → AreFull items 4096 cs → length (flat items cs) ≡ 4096 * length cs
+  pub length-flat : (cs : List C) → AreFull items 1024 cs → length (flat items cs) ≡ 1024 * length cs
   length-flat [] full = refl
   length-flat (x ∷ cs) full = let a = length_both (items x) (flat items cs) in let b = length-flat cs full.1 in let e = full.0 in omega (arith, a, b, e)
 
-  pub in_chunks : (i : ℕ) (cs : List C) → AreFull items 4096 cs → i < length (flat items cs) → i / 4096 < length cs
+  pub in_chunks : (i : ℕ) (cs : List C) → AreFull items 1024 cs → i < length (flat items cs) → i / 1024 < length cs
   in_chunks i cs full less = let e = length-flat cs full in omega (arith, less, e)
 
   -- l: the list that the chunks are seen as
-  pub in_bounds : (cs : List C) {i n : ℕ} {l : List E} → AreFull items 4096 cs → n ≡ length cs → flat items cs ≡ l → i < length l → i / 4096 < n
+  pub in_bounds : (cs : List C) {i n : ℕ} {l : List E} → AreFull items 1024 cs → n ≡ length cs → flat items cs ≡ l → i < length l → i / 1024 < n
   in_bounds cs {i} {n} {l} full count is less =
-      subst (λ m. i / 4096 < m) (sym count) (in_chunks i cs full (subst (λ (k : List E). i < length k) (sym is) less))
+      subst (λ m. i / 1024 < m) (sym count) (in_chunks i cs full (subst (λ (k : List E). i < length k) (sym is) less))
 
-  pub IsChunked-set : (q : ℕ) (cs : List C) (c : C) → IsChunked items cs → length (items c) ≡ 4096 → IsChunked items (slice_set cs q c)
-  IsChunked-set q cs c all size = record { full = AreFull-set 4096 q cs c all.full size; few = subst (λ n. n ≤ 524288) (sym (length-set cs q c)) all.few }
+  pub IsChunked-set : (q : ℕ) (cs : List C) (c : C) → IsChunked items cs → length (items c) ≡ 1024 → IsChunked items (slice_set cs q c)
+  IsChunked-set q cs c all size = record { full = AreFull-set 1024 q cs c all.full size; few = subst (λ n. n ≤ 2097152) (sym (length-set cs q c)) all.few }
 
   AreFull-end : (n : ℕ) (cs : List C) (c : C) → AreFull items n cs → length (items c) ≡ n → AreFull items n (cs ++ c ∷ [])
   AreFull-end n [] c full size = (size, tt)
@@ -100,18 +100,18 @@ module _ {C E : Type 0} (items : C → List E) where
   length_end [] c = refl
   length_end (x ∷ cs) c = let e = length_end cs c in omega (arith, e)
 
-  pub IsChunked-end : (cs : List C) (c : C) → IsChunked items cs → length (items c) ≡ 4096 → length cs < 524288 → IsChunked items (cs ++ c ∷ [])
-  IsChunked-end cs c all size less = let e = length_end cs c in record { full = AreFull-end 4096 cs c all.full size; few = omega (arith, e, less) }
+  pub IsChunked-end : (cs : List C) (c : C) → IsChunked items cs → length (items c) ≡ 1024 → length cs < 2097152 → IsChunked items (cs ++ c ∷ [])
+  IsChunked-end cs c all size less = let e = length_end cs c in record { full = AreFull-end 1024 cs c all.full size; few = omega (arith, e, less) }
 
   pub flat-end : (cs : List C) (c : C) → flat items (cs ++ c ∷ []) ≡ flat items cs ++ items c
   flat-end [] c = right_none (items c)
   flat-end (x ∷ cs) c = ap (λ l. items x ++ l) (flat-end cs c) ∙ sym (regroup (items x) (flat items cs) (items c))
 
-pub split_of : (i : ℕ) → i ≡ 4096 * (i / 4096) + i % 4096
+pub split_of : (i : ℕ) → i ≡ 1024 * (i / 1024) + i % 1024
 split_of i = omega arith
 
-pub small_of : (i : ℕ) → i % 4096 < 4096
+pub small_of : (i : ℕ) → i % 1024 < 1024
 small_of i = omega arith
 
-pub times : (a b : ℕ) → a ≡ b → a * 4096 ≡ 4096 * b
+pub times : (a b : ℕ) → a ≡ b → a * 1024 ≡ 1024 * b
 times a b e = omega (arith, e)

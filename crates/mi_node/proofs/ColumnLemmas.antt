@@ -153,7 +153,7 @@ links-alike (c ∷ cs) (suc s) k w same = ap (λ ls. link_of_cell (cell_at k c) 
 -- while columns are lengthened, the first n of which have as many cells as there are to be places
 pub record Lengthened (places n : ℕ) (cs ds : List (List Cell)) : Type 0 where
   pub done : (s : ℕ) → s < n → places ≤ length (column ds s)
-  pub near : (s : ℕ) → s < length ds → places ≤ length (column ds s) + 4096
+  pub near : (s : ℕ) → s < length ds → places ≤ length (column ds s) + 1024
   pub links : (k : ℕ) → links_at ds k ≡ links_at cs k
   pub count : length ds ≡ length cs
   pub long : (m : ℕ) → AreLong m cs → AreLong m ds
@@ -164,7 +164,7 @@ at_column P ds s t w less g h =
     subst (λ (d : List Cell). P (length d)) (sym (index-set ds s t w [] less))
     ((elim (t == s) as (λ b. (t == s) ≡ b → P (length (cond b w (column ds t)))) [ true ↦ g | false ↦ h ]) refl)
 
-pub lengthened_start : (places : ℕ) (cs : List (List Cell)) → ((s : ℕ) → s < length cs → places ≤ length (column cs s) + 4096) → Lengthened places 0 cs cs
+pub lengthened_start : (places : ℕ) (cs : List (List Cell)) → ((s : ℕ) → s < length cs → places ≤ length (column cs s) + 1024) → Lengthened places 0 cs cs
 lengthened_start places cs near = record { done = λ s less. absurd (omega (arith, less)); near = near; links = λ k. refl; count = refl; long = λ m long. long }
 
 -- a column is put back that is as long or longer, and has the same cells
@@ -177,7 +177,7 @@ put_longer {places} {n} {e} {cs} {ds} {x} w all end early is cells longer =
     let size : length x ≡ length (column ds n) = ap (λ (c : List Cell). length c) found in
     record {
       done = λ s early. at_column (λ m. places ≤ m) ds n s w less (λ e. absurd (grind (arith, e, early))) (λ e. all.done s early);
-      near = λ s there. at_column (λ m. places ≤ m + 4096) ds n s w less
+      near = λ s there. at_column (λ m. places ≤ m + 1024) ds n s w less
           (λ e. let h = all.near n less in omega (arith, h, size, longer)) (λ e. all.near s (subst (λ m. s < m) (length-set ds n w) there));
       links = λ k. links-alike ds n k w (cells k ∙ ap (λ (c : List Cell). cell_at k c) found) ∙ all.links k;
       count = length-set ds n w ∙ all.count;

@@ -44,16 +44,16 @@ same_ref r q e f = λ i. record { name = e i; mark = f i }
 pub up_to : (a b c : ℕ) → a < b → b ≤ c → a + 1 ≤ c
 up_to a b c g h = omega (arith, g, h)
 
-pub has_room : (first n k c : ℕ) → first + n ≡ k → k < first + 4096 → 4096 ≤ c → n < c
+pub has_room : (first n k c : ℕ) → first + n ≡ k → k < first + 1024 → 1024 ≤ c → n < c
 has_room first n k c e g h = omega (arith, e, g, h)
 
 pub one_more : (first n m k : ℕ) → first + n ≡ k → m ≡ n + 1 → first + m ≡ k + 1
 one_more first n m k e f = omega (arith, e, f)
 
-pub some_less : (n : ℕ) → n ≡ 4096 → 0 < n
+pub some_less : (n : ℕ) → n ≡ 1024 → 0 < n
 some_less n e = omega (arith, e)
 
-pub room_of : (a b c : ℕ) → a ≡ b → c ≡ 4096 → a + 4096 ≡ b + c
+pub room_of : (a b c : ℕ) → a ≡ b → c ≡ 1024 → a + 1024 ≡ b + c
 room_of a b c e f = omega (arith, e, f)
 
 long_none : (cs : List (List Cell)) → AreLong 0 cs

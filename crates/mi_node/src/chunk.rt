@@ -5,7 +5,7 @@ ghost use Rattle.core.specs.Mem.Slots.{slots_items, slots_ptr, slots_len, IsFull
 ghost use Rattle.mi_node.specs.Rows.{IsEmpty};
 
 use crate::chunks::CHUNK;
-use crate::frame::{Bare, close_bare, open_bare};
+use crate::frame::{Frame, close, open};
 use crate::raw::Row;
 use core::slots::Slots;
 use std::alloc::{AllocError, Global};
@@ -14,29 +14,29 @@ use std_alloc::room::{Vacant, may_hold};
 /// As many elements as a chunk has, in a block of memory of their own.
 pub(crate) struct Chunk<E> {
     pub(crate) row: Row<E>,
-    right: Bare<E, Global>,
+    right: Frame<E, Global>,
     ghost here: { right.at ≡ row.at },
 }
 
 /// Memory for a chunk: as many places as it has, none of which has an element yet, and the right to free
 /// it. A place with no element has one in contracts, so there must be one.
-pub(crate) fn places_of<E>(alloc: Global) -> Result<(Slots<E>, Bare<E, Global>), AllocError>
+pub(crate) fn places_of<E>(alloc: Global) -> Result<(Slots<E>, Frame<E, Global>), AllocError>
     requires some { E }
-    ensures { IfOk result (λ p. (slots_len p.0 ≡ 4096) × (p.1.at ≡ slots_ptr p.0)) }
+    ensures { IfOk result (λ p. (slots_len p.0 ≡ 1024) × (p.1.at ≡ slots_ptr p.0)) }
 {
     if !may_hold::<E>(CHUNK) {
         return Err(AllocError);
     }
     match Vacant::take(alloc) {
-        Ok(room) => Ok(open_bare(room)),
+        Ok(room) => Ok(open(room)),
         Err(_) => Err(AllocError),
     }
 }
 
 impl<E> Chunk<E> {
     /// The chunk of places that have their elements.
-    pub(crate) fn new(places: Slots<E>, right: Bare<E, Global>) -> Chunk<E>
-        requires count { slots_len places ≡ 4096 }
+    pub(crate) fn new(places: Slots<E>, right: Frame<E, Global>) -> Chunk<E>
+        requires count { slots_len places ≡ 1024 }
         requires full { IsFull places }
         requires here { right.at ≡ slots_ptr places }
         ensures { result.row.items ≡ slots_items places }
@@ -49,7 +49,7 @@ impl<E> Chunk<E> {
 
     /// The element of an index.
     pub(crate) fn at(&self, i: usize) -> &E
-        requires { i < 4096 }
+        requires { i < 1024 }
         ensures { result.now ≡ slice_index_or self.now.row.items i result.now }
     {
         self.row.at(i)
@@ -57,7 +57,7 @@ impl<E> Chunk<E> {
 
     /// Puts an element in place of another, which it gives back.
     pub(crate) fn replace(&mut self, i: usize, item: E) -> E
-        requires { i < 4096 }
+        requires { i < 1024 }
         ensures item { result ≡ slice_index_or self.old.row.items i result }
         ensures items { self.new.row.items ≡ slice_set self.old.row.items i item }
     {
@@ -70,13 +70,13 @@ impl<E: Drop> Drop for Chunk<E> {
         let Chunk { row, right } = self;
         let mut places = row.into_places();
         empty(&mut places);
-        let _ = close_bare(right, places).free();
+        let _ = close(right, places).free();
     }
 }
 
 /// Drops what stands in the places.
 pub(crate) fn empty<E: Drop>(places: &mut Slots<E>)
-    requires count { slots_len places.old ≡ 4096 }
+    requires count { slots_len places.old ≡ 1024 }
     requires full { IsFull places.old }
     ensures same { (slots_ptr places.new ≡ slots_ptr places.old) × (slots_len places.new ≡ slots_len places.old) }
     ensures none { IsEmpty places.new }

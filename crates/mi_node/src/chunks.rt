@@ -7,10 +7,10 @@ use std::alloc::{AllocError, Global};
 use std::marker::Model;
 
 /// How many elements a chunk has.
-pub(crate) const CHUNK: usize = 4096;
+pub(crate) const CHUNK: usize = 1024;
 
 /// How many chunks there may be: as many elements as 31 bits count.
-pub(crate) const MAX_CHUNKS: usize = 524_288;
+pub(crate) const MAX_CHUNKS: usize = 2_097_152;
 
 /// An array that grows by a chunk at a time. No element is ever moved to another address.
 #[derive(Drop)]

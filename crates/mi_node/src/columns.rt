@@ -90,7 +90,7 @@ pub(crate) fn lengthen(
     places: usize,
     alloc: Global,
 ) -> Result<(), AllocError>
-    requires { (s : ℕ) → s < length columns.old.items → places ≤ length (column columns.old.items s) + 4096 }
+    requires { (s : ℕ) → s < length columns.old.items → places ≤ length (column columns.old.items s) + 1024 }
     ensures ok { IfOk result (λ _. AreLong places columns.new.items) }
     ensures links { (k : ℕ) → links_at columns.new.items k ≡ links_at columns.old.items k }
     ensures count { length columns.new.items ≡ length columns.old.items }
@@ -103,7 +103,7 @@ pub(crate) fn lengthen(
 }
 
 fn lengthen_column(column: &mut Column, places: usize, alloc: Global) -> Result<(), AllocError>
-    requires { places ≤ length column.old + 4096 }
+    requires { places ≤ length column.old + 1024 }
     ensures ok { IfOk result (λ _. places ≤ length column.new) }
     ensures cells { (k : ℕ) → cell_at k column.new ≡ cell_at k column.old }
     ensures longer { length column.old ≤ length column.new }

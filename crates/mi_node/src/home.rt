@@ -77,7 +77,7 @@ pub(crate) fn free_chunk<T>(
 ) -> Result<Chunk<Home<T>>, AllocError>
 where
     T: Drop,
-    requires { first + 4096 ≤ PLACES }
+    requires { first + 1024 ≤ PLACES }
     ensures { IfOk result (λ c. AreFree first c.row.items) }
 {
     let (mut places, right) = places_of(alloc)?;
@@ -87,8 +87,8 @@ where
 
 /// Writes each place once, from the last one on.
 fn fill<T>(places: &mut Slots<Home<T>>, first: u32, next: u32)
-    requires count { slots_len places.old ≡ 4096 }
-    requires fits { first + 4096 ≤ PLACES }
+    requires count { slots_len places.old ≡ 1024 }
+    requires fits { first + 1024 ≤ PLACES }
     ensures full { IsFull places.new }
     ensures free { AreFree first (slots_items places.new) }
     ensures same { (slots_ptr places.new ≡ slots_ptr places.old) × (slots_len places.new ≡ slots_len places.old) }

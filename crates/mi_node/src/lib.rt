@@ -3,7 +3,6 @@
 #![tactic(auto)]
 
 mod cell;
-mod cell_chunk;
 mod chunk;
 mod chunks;
 mod column;

@@ -24,7 +24,7 @@ pub const MAX_SLOTS: usize = 16;
 /// one that is held, since a reference has one bit to tell nodes of a place apart; and so may a
 /// reference of another pool. Nothing proves such a one held, and nothing proves that it isn't.
 ///
-/// Memory is taken for 4,096 places at once: 32 bytes a slot for each, the value, and 8 bytes. No
+/// Memory is taken for 1,024 places at once: 32 bytes a slot for each, the value, and 8 bytes. No
 /// place is ever moved, and none is freed before the pool is dropped, which drops the value of each
 /// held node.
 #[derive(Drop)]

@@ -10,7 +10,7 @@ use std::cell::Cell;
 use std::process::Abort;
 
 /// As many nodes as a hundred chunks have.
-const MANY: u64 = 409_600;
+const MANY: u64 = 102_400;
 
 /// A value that counts how often one of its kind is dropped.
 struct Counted<'a> {
@@ -40,9 +40,9 @@ fn a_hundred_chunks_are_freed(rt: HostRuntime) {
     let drops = Cell::new(0);
     let mut pool = Pool::with_slots(rt.alloc(), 3);
     take_many(&rt, &mut pool, &drops);
-    assert_eq!(rt; drops.get(), 136_534);
+    assert_eq!(rt; drops.get(), 34_134);
     take_many(&rt, &mut pool, &drops);
-    assert_eq!(rt; drops.get(), 273_068);
+    assert_eq!(rt; drops.get(), 68_268);
     drop(pool);
     assert_eq!(rt; drops.get(), 2 * MANY);
 }
@@ -67,7 +67,7 @@ pub(super) fn take_at_last(rt: &impl Abort, pool: &mut Pool<u64>, value: u64) ->
 fn a_refused_growth_changes_nothing(rt: HostRuntime) {
     let mut pool = Pool::with_slots(rt.alloc(), 3);
     let first = take_at_last(&rt, &mut pool, 0);
-    for number in 1..9000 {
+    for number in 1..2_300 {
         let node = take_at_last(&rt, &mut pool, number);
         assert_eq!(rt; u64::from(node.name()), number);
         assert_eq!(rt; *pool.value(first), 0);

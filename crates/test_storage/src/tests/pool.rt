@@ -157,7 +157,7 @@ fn many_nodes_stand_in_chunks(rt: HostRuntime) {
     let mut link = NO_LINK;
     link.back = Some(first);
     pool.set_link(first, 1, link);
-    for value in 0..9000 {
+    for value in 0..2_300 {
         let node = take(&rt, &mut pool, value);
         assert_eq!(rt; node.name(), value + 1);
     }

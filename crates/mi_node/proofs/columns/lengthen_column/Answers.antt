@@ -7,4 +7,4 @@ use Rattle.mi_node.proofs.columns.lengthen_column.Goals as goal
 
 pub returns-in_ok-add-clause-cells : goal.returns-in_ok-add-clause-cells
 returns-in_ok-add-clause-cells c k =
-    ap (cell_at k) c.in_ok-add.ensures.ok ∙ index-end c.args.column.now 4096 k empty_cell
+    ap (cell_at k) c.in_ok-add.ensures.ok ∙ index-end c.args.column.now 1024 k empty_cell

@@ -14,5 +14,5 @@ none_left (x ∷ xs) (suc n) le = none_left xs n (omega (arith, le))
 pub loop-i-init : goal.loop-i-init
 loop-i-init g c =
     let places = c.args.places.now in let long = sym (slots_counts places).0 ∙ c.requires.count in
-    let none = none_left (slots_items places) 4096 (omega (arith, long)) in
-    (c.requires.count, subst (AreFree (c.args.first + 4096)) (sym none) tt, (λ k low high. absurd (omega (arith, low, high))), refl)
+    let none = none_left (slots_items places) 1024 (omega (arith, long)) in
+    (c.requires.count, subst (AreFree (c.args.first + 1024)) (sym none) tt, (λ k low high. absurd (omega (arith, low, high))), refl)

@@ -7,5 +7,5 @@ use Rattle.mi_node.proofs.home.fill.Given as goal
 
 abbrev pub invariant-loop-i : goal.invariant-loop-i
 invariant-loop-i g l =
-    (slots_len l.places ≡ 4096) × AreFree (l.first + (4096 - l.i)) (drop (4096 - l.i) (slots_items l.places))
-    × Filled (slots_filled l.places) (4096 - l.i) 4096 × (slots_ptr l.places ≡ slots_ptr l.initial.places)
+    (slots_len l.places ≡ 1024) × AreFree (l.first + (1024 - l.i)) (drop (1024 - l.i) (slots_items l.places))
+    × Filled (slots_filled l.places) (1024 - l.i) 1024 × (slots_ptr l.places ≡ slots_ptr l.initial.places)

@@ -9,7 +9,7 @@ invariant_of-self-2 g c =
     let cs = c.self.inside.chunks.items in
     subst (IsChunked in_chunk) (sym (c.push_reserved.ensures.items ∙ ap (λ xs. xs ++ c.args.chunk ∷ []) c.reserve.ensures.items))
     (IsChunked-end in_chunk cs c.args.chunk c.self.invariant c.args.chunk.row.long.0
-    (subst (λ n. n < 524288) (c.len.ensures ∙ c.self.inside.chunks.ok.0) c.if-len-ge-MAX_CHUNKS.false))
+    (subst (λ n. n < 2097152) (c.len.ensures ∙ c.self.inside.chunks.ok.0) c.if-len-ge-MAX_CHUNKS.false))
 
 pub returns-clause-ok : goal.returns-clause-ok
 returns-clause-ok g c =

@@ -11,5 +11,5 @@ pub returns : goal.returns
 returns g c =
     let cs = c.self.inside.chunks.items in let v = c.index.result.now in let i = c.args.at in let x = c.at.result.now in
     let there = in_bounds in_chunk cs c.self.invariant.full refl c.self.view_is c.requires in
-    c.at.ensures ∙ sym (index-flat in_chunk (i / 4096) (i % 4096) i cs v x c.self.invariant.full there c.index.ensures (small_of i) (split_of i))
+    c.at.ensures ∙ sym (index-flat in_chunk (i / 1024) (i % 1024) i cs v x c.self.invariant.full there c.index.ensures (small_of i) (split_of i))
     ∙ ap (λ l. slice_index_or l i x) c.self.view_is

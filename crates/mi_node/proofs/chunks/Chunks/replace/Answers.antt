@@ -8,7 +8,7 @@ pub index_mut-requires : goal.index_mut-requires
 index_mut-requires g c = in_bounds in_chunk c.self.inside.chunks.items c.self.invariant.full c.self.inside.chunks.ok.0 c.self.view_is c.requires
 
 pub invariant_of-self : goal.invariant_of-self
-invariant_of-self g c = let w = c.replace.new.self in IsChunked-set in_chunk (c.args.at / 4096) c.self.inside.chunks.items w c.self.invariant w.row.long.0
+invariant_of-self g c = let w = c.replace.new.self in IsChunked-set in_chunk (c.args.at / 1024) c.self.inside.chunks.items w c.self.invariant w.row.long.0
 
 pub returns : goal.returns
 returns g c =
@@ -16,9 +16,9 @@ returns g c =
     let there = in_bounds in_chunk cs c.self.invariant.full refl c.self.view_is c.requires in
     record {
       item = c.replace.ensures.item
-          ∙ sym (index-flat in_chunk (i / 4096) (i % 4096) i cs v x c.self.invariant.full there c.index_mut.ensures.value (small_of i) (split_of i))
+          ∙ sym (index-flat in_chunk (i / 1024) (i % 1024) i cs v x c.self.invariant.full there c.index_mut.ensures.value (small_of i) (split_of i))
           ∙ ap (λ l. slice_index_or l i x) c.self.view_is;
-      items = set-flat in_chunk (i / 4096) (i % 4096) i cs v w c.args.item c.self.invariant.full there
+      items = set-flat in_chunk (i / 1024) (i % 1024) i cs v w c.args.item c.self.invariant.full there
           c.index_mut.ensures.value c.replace.ensures.items (small_of i) (split_of i)
           ∙ ap (λ l. slice_set l i c.args.item) c.self.view_is;
     }

@@ -49,11 +49,11 @@ module _ {M : Type 1} {𝓤 : Ura M} (𝓛 : Logic 𝓤) (R : RattleType) (l : L
 
 pub shares : (R : RattleType) (L : Laws R) → statement R L
 shares R L = of_Lends (C.struct R) (C.the_codes R.Denot R.coded) (C.the_heap R) (C.the_lent R)
-    (λ d p. let small = flt (4096 * bytes_of R) (2 ^ 63) in
+    (λ d p. let small = flt (1024 * bytes_of R) (2 ^ 63) in
     beside_shr_laws (said small) (slots_lent R d.at d.items d.filled) (said_shr_laws small tt) (slots_laws R L.shr_laws d.at d.items d.filled))
     (copy_shared RawPtr-field RawPtr-copy, tt)
     (λ M 𝓤 𝓛 d p.
     let l = (C.the_row R).lives in
-    let small = flt (4096 * bytes_of R) (2 ^ 63) in
+    let small = flt (1024 * bytes_of R) (2 ^ 63) in
     Lends-both 𝓛 small (in_block d.at (slots R d.at d.items d.filled)) (said small) (slots_lent R d.at d.items d.filled) l (Lends-said 𝓛 small tt l)
     (Lends-row 𝓛 R l (Shares-less 𝓛 R R.lives l (Incl-trans (meet_⊑_left (R.lives ++ []) _) (meet_⊑_left R.lives [])) (L.shares 𝓛)) d.at d.items d.filled))

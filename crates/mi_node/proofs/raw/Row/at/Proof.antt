@@ -78,9 +78,9 @@ module _ (E : El) where
         let κ = z.0.0.0 in let κ₁ = z.0.0.1.0 in let q = z.0.1.0 in let q₁ = z.0.1.1.0 in
         let rb : ℕ = z.0.3.0.ref_ptr.0 in let ro : ℕ = z.0.3.0.ref_ptr.1 in let h : el_d E = z.0.3.0.now in let i : ℕ = z.0.3.1.0 in
         let Post : Val → SProp 𝓤 = (walk_of 𝓛 ended stayed held).post (spelled z) in
-        let Ok : Type 0 = i < 4096 in
+        let Ok : Type 0 = i < 1024 in
         let s : ℕ = sz E in
-        let lx : length h.items ≡ 4096 = h.long.0 in let lf : length h.filled ≡ 4096 = h.long.1 in
+        let lx : length h.items ≡ 1024 = h.long.0 in let lf : length h.filled ≡ 1024 = h.long.1 in
         qed 𝓛 (((‵ (flft κ q) ⊛ ‵ (flft κ₁ q₁) ⊛ ‵ ftrue) ⊛ ‵ (owns (types_at ended.signature.params z.0.0) z.0.3 (spelled z).0.4))
         ∷ (raw (fact 𝓤 (κ₁ ⊑ E.row.lives)) ⊛ raw (fact 𝓤 Ok)) ∷ []) ∵
         move ! (1 ∷ []) $ split ! $ drop ! $ heard ! Ok (λ ok.
@@ -88,10 +88,10 @@ module _ (E : El) where
         let fx : i < length h.filled = omega arith in
         let d : el_x E = hd h.items (omega arith) in let x : el_x E = get_or h.items i d in
         split ! $ split ! $ move ! (2 ∷ []) $ fsplit ! $ fsplit ! $ drop ! $
-        use1 𝓛 (‵ (hidden_shr RawPtr κ h.at rb (ro + 0)) ⊛ ‵ (flt (4096 * s) (2 ^ 63)) ⊛ ‵ (slots_lent (R E) h.at h.items h.filled κ)) (shown E 𝓛 κ h rb ro) $
+        use1 𝓛 (‵ (hidden_shr RawPtr κ h.at rb (ro + 0)) ⊛ ‵ (flt (1024 * s) (2 ^ 63)) ⊛ ‵ (slots_lent (R E) h.at h.items h.filled κ)) (shown E 𝓛 κ h rb ro) $
         split3 ! $ move ! (1 ∷ []) $ flt_l ! (λ fit. move ! (1 ∷ []) $
-        let small : s < 2 ^ 63 = one_below 4096 s (2 ^ 63) (omega arith) fit in let tiny : s < 2 ^ 64 = omega arith in
-        let part : i * s < 2 ^ 63 = times_below i 4096 s (2 ^ 63) (omega arith) fit in let fm : i * s < 2 ^ 64 = omega arith in
+        let small : s < 2 ^ 63 = one_below 1024 s (2 ^ 63) (omega arith) fit in let tiny : s < 2 ^ 64 = omega arith in
+        let part : i * s < 2 ^ 63 = times_below i 1024 s (2 ^ 63) (omega arith) fit in let fm : i * s < 2 ^ 64 = omega arith in
         in_a_block ! h.at (λ p. slots_lent (R E) p h.items h.filled κ) (none_at_null E 𝓛 κ h.items h.filled i ix fx full) (λ b o at_b.
         use1 𝓛 (‵ (hidden_shr (R E) κ x b (i * s + o))) (value_lent E 𝓛 κ b o h.items h.filled i d ix fx full) $ keep ! (1 ∷ 3 ∷ 4 ∷ 0 ∷ []) $
         enter ! 𝓣.C 𝓣.Λ here (vptr rb ro ∷ vint w64 i ∷ []) _ $ alloc_all ! (λ l. pass_all ! refl ((tt, tt), ((tt, record { fits = fi }), tt)) $

@@ -50,24 +50,24 @@ into_places_spec 𝓤 𝓛 𝓜 𝓡 wired T L =
     let Post : Val → SProp 𝓤 = (walk_of 𝓛 En hs c).post z in let Run : List Val → SProp 𝓤 = λ ws. WpFn 𝓤 H 𝓣.C 𝓣.Λ fn ws Post in
     qed 𝓛 (((‵ (flft κ q) ⊛ ‵ ftrue) ⊛ ‵ (owns (types_at En.signature.params z.0.0) z.0.3 vss)) ∷ raw (fact 𝓤 (κ ⊑ T.lives)) ∷ ‵ ftrue ∷ []) ∵
     move ! (1 ∷ []) $ heard ! (κ ⊑ T.lives) (λ le. split ! $ split ! $ move ! (2 ∷ []) $ fsplit ! $ row_had E ! h vss.0 (λ b o at e fit. keep ! (0 ∷ 2 ∷ []) $
-    let us : List Val = pointer_val b o ∷ [] in let lx : 4096 ≡ length xs = sym h.long.0 in let lf : 4096 ≡ length fs = sym h.long.1 in
-    let fk : 4096 < 2 ^ 64 = lit< tt in
-    let words : WT (row_val b o 4096) = (tt, (record { fits = fk }, tt)) in
+    let us : List Val = pointer_val b o ∷ [] in let lx : 1024 ≡ length xs = sym h.long.0 in let lf : 1024 ≡ length fs = sym h.long.1 in
+    let fk : 1024 < 2 ^ 64 = lit< tt in
+    let words : WT (row_val b o 1024) = (tt, (record { fits = fk }, tt)) in
     suffices ! (Run us) (subst (λ (ws : List Val). ent 𝓤 (Run us) (Run ws)) (sym (λ i. e i ++ [])) (id⊢ 𝓤 (Run us))) $
     enter ! 𝓣.C 𝓣.Λ fn us Post $ alloc_all ! (λ l. pass_all ! refl ((tt, (tt, tt)), tt) $ let Ev = env fn.locals l in
-    let y = from_at E 𝓛 𝓜.mem 𝓡.returns κ q b o 4096 xs fs in
+    let y = from_at E 𝓛 𝓜.mem 𝓡.returns κ q b o 1024 xs fs in
     sets ! (of_opd ! (get_in ! (fld ! refl (stop !)) (sub ! 0 refl (whole !)))) refl (tt, tt) $ first ! $ blocks ! $
-    from_asks E 𝓛 𝓜.mem 𝓡.returns κ q ! b o 4096 xs fs le lx lf fk fit $
+    from_asks E 𝓛 𝓜.mem 𝓡.returns κ q ! b o 1024 xs fs le lx lf fk fit $
     calls_at_last ! (fm 𝓛 𝓜 𝓡) (From E 𝓛 𝓜.mem 𝓡.returns) met y (and_then ! (get ! refl) (and_then ! (big_lit ! (record { fits = fk })) (no_more !))) (λ v.
-    from_gives E 𝓛 𝓜.mem 𝓡.returns κ q ! tt b o 4096 xs fs v (λ r ev made.
+    from_gives E 𝓛 𝓜.mem 𝓡.returns κ q ! tt b o 1024 xs fs v (λ r ev made.
     let full : IsFull r = λ j low high. ap (λ (gs : List Bool). get_or gs j false) made.3 ∙ h.full j low (subst (λ (n : ℕ). j < n) made.1 high) in
-    let One : Type 0 = slots_ptr r ≡ h.at in let Two : Type 0 = slots_len r ≡ 4096 in let Three : Type 0 = IsFull r in let Four : Type 0 = slots_items r ≡ xs in
-    let Five : Type 0 = FitsInBlock R 4096 in
-    lands_last ! refl (places_typed E b o 4096 fk ev) $ exec ! 𝓣.C 𝓣.Λ Ev (tail (tail fn.body)) (at_ret Ev Post) $
+    let One : Type 0 = slots_ptr r ≡ h.at in let Two : Type 0 = slots_len r ≡ 1024 in let Three : Type 0 = IsFull r in let Four : Type 0 = slots_items r ≡ xs in
+    let Five : Type 0 = FitsInBlock R 1024 in
+    lands_last ! refl (places_typed E b o 1024 fk ev) $ exec ! 𝓣.C 𝓣.Λ Ev (tail (tail fn.body)) (at_ret Ev Post) $
     sets ! (is ! (of_opd ! (get ! refl)) ev) refl (tt, words) $
     nothing ! $ move ! (2 ∷ 0 ∷ []) $ join ! $
     use0 𝓛 (raw (fact 𝓤 Five)) (fact_i 𝓤 Five (emp 𝓤) (fit, lit< tt)) $ use0 𝓛 (raw (fact 𝓤 Four)) (fact_i 𝓤 Four (emp 𝓤) made.2) $ join ! $
     use0 𝓛 (raw (fact 𝓤 Three)) (fact_i 𝓤 Three (emp 𝓤) full) $ join ! $
     use0 𝓛 (raw (fact 𝓤 Two)) (fact_i 𝓤 Two (emp 𝓤) made.1) $ join ! $ use0 𝓛 (raw (fact 𝓤 One)) (fact_i 𝓤 One (emp 𝓤) (made.0 ∙ sym at)) $ join ! $
     nothing ! $ nothing ! $ fjoin ! $
-    returns ! (look_at ! 0 refl) $ free_all ! refl $ keep ! (2 ∷ 0 ∷ 3 ∷ 1 ∷ []) $ by ! (leaves 𝓛 En hs c z (row_val b o 4096) r (tt, tt) (tt, tt))))))))
+    returns ! (look_at ! 0 refl) $ free_all ! refl $ keep ! (2 ∷ 0 ∷ 3 ∷ 1 ∷ []) $ by ! (leaves 𝓛 En hs c z (row_val b o 1024) r (tt, tt) (tt, tt))))))))

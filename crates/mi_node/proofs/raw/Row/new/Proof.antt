@@ -47,16 +47,16 @@ new_spec 𝓤 𝓛 𝓜 𝓡 wired T L =
     let κ : Lft = z.0.0.0 in let q : Share = z.0.1.0 in let r : (Places E).Denot = z.0.3.0 in let vss = z.0.4 in let k : ℕ = slots_len r in
     let xs : List T.Denot = slots_items r in let fs : List Bool = slots_filled r in
     let Post : Val → SProp 𝓤 = (walk_of 𝓛 En hs c).post z in let Run : List Val → SProp 𝓤 = λ ws. WpFn 𝓤 H 𝓣.C 𝓣.Λ fn ws Post in
-    let Count : Type 0 = k ≡ 4096 in
+    let Count : Type 0 = k ≡ 1024 in
     qed 𝓛 (((‵ (flft κ q) ⊛ ‵ ftrue) ⊛ ‵ (owns (types_at En.signature.params z.0.0) z.0.3 vss)) ∷ raw (fact 𝓤 (κ ⊑ T.lives)) ∷ raw (fact 𝓤 Count)
     ∷ raw (fact 𝓤 (IsFull r)) ∷ []) ∵
     move ! (1 ∷ 2 ∷ 3 ∷ []) $ heard ! (κ ⊑ T.lives) (λ le. heard ! Count (λ count. heard ! (IsFull r) (λ full. split ! $ split ! $ move ! (2 ∷ []) $
     fsplit ! $ spelled E ! r (λ b o at e fk fit. keep ! (0 ∷ 2 ∷ []) $
-    let us : List Val = row_val b o k ∷ [] in let lx : length xs ≡ 4096 = sym (slots_counts r).0 ∙ count in
-    let lf : length fs ≡ 4096 = sym (slots_counts r).1 ∙ count in let p : Ptr = block_ptr b o in
-    let words : WT (row_val b o k) = (tt, (record { fits = fk }, tt)) in let all : Filled fs 0 4096 = subst (λ (n : ℕ). Filled fs 0 n) count full in
+    let us : List Val = row_val b o k ∷ [] in let lx : length xs ≡ 1024 = sym (slots_counts r).0 ∙ count in
+    let lf : length fs ≡ 1024 = sym (slots_counts r).1 ∙ count in let p : Ptr = block_ptr b o in
+    let words : WT (row_val b o k) = (tt, (record { fits = fk }, tt)) in let all : Filled fs 0 1024 = subst (λ (n : ℕ). Filled fs 0 n) count full in
     let new : Ss.Denot = record { at = p; items = xs; filled = fs; long = (lx, lf); full = all } in
-    let fits : 4096 * sz E < 2 ^ 63 = subst (λ (n : ℕ). n * sz E < 2 ^ 63) count fit in
+    let fits : 1024 * sz E < 2 ^ 63 = subst (λ (n : ℕ). n * sz E < 2 ^ 63) count fit in
     suffices ! (Run us) (subst (λ (ws : List Val). ent 𝓤 (Run us) (Run ws)) (sym (λ i. e i ++ [])) (id⊢ 𝓤 (Run us))) $
     enter ! 𝓣.C 𝓣.Λ fn us Post $ alloc_all ! (λ l. pass_all ! refl ((tt, words), tt) $ let Ev = env fn.locals l in
     let y = into_at E 𝓛 𝓜.mem 𝓡.returns κ q r b o in

@@ -84,11 +84,11 @@ module _ (E : El) where
         let x : el_x E = z.0.3.1.1.0 in
         let Post : Val → SProp 𝓤 = (walk_of 𝓛 ended stayed held).post (spelled z v) in
         let s : ℕ = sz E in
-        let lx : length h.items ≡ 4096 = h.long.0 in let lf : length h.filled ≡ 4096 = h.long.1 in
+        let lx : length h.items ≡ 1024 = h.long.0 in let lf : length h.filled ≡ 1024 = h.long.1 in
         let new : el_d E = record { at = h.at; items = set h.items i x; filled = h.filled; long = (length-set h.items i x ∙ lx, lf); full = h.full } in
         qed 𝓛 (((‵ (flft κ q) ⊛ ‵ (flft κ₁ q₁) ⊛ ‵ ftrue) ⊛ ‵ (owns (types_at ended.signature.params z.0.0) z.0.3 (spelled z v).0.4))
-        ∷ (raw (fact 𝓤 (κ₁ ⊑ E.row.lives)) ⊛ raw (fact 𝓤 (i < 4096))) ∷ []) ∵
-        move ! (1 ∷ []) $ split ! $ drop ! $ heard ! (i < 4096) (λ li.
+        ∷ (raw (fact 𝓤 (κ₁ ⊑ E.row.lives)) ⊛ raw (fact 𝓤 (i < 1024))) ∷ []) ∵
+        move ! (1 ∷ []) $ split ! $ drop ! $ heard ! (i < 1024) (λ li.
         let ix : i < length h.items = omega arith in let fx : i < length h.filled = omega arith in
         let full : get_or h.filled i false ≡ true = h.full i (omega arith) li in
         let d : el_x E = hd h.items (omega arith) in let old : el_x E = get_or h.items i d in
@@ -96,8 +96,8 @@ module _ (E : El) where
         enter ! 𝓣.C 𝓣.Λ here (vptr rb ro ∷ vint w64 i ∷ v ∷ []) _ $ alloc_all ! (λ l. pass_all ! refl ((tt, tt), ((tt, record { fits = fi }), (tv, tt))) $
         let En : Env 𝓤 H = env here.locals l in
         row_opens E ! tt h rb ro (λ b o at_b fit.
-        let small : s < 2 ^ 63 = one_below 4096 s (2 ^ 63) (omega arith) fit in let tiny : s < 2 ^ 64 = omega arith in
-        let part : i * s < 2 ^ 63 = times_below i 4096 s (2 ^ 63) (omega arith) fit in let fm : i * s < 2 ^ 64 = omega arith in
+        let small : s < 2 ^ 63 = one_below 1024 s (2 ^ 63) (omega arith) fit in let tiny : s < 2 ^ 64 = omega arith in
+        let part : i * s < 2 ^ 63 = times_below i 1024 s (2 ^ 63) (omega arith) fit in let fm : i * s < 2 ^ 64 = omega arith in
         use1 𝓛 (some (λ (w : Val). given (Good E w) (‵ (fat full_share (elτ E) b (i * s + o) w) ⊛ ‵ (E.row.own_val old (w ∷ []))
         ⊛ ‵ (besides E b o h.items h.filled i)))) (value_out E 𝓛 b o h.items h.filled i ix fx d full) $
         pick ! (λ w. learn ! (λ tw. split3 ! $
