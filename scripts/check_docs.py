@@ -366,10 +366,11 @@ class Documents:
             raise Differs(ran.stdout + ran.stderr)
 
     def sentences(self):
-        """Whether the sentences of the documents are short enough."""
-        ran = self.run([sys.executable, f"{TOP}/scripts/check_sentences.py"])
-        if ran.returncode:
-            raise Differs(ran.stdout + ran.stderr)
+        """Whether the sentences of the documents, and of the comments of source files, are short enough."""
+        for words in ([], ["--sources"]):
+            ran = self.run([sys.executable, f"{TOP}/scripts/check_sentences.py", *words])
+            if ran.returncode:
+                raise Differs(ran.stdout + ran.stderr)
 
     def pictures(self):
         """Whether each picture is what its text gives."""

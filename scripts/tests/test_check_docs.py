@@ -66,6 +66,14 @@ class Told(unittest.TestCase):
         self.documents.short("parts")
         self.assertEqual(self.documents.skipped, ["scripts/stress parts, two: left out: it needs more"])
 
+    def test_sentences_of_documents_and_of_comments(self):
+        for words in ([], ["--sources"]):
+            self.write("check_sentences.py", f"import sys\nsys.exit(sys.argv[1:] == {words})\n")
+            with self.assertRaises(check_docs.Differs, msg=words):
+                self.documents.sentences()
+        self.write("check_sentences.py", "")
+        self.documents.sentences()
+
     def documented(self, text):
         """How many checks of a document passed and failed."""
         self.write("it.md", text)
