@@ -85,6 +85,12 @@ class Told(unittest.TestCase):
             self.documents.passed = self.documents.failed = 0
             self.assertEqual(self.documented(f"{fence}replies\n> x\ny\n{fence}\n"), (0, 1), fence)
 
+    def test_links_to_headings(self):
+        self.write("other.md", "# What `it` says, and doesn't\n")
+        for link, counts in (("#one-two", (1, 0)), ("other.md#what-it-says-and-doesnt", (1, 0)), ("#one", (0, 1)), ("other.md#one-two", (0, 1))):
+            self.documents.passed = self.documents.failed = 0
+            self.assertEqual(self.documented(f"# One two\n\n[there]({link})\n"), counts, link)
+
     def test_an_output_of_what_is_not_run(self):
         self.assertEqual(self.documented("```bash\necho one\n```\n\n```output\ntwo\n```\n"), (1, 1))
 
