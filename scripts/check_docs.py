@@ -40,6 +40,8 @@ FENCE = re.compile(r"^(`{3,})(.*)$")
 OTHER_FENCE = re.compile(r"^(\s+`{3,}|\s*~{3,})")
 COMMAND = re.compile(r'^\s*(\d*>\s*)?\{\s*"cmd"')
 ASKED = re.compile(r"^(\d*)> (.*)$")
+HEADING = re.compile(r"^#+ (.*)$", re.MULTILINE)
+ANCHOR = re.compile(r"\]\(([^)#:\s]*)#([^)\s]+)\)")
 RAN = re.compile(r"^Ran (\d+) tests? in ", re.MULTILINE)
 SKIPPED = re.compile(r"(?:^|\.\.\. )skipped (['\"])(.*)\1$", re.MULTILINE)
 LONGEST_RUN = 120
@@ -77,6 +79,12 @@ def blocks_of(file):
         found.append(Block(file, at + 1, fence[2].split(), lines[at + 1:end]))
         at = end + 1
     return found
+
+
+def anchors_of(file):
+    """The names by which links lead to the headings of a document."""
+    with open(file, encoding="utf-8") as it:
+        return {re.sub(r"[^\w\- ]", "", heading.lower()).replace(" ", "-") for heading in HEADING.findall(it.read())}
 
 
 class Talk:
@@ -231,12 +239,16 @@ class Documents:
         self.check(os.path.relpath(file, TOP), self.paths, file)
 
     def paths(self, file):
-        """The files of the repository that a document names are there."""
+        """The files of the repository that a document names are there, and the headings that it links to."""
         with open(file, encoding="utf-8") as it:
             text = it.read()
         named = set(re.findall(r"`((?:docs|examples|scripts|clients|\.ci)/[\w./-]+)`", text))
         named |= {os.path.relpath(os.path.normpath(f"{os.path.dirname(os.path.abspath(file))}/{it}"), TOP) for it in re.findall(r"\]\(([^)#:]+)(?:#[^)]*)?\)", text)}
         lacking = sorted(it for it in named if not os.path.exists(f"{TOP}/{it}"))
+        for path, anchor in ANCHOR.findall(text):
+            linked = os.path.normpath(f"{os.path.dirname(os.path.abspath(file))}/{path}") if path else file
+            if linked.endswith(".md") and os.path.exists(linked) and anchor not in anchors_of(linked):
+                lacking.append(f"{path}#{anchor}")
         if lacking:
             raise Differs(f"names what isn't there: {', '.join(lacking)}")
 
@@ -366,10 +378,11 @@ class Documents:
             raise Differs(ran.stdout + ran.stderr)
 
     def sentences(self):
-        """Whether the sentences of the documents are short enough."""
-        ran = self.run([sys.executable, f"{TOP}/scripts/check_sentences.py"])
-        if ran.returncode:
-            raise Differs(ran.stdout + ran.stderr)
+        """Whether the sentences of the documents, and of the comments of source files, are short enough."""
+        for words in ([], ["--sources"]):
+            ran = self.run([sys.executable, f"{TOP}/scripts/check_sentences.py", *words])
+            if ran.returncode:
+                raise Differs(ran.stdout + ran.stderr)
 
     def pictures(self):
         """Whether each picture is what its text gives."""

@@ -1,13 +1,13 @@
 #!/usr/bin/env python3
-"""Whether files open with what they are: each source file with a head, and each file of answers with the fact that it proves, in words; and
-whether `docs/DEFINITIONS.md` names each file of definitions.
+"""Whether files open with what they are: each source file with a head, each file of lemmas, laws or answers with what it proves, in words;
+and whether `docs/DEFINITIONS.md` names each file of definitions.
 
     check_heads.py [FOLDER ..]
 
-A source file of a crate (`crates/*/src/**/*.rt`) opens with `//!`, and `crates/*/proofs/**/Answers.antt` with a line `-- ..`. A file of
-definitions (`crates/*/specs/X.antt`, but for those of tests) stands there as `X` in backquotes, by its crate; and what stands there so is a
-file. Each that lacks this is named on a line of its own; the status is 1 then, else 0. Without folders all crates are looked at. Where a
-folder has no such file the status is 2."""
+A source file of a crate (`crates/*/src/**/*.rt`) opens with `//!`. The files `crates/*/proofs/*.antt`, but for `Lib.antt`, and
+`crates/*/proofs/**/Answers.antt` open with a line `-- ..`. A file of definitions (`crates/*/specs/X.antt`, but for those of tests) stands in
+the document as `X` in backquotes, by its crate; and what stands there so is a file. Each that lacks this is named on a line of its own; the
+status is 1 then, else 0. Without folders all crates are looked at. Where a folder has no such file the status is 2."""
 import os
 import re
 import sys
@@ -21,12 +21,13 @@ OF = re.compile(r"`(\w+)` of `(\w+)")
 
 
 def files_in(folder):
-    """The source files and files of answers of a crate, in the order of their names."""
+    """The source files of a crate, and its files of lemmas, laws and answers, in the order of their names."""
     for at, folders, names in os.walk(folder):
         folders.sort()
         folders[:] = [it for it in folders if it != "out"]
         for name in sorted(names):
-            if name.endswith(".rt") or name == "Answers.antt":
+            is_lemmas = at == os.path.join(folder, "proofs") and name.endswith(".antt") and name != "Lib.antt"
+            if name.endswith(".rt") or name == "Answers.antt" or is_lemmas:
                 yield os.path.join(at, name)
 
 

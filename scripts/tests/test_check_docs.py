@@ -66,6 +66,14 @@ class Told(unittest.TestCase):
         self.documents.short("parts")
         self.assertEqual(self.documents.skipped, ["scripts/stress parts, two: left out: it needs more"])
 
+    def test_sentences_of_documents_and_of_comments(self):
+        for words in ([], ["--sources"]):
+            self.write("check_sentences.py", f"import sys\nsys.exit(sys.argv[1:] == {words})\n")
+            with self.assertRaises(check_docs.Differs, msg=words):
+                self.documents.sentences()
+        self.write("check_sentences.py", "")
+        self.documents.sentences()
+
     def documented(self, text):
         """How many checks of a document passed and failed."""
         self.write("it.md", text)
@@ -76,6 +84,12 @@ class Told(unittest.TestCase):
         for fence in ("  ```", "~~~", "   ~~~"):
             self.documents.passed = self.documents.failed = 0
             self.assertEqual(self.documented(f"{fence}replies\n> x\ny\n{fence}\n"), (0, 1), fence)
+
+    def test_links_to_headings(self):
+        self.write("other.md", "# What `it` says, and doesn't\n")
+        for link, counts in (("#one-two", (1, 0)), ("other.md#what-it-says-and-doesnt", (1, 0)), ("#one", (0, 1)), ("other.md#one-two", (0, 1))):
+            self.documents.passed = self.documents.failed = 0
+            self.assertEqual(self.documented(f"# One two\n\n[there]({link})\n"), counts, link)
 
     def test_an_output_of_what_is_not_run(self):
         self.assertEqual(self.documented("```bash\necho one\n```\n\n```output\ntwo\n```\n"), (1, 1))

@@ -5,6 +5,7 @@ import os
 import sys
 import tempfile
 import unittest
+import unittest.mock
 
 TOP = os.path.dirname(os.path.dirname(os.path.dirname(os.path.realpath(__file__))))
 sys.path.insert(0, f"{TOP}/scripts")
@@ -58,8 +59,49 @@ class Sentences(unittest.TestCase):
         self.assertEqual((status, said.partition(": ")[2].partition("\n")[0]), (0, "2 sentences, 1.5 words in the mean, 2 at most"))
         self.assertEqual(self.ran("a.rt", f"//! {LONG}\n", "--sources")[0], 1)
 
+    def test_lines_of_names(self):
+        text = f"-- One two.\n--     name, other      {LONG}\n--   third  {LONG}\n-- Three.\n"
+        status, said = self.ran("a.antt", text, "--sources", "--all")
+        self.assertEqual((status, said.partition(": ")[2].partition("\n")[0]), (0, "2 sentences, 1.5 words in the mean, 2 at most"))
+
+    def test_mean_of_a_source_file(self):
+        sentence = "//! Word" + " word" * 20 + ".\n"
+        self.assertEqual(self.ran("a.rt", sentence * 4, "--sources")[0], 0)
+        self.assertEqual(self.ran("a.rt", sentence * 5, "--sources")[0], 1)
+
     def test_nothing_to_read(self):
         self.assertEqual(self.ran("a.md", "# A head\n")[0], 2)
+
+
+class Later(unittest.TestCase):
+    """Source files that may fail yet: the list of them grows shorter alone."""
+
+    def judged(self, sentence, listed):
+        """The status for a file with this sentence, and what is said."""
+        with tempfile.TemporaryDirectory() as folder:
+            os.makedirs(f"{folder}/crates/mi_one/src")
+            with open(f"{folder}/crates/mi_one/src/a.rt", "w", encoding="utf-8") as it:
+                it.write(f"//! {sentence}\n")
+            with open(f"{folder}/later.txt", "w", encoding="utf-8") as it:
+                it.write(f"# A comment.\n{listed}\n")
+            said = io.StringIO()
+            changed = unittest.mock.patch.multiple(check_sentences, TOP=folder, LATER=f"{folder}/later.txt")
+            with changed, contextlib.redirect_stdout(said):
+                return check_sentences.main(["--sources"]), said.getvalue()
+
+    def test_one_that_fails(self):
+        self.assertEqual(self.judged(LONG, "crates/mi_one/src/a.rt")[0], 0)
+        self.assertEqual(self.judged(LONG, "")[0], 1)
+
+    def test_one_that_passes(self):
+        status, said = self.judged("One.", "crates/mi_one/src/a.rt")
+        self.assertEqual(status, 1)
+        self.assertIn("take it out of later.txt", said)
+
+    def test_one_that_is_not_there(self):
+        status, said = self.judged("One.", "crates/mi_one/src/b.rt")
+        self.assertEqual(status, 1)
+        self.assertIn("crates/mi_one/src/b.rt: later.txt names it", said)
 
 
 if __name__ == "__main__":
