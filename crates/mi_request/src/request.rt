@@ -117,16 +117,11 @@ pub enum SessionCommand {
     Undo,
     Squash,
     /// Ends the sessions up to this number, 0 to 2^63 - 1, and keeps their changes.
-    Commit {
-        revision: u64,
-    },
+    Commit { revision: u64 },
     UndoAll,
     Push,
     /// Asks room for so many changes, at most 1,000,000, and so many sessions, at most 1,024.
-    Reserve {
-        changes: u64,
-        sessions: u64,
-    },
+    Reserve { changes: u64, sessions: u64 },
     Revision,
 }
 

@@ -7,6 +7,6 @@ use Rattle.mi_request.proofs.command.CommandName.allows.Goals as goal
 pub returns-in-Range : goal.returns-in-Range
 returns-in-Range c =
     let here : c.has_only-in-Range.result
-        ≡ has_only (codes "cmd" ∷ codes "table" ∷ codes "index" ∷ codes "lower" ∷ codes "upper" ∷ codes "reverse" ∷ codes "limit" ∷ []) c.args.object.now
-        = search rules in
+    ≡ has_only (codes "cmd" ∷ codes "table" ∷ codes "index" ∷ codes "lower" ∷ codes "upper" ∷ codes "reverse" ∷ codes "limit" ∷ []) c.args.object.now
+    = search rules in
     here ∙ ap (λ n. has_only (codes "cmd" ∷ member_names (form_of n)) c.args.object.now) (sym c.in-Range.is)
