@@ -170,23 +170,6 @@ impl<D: Sessions + Drop> Executor<D> {
         outcome.changed
     }
 
-    /// Does a command that fits the catalog, and says whether anything may have changed. The commands over sessions other than a start and a
-    /// reserve, a size and a rank take no memory.
-    #[inline(always)]
-    fn perform(&mut self, conn: u64, command: Command, out: &mut Output) -> bool
-        requires { FitsCatalog self.old.database.catalog command }
-        ensures { IsAnswered self.old conn command out.new result self.new }
-    {
-        match command {
-            Command::Session(command) => self.answer_session(conn, command, out),
-            Command::LookUp { table, look_up } => {
-                self.answer_look(table, &look_up, out);
-                false
-            }
-            Command::Change { table, change } => self.answer_change(table, change, out),
-        }
-    }
-
     /// The command that a line is, unless another connection keeps it out.
     fn read(&mut self, conn: u64, bytes: &[u8]) -> Result<Command, Refusal>
         ensures kept { self.new ≡ self.old }
@@ -207,7 +190,12 @@ impl<D: Sessions + Drop> Executor<D> {
         ensures { MayAnswer conn self.old (text bytes.now) out.new result self.new }
     {
         match self.read(conn, bytes) {
-            Ok(command) => self.perform(conn, command, out),
+            Ok(Command::Session(command)) => self.answer_session(conn, command, out),
+            Ok(Command::LookUp { table, look_up }) => {
+                self.answer_look(table, &look_up, out);
+                false
+            }
+            Ok(Command::Change { table, change }) => self.answer_change(table, change, out),
             Err(refusal) => {
                 self.refuse(refusal, out);
                 false

@@ -18,13 +18,15 @@ use Rattle.mi_request.specs.declared.request.SessionCommand.TheVariants as sessi
 use Rattle.mi_replay.proofs.UndoLemmas.{undo_means}
 use Rattle.mi_protocol.specs.Binding.{and_then, table_number, bound_look_up, bound_command}
 use Rattle.mi_protocol.specs.Replies.{Said}
+use Rattle.mi_protocol.specs.declared.command.Change.{Change}
+use Rattle.mi_protocol.specs.declared.command.Change.TheVariants as change
 use Rattle.mi_protocol.specs.declared.command.Command.{Command}
 use Rattle.mi_protocol.specs.declared.command.Command.TheVariants as command
 use Rattle.mi_commands.specs.Asked.{Asked, text, too_long}
 use Rattle.mi_commands.specs.Answer.{answer, command_answer, command_of, command_changes, line_changes, MayGive}
 use Rattle.mi_commands.proofs.ToldLemmas.{look_quiet, line_keeps, answer_keeps}
 use Rattle.mi_commands.specs.Holder.{HeldDatabase, is_busy, one_more, one_less, at_most, held_count, held_by, without_holder}
-use Rattle.mi_commands.specs.Performed.{performed, holder_after, or_session, effect, moved}
+use Rattle.mi_commands.specs.Performed.{performed, changed, holder_after, or_session, effect, moved}
 use Rattle.mi_commands.specs.Performed.{Move, stays, one_up, one_down, down_to, to_nobody, lets_go, if_accepted}
 use Rattle.mi_commands.specs.declared.holder.Holder.{Holder}
 use Rattle.mi_replay.specs.Journal.{undo_line}
@@ -308,7 +310,13 @@ module _ (d : Database) (o : Option Holder) (fits : held_count o ≤ depth d) (c
   no_more (if_accepted (Ok n) m) h = no_more m h
   no_more (if_accepted (Err e) m) h = omega arith
 
+  -- a change leaves the sessions as they are
+  change_depth : (n : ℕ) (x : Change) → depth (changed d n x).1 ≡ depth d
+  change_depth n (change.Insert row before) = refl
+  change_depth n x = refl
+
   command_fits : (c : Command) → Fits (performed (on d o) conn c).1
+  command_fits (command.Change n x) = subst (λ k. held_count o ≤ k) (sym (change_depth n x)) fits
   command_fits (command.Session session.Start) = start_fits
   command_fits (command.Session session.Undo) = undo_fits
   command_fits (command.Session session.Squash) = squash_fits
