@@ -12,7 +12,7 @@ use Rattle.mi_request.specs.declared.request.ChangeRequest.TheVariants as change
 use Rattle.mi_request.specs.declared.request.LookUpRequest.TheVariants as look_up_request
 use Rattle.mi_request.specs.declared.request.Request.{Request}
 use Rattle.mi_request.specs.declared.request.Request.TheVariants as request
-use Rattle.mi_protocol.specs.Binding.{and_then, of_kind, table_number, index_number, bound_over, bound_command}
+use Rattle.mi_protocol.specs.Binding.{and_then, of_kind, table_number, index_number, bound_command}
 use Rattle.mi_request.specs.declared.request.SessionCommand.TheVariants as session
 use Rattle.mi_protocol.specs.declared.command.Change.TheVariants as change
 use Rattle.mi_protocol.specs.declared.command.Command.{Command}
@@ -24,7 +24,7 @@ use Rattle.mi_embed.specs.Asked.{table_in, index_in, lower_in, upper_in}
 use Rattle.mi_embed.specs.AsLines.{IsTable, IsIndex, AsksAs, CallsAnswerAsLines}
 use Rattle.mi_embed.specs.EditCells.{edits_for}
 use Rattle.mi_embed.specs.Calls as call
-use Rattle.mi_embed.specs.Calls.{Call, insert_in, addition_in, modify_in, ends_in, of_table, over, command_in, looks}
+use Rattle.mi_embed.specs.Calls.{Call, insert_in, addition_in, modify_in, ends_in, of_table, command_in, looks}
 
 -- what follows from a value that may be refused is the same where it is the same of the value
 same_if : {A B : Type 0} (b : Bool) (v : A) (e : Refusal) (f g : A → Result B Refusal) → f v ≡ g v → and_then f (cond b (Ok v) (Err e)) ≡ and_then g (cond b (Ok v) (Err e))
@@ -49,34 +49,29 @@ by_index kinds c n name x f g is h =
 abbrev found_key : ℕ → Option (List Value) → Result (ℕ × List Value) Refusal
 found_key x key = and_then (λ values. Ok (x, values)) (ok_or key Key)
 
--- what is bound over a table's schema, and made of its number
-over_table : {A : Type 0} (make : ℕ → A → Command) (f g : Shape → Result A Refusal) (c : CatalogShape) (name : Option (List ℕ)) (n : ℕ) → IsTable c name n
-    → f (schema_at c n) ≡ g (schema_at c n) → bound_over make f c name ≡ over make g c n
-over_table make f g c name n is h = by_table c name n _ _ is (ap (of_table make n) h)
-
 module _ (c : CatalogShape) where
   bound_as : (r : Request) (k : Call) → AsksAs c r k → bound_command c r ≡ command_in c k
   bound_as (request.Change table (change_request.Insert row None)) (call.insert n cells bytes) h =
-      over_table command.Change _ _ c table n h.0 (ap (λ o. insert_in o (Ok None)) h.1)
+      by_table c table n _ _ h.0 (ap (of_table command.Change n) (ap (λ o. insert_in o (Ok None)) h.1))
   bound_as (request.Change table (change_request.Insert row (Some p))) (call.insert_before n cells bytes x before) h =
-      over_table command.Change _ _ c table n h.0 (ap₂ (λ o at. insert_in o at) h.3
-      (by_index is_sequenced c n p.index x (λ i. Ok (Some (i, p.id))) (λ i. Ok (Some (i, before))) h.1 (ap (λ e. Ok (Some (x, e))) h.2)))
+      by_table c table n _ _ h.0 (ap (of_table command.Change n) (ap₂ (λ o at. insert_in o at) h.3
+      (by_index is_sequenced c n p.index x (λ i. Ok (Some (i, p.id))) (λ i. Ok (Some (i, before))) h.1 (ap (λ e. Ok (Some (x, e))) h.2))))
   bound_as (request.Change table (change_request.Replace id row)) (call.replace n e cells bytes) h =
-      over_table command.Change _ _ c table n h.0 (ap₂ (λ i o. and_then (λ values. Ok (change.Replace i values)) (ok_or o Row)) h.1 h.2)
+      by_table c table n _ _ h.0 (ap (of_table command.Change n) (ap₂ (λ i o. and_then (λ values. Ok (change.Replace i values)) (ok_or o Row)) h.1 h.2))
   bound_as (request.Change table (change_request.Modify id set add rollback)) (call.modify n e cells bytes rolls) h =
-      over_table command.Change _ _ c table n h.0 (ap (λ o. modify_in id o rollback) h.3
-      ∙ ap₂ (λ i b. modify_in i (edits_for (schema_at c n).columns bytes cells) b) h.1 h.2)
+      by_table c table n _ _ h.0 (ap (of_table command.Change n) (ap (λ o. modify_in id o rollback) h.3
+      ∙ ap₂ (λ i b. modify_in i (edits_for (schema_at c n).columns bytes cells) b) h.1 h.2))
   bound_as (request.Change table (change_request.Modify id set add rollback)) (call.modify_add n e x k rolls) h =
-      over_table command.Change _ _ c table n h.0 (ap (λ o. modify_in id o rollback) h.3
-      ∙ ap₂ (λ i b. modify_in i (addition_in (schema_at c n).columns x k) b) h.1 h.2)
+      by_table c table n _ _ h.0 (ap (of_table command.Change n) (ap (λ o. modify_in id o rollback) h.3
+      ∙ ap₂ (λ i b. modify_in i (addition_in (schema_at c n).columns x k) b) h.1 h.2))
   bound_as (request.Change table (change_request.Erase id)) (call.erase n e) h =
-      over_table command.Change _ _ c table n h.0 (ap (λ i. Ok (change.Erase i)) h.1)
+      by_table c table n _ _ h.0 (ap (of_table command.Change n) (ap (λ i. Ok (change.Erase i)) h.1))
   bound_as (request.Change table (change_request.EraseKey index key)) (call.erase_key n x cells bytes) h =
-      over_table command.Change _ _ c table n h.0 (ap (and_then (λ k. Ok (change.EraseKey k.0 k.1)))
-      (by_index has_keys c n index x _ _ h.1 (ap (found_key x) h.2)))
+      by_table c table n _ _ h.0 (ap (of_table command.Change n) (ap (and_then (λ k. Ok (change.EraseKey k.0 k.1)))
+      (by_index has_keys c n index x _ _ h.1 (ap (found_key x) h.2))))
   bound_as (request.Change table (change_request.Relocate index id before)) (call.relocate n x e place) h =
-      over_table command.Change _ _ c table n h.0
-      (by_index is_sequenced c n index x _ _ h.1 (ap₂ (λ i b. Ok (change.Relocate x i b)) h.2 h.3))
+      by_table c table n _ _ h.0
+      (ap (of_table command.Change n) (by_index is_sequenced c n index x _ _ h.1 (ap₂ (λ i b. Ok (change.Relocate x i b)) h.2 h.3)))
   bound_as (request.Session session.Start) call.start h = refl
   bound_as (request.Session session.Undo) call.undo h = refl
   bound_as (request.Session session.Squash) call.squash h = refl
@@ -84,29 +79,29 @@ module _ (c : CatalogShape) where
   bound_as (request.Session session.UndoAll) call.undo_all h = refl
   bound_as (request.Session session.Push) call.push h = refl
   bound_as (request.LookUp table (look_up_request.Get id)) (call.get n e) h =
-      over_table command.LookUp _ _ c table n h.0 (ap (λ i. Ok (look_up.Get i)) h.1)
+      by_table c table n _ _ h.0 (ap (of_table command.LookUp n) (ap (λ i. Ok (look_up.Get i)) h.1))
   bound_as (request.LookUp table (look_up_request.Find index key)) (call.find n x cells bytes) h =
-      over_table command.LookUp _ _ c table n h.0 (ap (and_then (λ k. Ok (look_up.Find k.0 k.1))) (by_index has_keys c n index x _ _ h.1 (ap (found_key x) h.2)))
+      by_table c table n _ _ h.0 (ap (of_table command.LookUp n) (ap (and_then (λ k. Ok (look_up.Find k.0 k.1))) (by_index has_keys c n index x _ _ h.1 (ap (found_key x) h.2))))
   bound_as (request.LookUp table (look_up_request.Nth index place)) (call.nth n x at) h =
-      over_table command.LookUp _ _ c table n h.0 (by_index is_ranked c n index x _ _ h.1 (ap (λ i. Ok (look_up.Nth x i)) h.2))
+      by_table c table n _ _ h.0 (ap (of_table command.LookUp n) (by_index is_ranked c n index x _ _ h.1 (ap (λ i. Ok (look_up.Nth x i)) h.2)))
   bound_as (request.LookUp table (look_up_request.Count index key)) (call.count n x cells bytes) h =
-      over_table command.LookUp _ _ c table n h.0 (ap (and_then (λ k. Ok (look_up.Count k.0 k.1))) (by_index has_keys c n index x _ _ h.1 (ap (found_key x) h.2)))
+      by_table c table n _ _ h.0 (ap (of_table command.LookUp n) (ap (and_then (λ k. Ok (look_up.Count k.0 k.1))) (by_index has_keys c n index x _ _ h.1 (ap (found_key x) h.2))))
   bound_as (request.LookUp table (look_up_request.Range index low high reverse limit)) (call.range n x lower lower_key upper upper_key bytes backward most) h =
       let s = schema_at c n in
-      over_table command.LookUp _ _ c table n h.0 (by_index is_sorted c n index x _ _ h.1
+      by_table c table n _ _ h.0 (ap (of_table command.LookUp n) (by_index is_sorted c n index x _ _ h.1
       (ap₂ (λ l u. and_then (λ e. Ok (look_up.Range x e.0 e.1 reverse limit)) (ends_in l u)) h.2 h.3
-      ∙ ap₂ (λ b m. and_then (λ e. Ok (look_up.Range x e.0 e.1 b m)) (ends_in (lower_in s x lower bytes lower_key) (upper_in s x upper bytes upper_key))) h.4 h.5))
+      ∙ ap₂ (λ b m. and_then (λ e. Ok (look_up.Range x e.0 e.1 b m)) (ends_in (lower_in s x lower bytes lower_key) (upper_in s x upper bytes upper_key))) h.4 h.5)))
   bound_as (request.LookUp table (look_up_request.List index after limit)) (call.list n x behind most) h =
-      over_table command.LookUp _ _ c table n h.0 (by_index is_sequenced c n index x _ _ h.1 (ap₂ (λ a m. Ok (look_up.List x a m)) h.2 h.3))
+      by_table c table n _ _ h.0 (ap (of_table command.LookUp n) (by_index is_sequenced c n index x _ _ h.1 (ap₂ (λ a m. Ok (look_up.List x a m)) h.2 h.3)))
   bound_as (request.LookUp table (look_up_request.Rank index id)) (call.rank n x e) h =
-      over_table command.LookUp _ _ c table n h.0 (by_index is_ranked c n index x _ _ h.1 (ap (λ i. Ok (look_up.Rank x i)) h.2))
+      by_table c table n _ _ h.0 (ap (of_table command.LookUp n) (by_index is_ranked c n index x _ _ h.1 (ap (λ i. Ok (look_up.Rank x i)) h.2)))
   bound_as (request.LookUp table (look_up_request.LowerRank index key)) (call.lower_rank n x cells bytes) h =
-      over_table command.LookUp _ _ c table n h.0
-      (ap (and_then (λ k. Ok (look_up.LowerRank k.0 k.1))) (by_index is_ranked c n index x _ _ h.1 (ap (found_key x) h.2)))
+      by_table c table n _ _ h.0
+      (ap (of_table command.LookUp n) (ap (and_then (λ k. Ok (look_up.LowerRank k.0 k.1))) (by_index is_ranked c n index x _ _ h.1 (ap (found_key x) h.2))))
   bound_as (request.LookUp table (look_up_request.UpperRank index key)) (call.upper_rank n x cells bytes) h =
-      over_table command.LookUp _ _ c table n h.0
-      (ap (and_then (λ k. Ok (look_up.UpperRank k.0 k.1))) (by_index is_ranked c n index x _ _ h.1 (ap (found_key x) h.2)))
-  bound_as (request.LookUp table look_up_request.Size) (call.size n) h = over_table command.LookUp _ _ c table n h refl
+      by_table c table n _ _ h.0
+      (ap (of_table command.LookUp n) (ap (and_then (λ k. Ok (look_up.UpperRank k.0 k.1))) (by_index is_ranked c n index x _ _ h.1 (ap (found_key x) h.2))))
+  bound_as (request.LookUp table look_up_request.Size) (call.size n) h = by_table c table n _ _ h refl
   bound_as r k h = absurd h
 
   -- both are kept out, or neither
