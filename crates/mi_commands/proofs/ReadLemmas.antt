@@ -1,11 +1,12 @@
 -- From the command that a line is to its answer.
-use Rattle.std.proofs.Common.{◌≡◌, ℕ, List, Bool, true, false, cond, ◌&&◌, Result, Ok, Err, refl, sym, ap, ◌∙◌, inl, inr, ◌⊎◌, subst, true≢false}
+use Rattle.std.proofs.Common.{◌≡◌, ℕ, List, Bool, true, false, cond, ◌&&◌, Some, Result, Ok, Err, refl, sym, ap, ◌∙◌, inl, inr, subst, true≢false}
 use Rattle.std.specs.Prelude.{IfOk}
 use Rattle.mi_value.specs.declared.refusal.Refusal.{Refusal}
 use Rattle.mi_value.specs.declared.refusal.Refusal.TheVariants.{Busy, Memory}
 use Rattle.mi_catalog.specs.Shape.{Shape, CatalogShape, schema_at}
 use Rattle.mi_request.specs.Answers.{IsAnswer}
 use Rattle.mi_request.specs.Lines.{command_line}
+use Rattle.mi_request.specs.Short.{short_line}
 use Rattle.mi_request.specs.Commands.{keeps_out}
 use Rattle.mi_request.specs.declared.request.Request.{Request}
 use Rattle.mi_request.specs.declared.request.LookUpRequest.{LookUpRequest}
@@ -19,7 +20,8 @@ use Rattle.mi_protocol.specs.Replies.{refused, reply_text}
 use Rattle.mi_protocol.specs.declared.command.Command.{Command}
 use Rattle.mi_protocol.specs.declared.command.Command.TheVariants as command
 use Rattle.mi_protocol.specs.declared.command.LookUp.TheVariants as look_up
-use Rattle.mi_commands.specs.Answer.{needs_none, done_without, TakesNone, command_answer, command_of, command_changes, AnsweredOrMemory, IsAnswered}
+use Rattle.mi_commands.specs.Asked.{text}
+use Rattle.mi_commands.specs.Answer.{needs_none, done_without, TakesNone, command_answer, command_of, command_changes, AnsweredOrMemory, IsAnswered, IsAsked, MayAnswer}
 use Rattle.mi_commands.specs.Holder.{HeldDatabase, is_busy}
 
 not_true : {A : Type 0} → false ≡ true → A
@@ -53,46 +55,66 @@ bound_without catalog (request.Session x) none = refl
 none_bound : (catalog : CatalogShape) (r : Request) (c : Command) → needs_none r ≡ true → bound_command catalog r ≡ Ok c → done_without c ≡ true
 none_bound catalog r c none is = subst (λ b. IfOk b (λ k. done_without k ≡ true)) is (bound_without catalog r none)
 
--- a line that takes no memory is a command that is done without, where it is one
-none_kept : (kept_out : Bool) (bound : Result Command Refusal) (c : Command) → cond kept_out (Err Busy) bound ≡ Ok c → bound ≡ Ok c
-none_kept true bound c is = absurd (busy is)
-  where
-    busy : ◌≡◌ {A = Result Command Refusal} (Err Busy) (Ok c) → ⊥
-    busy e = cc
-none_kept false bound c is = is
+-- ---- requests
 
--- from the answer to a command, or the refusal in its place, to that of its line
-abbrev pub IsLineAnswered : HeldDatabase → ℕ → List ℕ → List ℕ → Result Command Refusal → Bool → HeldDatabase → Type 0
-IsLineAnswered s conn bytes reply c changed new =
-    AnsweredOrMemory (¬ TakesNone bytes) (command_answer s conn c) (command_changes s conn c) s reply changed new
+module _ (s : HeldDatabase) (conn : ℕ) (r : Request) (reply : List ℕ) where
+  -- a request that isn't kept out is what it is bound to
+  free_is : (keeps_out r && is_busy s.holder conn) ≡ false → command_of s conn (Ok r) ≡ bound_command s.database.catalog r
+  free_is free = ap (λ b. cond b (Err Busy) (bound_command s.database.catalog r)) free
+
+  -- this command
+  pub done_asked : (c : Command) (changed : Bool) (new : HeldDatabase) → (keeps_out r && is_busy s.holder conn) ≡ false
+      → bound_command s.database.catalog r ≡ Ok c → IsAnswered s conn c reply changed new → IsAsked s conn r reply changed new
+  done_asked c changed new free is done =
+      subst (λ x. AnsweredOrMemory (needs_none r ≡ false) (command_answer s conn x) (command_changes s conn x) s reply changed new)
+      (sym (free_is free ∙ is)) (elim done [
+        | inl p ↦ inl p
+        | inr p ↦ inr (none_needed (needs_none r) refl c is p.0, p.1, p.2)
+      ])
+    where
+      none_needed : (b : Bool) → needs_none r ≡ b → (c : Command) → bound_command s.database.catalog r ≡ Ok c → done_without c ≡ false → needs_none r ≡ false
+      none_needed false none c is lacks = none
+      none_needed true none c is lacks = absurd (true≢false (sym (none_bound s.database.catalog r c none is) ∙ lacks))
+
+  -- or a refusal
+  pub refused_asked : (e : Refusal) → (keeps_out r && is_busy s.holder conn) ≡ false → IsAnswer (Err e) (bound_command s.database.catalog r)
+      → (e ≡ Memory → needs_none r ≡ false) → reply ≡ reply_text s.database.catalog (refused 0 e) → IsAsked s conn r reply false s
+  refused_asked Memory free is lacks said = inr (lacks refl, (said, refl), refl)
+  refused_asked e free is lacks said =
+      subst (λ x. AnsweredOrMemory (needs_none r ≡ false) (command_answer s conn x) (command_changes s conn x) s reply false s)
+      (sym (free_is free ∙ is)) (inl ((said, refl), refl))
+
+  pub busy_asked : (keeps_out r && is_busy s.holder conn) ≡ true → reply ≡ reply_text s.database.catalog (refused 0 Busy) → IsAsked s conn r reply false s
+  busy_asked busy said =
+      subst (λ b. AnsweredOrMemory (needs_none r ≡ false) (command_answer s conn (cond b (Err Busy) (bound_command s.database.catalog r)))
+      (command_changes s conn (cond b (Err Busy) (bound_command s.database.catalog r))) s reply false s) (sym busy) (inl ((said, refl), refl))
+
+-- ---- lines
 
 module _ (s : HeldDatabase) (conn : ℕ) (bytes reply : List ℕ) where
-  none_done : (c : Command) → command_of s conn (command_line bytes) ≡ Ok c → TakesNone bytes → done_without c ≡ true
-  none_done c is takes =
-      none_bound s.database.catalog takes.0 c takes.1
-      (none_kept (keeps_out takes.0 && is_busy s.holder conn) _ c (sym (ap (command_of s conn) (short_means takes.0 bytes takes.2)) ∙ is))
-
-  -- a command is done
-  pub given : (c : Command) (changed : Bool) (old new : HeldDatabase) → old ≡ s → command_of s conn (command_line bytes) ≡ Ok c
-      → IsAnswered old conn c reply changed new → IsLineAnswered s conn bytes reply (command_of s conn (command_line bytes)) changed new
-  given c changed old new same is done =
-      subst (λ x. IsLineAnswered s conn bytes reply x changed new) (sym is)
-      (elim (subst (λ o. IsAnswered o conn c reply changed new) same done) [
+  -- a line is answered as its request; s may be known under another name
+  pub line_asked : (r : Request) (changed : Bool) (new : HeldDatabase) → command_line bytes ≡ Ok r → IsAsked s conn r reply changed new
+      → MayAnswer conn s (text bytes) reply changed new
+  line_asked r changed new is asked =
+      subst (λ x. AnsweredOrMemory (¬ TakesNone bytes) (command_answer s conn (command_of s conn x)) (command_changes s conn (command_of s conn x)) s reply changed new)
+      (sym is) (elim asked [
         | inl p ↦ inl p
-        | inr p ↦ inr (λ takes. true≢false (sym (none_done c is takes) ∙ p.0), p.1, p.2)
+        | inr p ↦ inr (λ takes. true≢false (sym (takes_is takes) ∙ p.0), p.1, p.2)
       ])
+    where
+      same : {q r : Request} → ◌≡◌ {A = Result Request Refusal} (Ok q) (Ok r) → q ≡ r
+      same e = cc
 
-  memory_or : (e : Refusal) (d : Result Command Refusal) → IsAnswer (Err e) d → (e ≡ Memory) ⊎ (d ≡ Err e)
-  memory_or Memory d h = inl refl
-  memory_or e d h = inr h
+      takes_is : TakesNone bytes → needs_none r ≡ true
+      takes_is takes = subst (λ q. needs_none q ≡ true) (same (sym (short_means takes.0 bytes takes.2) ∙ is)) takes.1
 
-  -- a refusal is said
-  pub refused_line : (e : Refusal) (new : HeldDatabase) → new ≡ s → IsAnswer (Err e) (command_of s conn (command_line bytes))
-      → (e ≡ Memory → ¬ TakesNone bytes) → reply ≡ reply_text new.database.catalog (refused 0 e)
-      → IsLineAnswered s conn bytes reply (command_of s conn (command_line bytes)) false new
-  refused_line e new same is lacks said =
-      let here = said ∙ ap (λ (o : HeldDatabase). reply_text o.database.catalog (refused 0 e)) same in
-      elim (memory_or e _ is) [
-        | inl memory ↦ inr (lacks memory, (here ∙ ap (λ x. reply_text s.database.catalog (refused 0 x)) memory, same), refl)
-        | inr other ↦ subst (λ x. IsLineAnswered s conn bytes reply x false new) (sym other) (inl ((here, same), refl))
-      ]
+  -- or it is no request
+  pub refused_line : (e : Refusal) → IsAnswer (Err e) (command_line bytes) → ((r : Request) → short_line r ≡ Some bytes → ◌≡◌ {A = Result Request Refusal} (Err e) (Ok r))
+      → reply ≡ reply_text s.database.catalog (refused 0 e) → MayAnswer conn s (text bytes) reply false s
+  refused_line Memory is short said = inr (λ takes. absurd (differs (short takes.0 takes.2)), (said, refl), refl)
+    where
+      differs : {e : Refusal} {r : Request} → ◌≡◌ {A = Result Request Refusal} (Err e) (Ok r) → ⊥
+      differs h = cc
+  refused_line e is short said =
+      subst (λ x. AnsweredOrMemory (¬ TakesNone bytes) (command_answer s conn (command_of s conn x)) (command_changes s conn (command_of s conn x)) s reply false s)
+      (sym is) (inl ((said, refl), refl))

@@ -99,6 +99,12 @@ abbrev pub IsAnswered : HeldDatabase → ℕ → Command → List ℕ → Bool �
 IsAnswered s conn c reply changed t =
     let done = performed s conn c in AnsweredOrMemory (done_without c ≡ false) done (may_change c done.0) s reply changed t
 
+-- The same of a request, which is kept out, refused or done.
+abbrev pub IsAsked : HeldDatabase → ℕ → Request → List ℕ → Bool → HeldDatabase → Type 0
+IsAsked s conn r reply changed t =
+    let c = command_of s conn (Ok r) in
+    AnsweredOrMemory (needs_none r ≡ false) (command_answer s conn c) (command_changes s conn c) s reply changed t
+
 -- From s, this line may be given this reply, and t is left; and `changed` is said of it.
 abbrev pub MayAnswer : ℕ → HeldDatabase → Asked → List ℕ → Bool → HeldDatabase → Type 0
 MayAnswer conn s line reply changed t = AnsweredOrMemory (MayLackMemory line) (answer s conn line) (line_changes s conn line) s reply changed t

@@ -3,14 +3,15 @@
 ghost use Rattle.std.specs.Prelude.{◌≡◌, ◌≤◌, true, false, None, Err, IfOk, IfErr, option_map};
 ghost use Rattle.mi_model.specs.Database.{depth, undone_times};
 ghost use Rattle.mi_protocol.specs.Binding.{FitsCatalog};
-ghost use Rattle.mi_request.specs.Answers.{IsAnswer, NamesNoIndex};
-ghost use Rattle.mi_request.specs.Lines.{command_line};
+ghost use Rattle.mi_request.specs.Answers.{NamesNoIndex};
+ghost use Rattle.mi_request.specs.Commands.{keeps_out as spec_keeps_out};
 ghost use Rattle.mi_protocol.specs.Replies.{reply_text, refused};
 
 use crate::holder::{Holder, held_by, is_busy, without_holder};
 use crate::line::Line;
 use mi_protocol::{
-    Change, Command, LineReader, LookUp, Output, Reply, ReplyLabels, SessionCommand, bind,
+    Change, Command, LineReader, LookUp, Output, Reply, ReplyLabels, Request, SessionCommand,
+    bind_change, bind_look_up,
 };
 use mi_sessions::Sessions;
 use mi_value::Refusal;
@@ -44,7 +45,7 @@ impl<D: Sessions + Drop> Model for Executor<D> {
 impl<D: Sessions + Drop> Executor<D> {
     ghost use Rattle.mi_commands.specs.Holder as holder;
     ghost use Rattle.mi_commands.specs.Holder.{released};
-    ghost use Rattle.mi_commands.specs.Answer.{command_of, TakesNone, IsAnswered, MayGive, MayAnswer};
+    ghost use Rattle.mi_commands.specs.Answer.{IsAnswered, IsAsked, MayGive, MayAnswer};
     ghost use Rattle.mi_commands.specs.Asked.{text, asked_of};
 
     /// A database that nobody holds sessions of. It takes no memory; until `make_labels` has made labels, rows are written without.
@@ -124,21 +125,19 @@ impl<D: Sessions + Drop> Executor<D> {
     {
         match line {
             Line::Text(text) => self.answer_text(conn, text, out),
-            Line::TooLong => {
-                self.refuse(Refusal::Line, out);
-                false
-            }
+            Line::TooLong => self.refuse(Refusal::Line, out),
         }
     }
 
-    /// Answers a look-up. It is a call of its own, so that it clears no room that only a change needs.
+    /// Answers a look-up, and says that nothing has changed. It is a call of its own, so that it clears no room that only a change needs.
     #[inline(never)]
-    fn answer_look(&self, table: usize, look_up: &LookUp, out: &mut Output)
+    fn answer_look(&self, table: usize, look_up: &LookUp, out: &mut Output) -> bool
         requires fits { FitsCatalog self.now.database.catalog (Command.LookUp table look_up.now) }
-        ensures { IsAnswered self.now 0 (Command.LookUp table look_up.now) out.new false self.now }
+        ensures { IsAnswered self.now 0 (Command.LookUp table look_up.now) out.new result self.now }
     {
         let reply = self.look(table, look_up);
         out.put(self.alloc, &reply, self.database.catalog(), &self.labels);
+        false
     }
 
     /// Changes a table, and says whether anything may have changed.
@@ -170,43 +169,49 @@ impl<D: Sessions + Drop> Executor<D> {
         outcome.changed
     }
 
-    /// The command that a line is, unless another connection keeps it out.
-    fn read(&mut self, conn: u64, bytes: &[u8]) -> Result<Command, Refusal>
-        ensures kept { self.new ≡ self.old }
-        ensures answer { IsAnswer result (command_of self.old conn (command_line bytes.now)) }
-        ensures refusal { IfErr result NamesNoIndex }
-        ensures fits { IfOk result (λ command. FitsCatalog self.old.database.catalog command) }
-        ensures memory { result ≡ Err Refusal.Memory → ¬ TakesNone bytes.now }
+    /// Answers a command over sessions, unless another connection keeps it out.
+    fn ask_session(&mut self, conn: u64, command: SessionCommand, out: &mut Output) -> bool
+        ensures { IsAsked self.old conn (Request.Session command) out.new result self.new }
     {
-        let request = self.lines.parse(bytes)?;
-        if request.keeps_out() && is_busy(&self.holder, conn) {
-            return Err(Refusal::Busy);
+        if keeps_out(command) && is_busy(&self.holder, conn) {
+            return self.refuse(Refusal::Busy, out);
         }
-        bind(self.alloc, request, self.database.catalog())
+        self.answer_session(conn, command, out)
     }
 
-    /// Answers a line that is not over-long, and says whether anything may have changed.
+    /// Answers a line that is not over-long, and says whether anything may have changed. Each kind of request goes its own way, so that none is
+    /// moved with the fields of another.
     fn answer_text(&mut self, conn: u64, bytes: &[u8], out: &mut Output) -> bool
         ensures { MayAnswer conn self.old (text bytes.now) out.new result self.new }
     {
-        match self.read(conn, bytes) {
-            Ok(Command::Session(command)) => self.answer_session(conn, command, out),
-            Ok(Command::LookUp { table, look_up }) => {
-                self.answer_look(table, &look_up, out);
-                false
+        match self.lines.parse(bytes) {
+            Ok(Request::Session(command)) => self.ask_session(conn, command, out),
+            Ok(Request::LookUp { table, look_up }) => {
+                let catalog = self.database.catalog();
+                match bind_look_up(self.alloc, table, look_up, catalog) {
+                    Ok((table, look_up)) => self.answer_look(table, &look_up, out),
+                    Err(refusal) => self.refuse(refusal, out),
+                }
             }
-            Ok(Command::Change { table, change }) => self.answer_change(table, change, out),
-            Err(refusal) => {
-                self.refuse(refusal, out);
-                false
+            Ok(Request::Change { table, change }) => {
+                if is_busy(&self.holder, conn) {
+                    return self.refuse(Refusal::Busy, out);
+                }
+                let catalog = self.database.catalog();
+                match bind_change(self.alloc, table, change, catalog) {
+                    Ok((table, change)) => self.answer_change(table, change, out),
+                    Err(refusal) => self.refuse(refusal, out),
+                }
             }
+            Err(refusal) => self.refuse(refusal, out),
         }
     }
 
-    /// Puts the text of a refusal that names no index. It takes no memory.
-    fn refuse(&self, refusal: Refusal, out: &mut Output)
+    /// Puts the text of a refusal that names no index, and says that nothing has changed. It takes no memory.
+    fn refuse(&self, refusal: Refusal, out: &mut Output) -> bool
         requires { NamesNoIndex refusal }
-        ensures { out.new ≡ reply_text self.now.database.catalog (refused 0 refusal) }
+        ensures text { out.new ≡ reply_text self.now.database.catalog (refused 0 refusal) }
+        ensures none { result ≡ false }
     {
         out.put(
             self.alloc,
@@ -214,7 +219,15 @@ impl<D: Sessions + Drop> Executor<D> {
             self.database.catalog(),
             &self.labels,
         );
+        false
     }
+}
+
+/// Whether a command over sessions waits while another connection holds some: any but the one that asks the revision.
+fn keeps_out(command: SessionCommand) -> bool
+    ensures { result ≡ spec_keeps_out (Request.Session command) }
+{
+    !matches!(command, SessionCommand::Revision)
 }
 
 /// Undoes the newest sessions, this many. It takes no memory.

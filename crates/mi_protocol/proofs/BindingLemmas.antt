@@ -37,7 +37,7 @@ use Rattle.mi_protocol.specs.Keys.{plain_values, if_key, bound_key, bound_lower,
 use Rattle.mi_catalog.specs.Kinds.{has_keys, is_sequenced, is_sorted, is_ranked, is_hashed}
 use Rattle.mi_protocol.specs.Values.{short_text, fitting, values_of, bound_row}
 use Rattle.mi_protocol.specs.Binding.{and_then, table_number, of_kind, index_number, bound_place, named_key, bound_ends, bound_change, bound_look_up}
-use Rattle.mi_protocol.specs.Binding.{bound_over, bound_command, FitsChange, FitsTableLookUp, FitsCatalog}
+use Rattle.mi_protocol.specs.Binding.{of_table, bound_over, bound_command, FitsChange, FitsTableLookUp, FitsCatalog}
 use Rattle.mi_request.specs.declared.request.ChangeRequest.{ChangeRequest}
 use Rattle.mi_request.specs.declared.request.ChangeRequest.TheVariants as change_request
 use Rattle.mi_request.specs.declared.request.End.{End}
@@ -384,14 +384,14 @@ bound-fits c (request.LookUp table r) h =
 bound-fits c (request.Session s) h = tt
 
 -- the answer of the code
-pub answer-fits : (c : CatalogShape) (request : Request) (r : Result Command Refusal)
-    → is_catalog c ≡ true → IsAnswer r (bound_command c request) → IfOk r (FitsCatalog c)
-answer-fits c request (Ok command) h is = subst (λ d. Holds d (FitsCatalog c)) is (bound-fits c request h)
-answer-fits c request (Err e) h is = tt
+pub bound-fits-catalog : {A : Type 0} (make : ℕ → A → Command) (c : CatalogShape) (request : Request) (r : Result (ℕ × A) Refusal)
+    → is_catalog c ≡ true → IsAnswer (of_table make r) (bound_command c request) → IfOk r (λ v. FitsCatalog c (make v.0 v.1))
+bound-fits-catalog make c request (Ok v) h is = subst (λ d. Holds d (FitsCatalog c)) is (bound-fits c request h)
+bound-fits-catalog make c request (Err e) h is = tt
 
 -- its refusal
-pub refusal-plain : (c : CatalogShape) (request : Request) (r : Result Command Refusal)
-    → is_catalog c ≡ true → IsAnswer r (bound_command c request) → IfErr r NamesNoIndex
-refusal-plain c request (Ok command) h is = tt
-refusal-plain c request (Err Memory) h is = tt
-refusal-plain c request (Err e) h is = subst (λ d. Holds d (FitsCatalog c)) is (bound-fits c request h)
+pub bound-plain : {A : Type 0} (make : ℕ → A → Command) (c : CatalogShape) (request : Request) (r : Result (ℕ × A) Refusal)
+    → is_catalog c ≡ true → IsAnswer (of_table make r) (bound_command c request) → IfErr r NamesNoIndex
+bound-plain make c request (Ok v) h is = tt
+bound-plain make c request (Err Memory) h is = tt
+bound-plain make c request (Err e) h is = subst (λ d. Holds d (FitsCatalog c)) is (bound-fits c request h)

@@ -101,6 +101,10 @@ bound_look_up s (look_up_request.LowerRank index key) = and_then (λ k. Ok (look
 bound_look_up s (look_up_request.UpperRank index key) = and_then (λ k. Ok (look_up.UpperRank k.0 k.1)) (ranked_key s index key)
 bound_look_up s look_up_request.Size = Ok look_up.Size
 
+-- a change or a look-up of the table of a number
+abbrev pub of_table : {A : Type 0} → (ℕ → A → Command) → Result (ℕ × A) Refusal → Result Command Refusal
+of_table make r = and_then (λ v. Ok (make v.0 v.1)) r
+
 -- what is made of the table that is named and of what is bound over its schema
 abbrev pub bound_over : {A : Type 0} → (ℕ → A → Command) → (Shape → Result A Refusal) → CatalogShape → Option (List ℕ) → Result Command Refusal
 bound_over make bound c table = and_then (λ n. and_then (λ x. Ok (make n x)) (bound (schema_at c n))) (table_number c table)

@@ -3,13 +3,15 @@ ghost use Rattle.std.specs.Prelude.{◌≡◌, ◌≢◌, true, Ok, Err, IfOk, I
 ghost use Rattle.mi_catalog.specs.Shape.{schema_at};
 ghost use Rattle.mi_request.specs.Answers.{IsAnswer, NamesNoIndex};
 ghost use Rattle.mi_protocol.specs.Binding as binding;
-ghost use Rattle.mi_protocol.specs.Binding.{bound_command, binds_without, FitsCatalog};
+ghost use Rattle.mi_protocol.specs.Binding.{bound_command, binds_without, look_up_binds_without, of_table, FitsCatalog};
+ghost use Rattle.mi_request.specs.declared.request.Request.TheVariants as request;
+ghost use Rattle.mi_protocol.specs.declared.command.Command.TheVariants as command;
 
-use crate::changes::bind_change;
-use crate::command::Command;
-use crate::look_ups::bind_look_up;
+use crate::changes::change_over;
+use crate::command::{Change, Command, LookUp};
+use crate::look_ups::look_up_over;
 use mi_catalog::{Catalog, Schema};
-use mi_request::{Name, Request};
+use mi_request::{ChangeRequest, LookUpRequest, Name, Request};
 use mi_value::Refusal;
 use std::alloc::Global;
 
@@ -37,24 +39,66 @@ fn named_table<'a>(
     Ok((number, catalog.table(number)))
 }
 
-/// The command that a request is.
-fn command_of(alloc: Global, request: Request, catalog: &Catalog) -> Result<Command, Refusal>
-    ensures answer { IsAnswer result (bound_command catalog.now request.entry) }
-    ensures memory { binds_without request.entry ≡ true → result ≢ Err Refusal.Memory }
+/// The number of the table that is named, and the change.
+fn named_change(
+    alloc: Global,
+    table: Option<Name>,
+    change: ChangeRequest,
+    catalog: &Catalog,
+) -> Result<(usize, Change), Refusal>
+    ensures { IsAnswer (of_table command.Change result) (bound_command catalog.now (request.Change table.entry change.entry)) }
 {
-    match request {
-        Request::Change { table, change } => {
-            let (table, schema) = named_table(table, catalog)?;
-            let change = bind_change(alloc, change, schema)?;
-            Ok(Command::Change { table, change })
-        }
-        Request::LookUp { table, look_up } => {
-            let (table, schema) = named_table(table, catalog)?;
-            let look_up = bind_look_up(alloc, look_up, schema)?;
-            Ok(Command::LookUp { table, look_up })
-        }
-        Request::Session(command) => Ok(Command::Session(command)),
-    }
+    let (number, schema) = named_table(table, catalog)?;
+    let change = change_over(alloc, change, schema)?;
+    Ok((number, change))
+}
+
+/// The change that is asked over this catalog, and the number of its table. Refusals, in this order: `NoTable`, `Index`, `Kind`, `Row`,
+/// `Key`, and `Memory`. What is answered fits the catalog.
+pub fn bind_change(
+    alloc: Global,
+    table: Option<Name>,
+    change: ChangeRequest,
+    catalog: &Catalog,
+) -> Result<(usize, Change), Refusal>
+    ensures answer { IsAnswer (of_table command.Change result) (bound_command catalog.now (request.Change table.entry change.entry)) }
+    ensures refusal { IfErr result NamesNoIndex }
+    ensures fits { IfOk result (λ c. FitsCatalog catalog.now (command.Change c.0 c.1)) }
+{
+    catalog.keeps_rules();
+    named_change(alloc, table, change, catalog)
+}
+
+/// The number of the table that is named, and the look-up.
+fn named_look_up(
+    alloc: Global,
+    table: Option<Name>,
+    look_up: LookUpRequest,
+    catalog: &Catalog,
+) -> Result<(usize, LookUp), Refusal>
+    ensures answer { IsAnswer (of_table command.LookUp result) (bound_command catalog.now (request.LookUp table.entry look_up.entry)) }
+    ensures memory { look_up_binds_without look_up.entry ≡ true → result ≢ Err Refusal.Memory }
+{
+    let (number, schema) = named_table(table, catalog)?;
+    let look_up = look_up_over(alloc, look_up, schema)?;
+    Ok((number, look_up))
+}
+
+/// The look-up that is asked over this catalog, and the number of its table. Refusals, in this order: `NoTable`, `Index`, `Kind`, `Key`, and
+/// `Memory`. What is answered fits the catalog. A rank and a size take no memory.
+pub fn bind_look_up(
+    alloc: Global,
+    table: Option<Name>,
+    look_up: LookUpRequest,
+    catalog: &Catalog,
+) -> Result<(usize, LookUp), Refusal>
+    ensures answer { IsAnswer (of_table command.LookUp result) (bound_command catalog.now (request.LookUp table.entry look_up.entry)) }
+    ensures refusal { IfErr result NamesNoIndex }
+    ensures fits { IfOk result (λ c. FitsCatalog catalog.now (command.LookUp c.0 c.1)) }
+    ensures memory { look_up_binds_without look_up.entry ≡ true → result ≢ Err Refusal.Memory }
+{
+    catalog.keeps_rules();
+    named_look_up(alloc, table, look_up, catalog)
 }
 
 /// The command that a request is over this catalog. Refusals, in this order: `NoTable`, `Index`, `Kind`, `Row`, `Key`, and
@@ -65,6 +109,15 @@ pub fn bind(alloc: Global, request: Request, catalog: &Catalog) -> Result<Comman
     ensures fits { IfOk result (λ command. FitsCatalog catalog.now command) }
     ensures memory { binds_without request.entry ≡ true → result ≢ Err Refusal.Memory }
 {
-    catalog.keeps_rules();
-    command_of(alloc, request, catalog)
+    match request {
+        Request::Change { table, change } => {
+            let (table, change) = bind_change(alloc, table, change, catalog)?;
+            Ok(Command::Change { table, change })
+        }
+        Request::LookUp { table, look_up } => {
+            let (table, look_up) = bind_look_up(alloc, table, look_up, catalog)?;
+            Ok(Command::LookUp { table, look_up })
+        }
+        Request::Session(command) => Ok(Command::Session(command)),
+    }
 }

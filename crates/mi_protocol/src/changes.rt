@@ -27,7 +27,7 @@ fn bind_insert(
 }
 
 /// The change that is asked of a table of this schema. Refusals, in this order: `Index`, `Kind`, `Row`, `Key`, and `Memory`.
-pub(crate) fn bind_change(
+pub(crate) fn change_over(
     alloc: Global,
     change: ChangeRequest,
     schema: &Schema,

@@ -17,7 +17,7 @@ mod reply;
 mod row;
 mod text;
 
-pub use binding::bind;
+pub use binding::{bind, bind_change, bind_look_up};
 pub use command::{Change, Command, LookUp};
 pub use edits::Edits;
 pub use labels::ReplyLabels;

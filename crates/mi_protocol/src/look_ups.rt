@@ -13,7 +13,7 @@ use std::alloc::Global;
 
 /// The look-up that is asked of a table of this schema. Refusals, in this order: `Index`, `Kind`, `Key`, and `Memory`; a rank and a size take
 /// no memory.
-pub(crate) fn bind_look_up(
+pub(crate) fn look_up_over(
     alloc: Global,
     look_up: LookUpRequest,
     schema: &Schema,

@@ -98,7 +98,9 @@ impl LineReader {
 
     /// The request that a line, without its newline, is. Its names and values are borrowed from the line and from this reader.
     /// Refusals: `Json` where the bytes are not UTF-8 or no JSON, `Form` where the value is no command, and `Memory`. A line whose members
-    /// are names and whole numbers, written as `short_line` says, takes no memory: so `{"cmd":"undo"}`, byte for byte.
+    /// are names and whole numbers, written as `short_line` says, takes no memory: so `{"cmd":"undo"}`, byte for byte. In line its caller has
+    /// the request where it is read.
+    #[inline(always)]
     pub fn parse<'a>(&'a mut self, line: &'a [u8]) -> Result<Request<'a>, Refusal>
         ensures answer { IsAnswer result (command_line line.now) }
         ensures refusal { IfErr result NamesNoIndex }
