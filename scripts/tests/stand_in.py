@@ -31,7 +31,7 @@ PLANT = os.environ.get("PLANT", "")
 BOUND = 65_536
 MOST = 64
 UNDO = b'{"cmd":"undo"}\n'
-ROOM, PIECE, KEPT_ROOM = 1 << 20, 16_384, 65_536
+ROOM, PIECE, ASKED_ROOM = 1 << 20, 16_384, LONGEST_LINE + 1 + 65_536
 NO_ROOM = b'{"error":"journal","ok":false}\n'
 MEMORY = b'{"error":"memory","ok":false}\n'
 DONE = b'{"ok":true}\n'
@@ -247,7 +247,7 @@ class Service:
                 stop(1, "it died")
             lacks = PLANT == "lacks" and self.asked % 20 == 0
             own = text.startswith(b'{"service":"')
-            lacks_room = not own and not self.journal.has_room(len(text) + 1 + KEPT_ROOM) and waits_for_room(text, len(self.reference.old))
+            lacks_room = not own and not self.journal.has_room(ASKED_ROOM) and waits_for_room(text, len(self.reference.old))
             is_done = not lacks_room or PLANT in ("taken", "unkept")
             reply = MEMORY if lacks else self.told(text) if own else self.reference.answer_ended(client.number, text) if is_done else NO_ROOM
             keep = not own and is_kept(text, reply) and holder in (None, client.number) and not (lacks_room and PLANT == "unkept")

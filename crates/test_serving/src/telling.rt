@@ -159,12 +159,15 @@ fn lines_keep_their_turns(rt: HostRuntime) -> Result<(), Fail> {
     Ok(())
 }
 
-/// Behind a start there is room for four bytes more than for undoing all sessions: a change waits, look-ups and the undo don't.
+/// Bytes of room that a change asks for: the longest line, its newline, and 64 bytes for each of 1,024 sessions.
+const ASKED_ROOM: usize = 65_536 + 1 + 65_536;
+
+/// Behind a start there is a byte of room less than a change asks for: each waits, look-ups and the undo don't.
 #[test]
 fn a_full_journal_turns_changes_away(rt: HostRuntime) -> Result<(), Fail> {
     let out = replied_in(
         rt.alloc(),
-        65_536 + 20,
+        ASKED_ROOM + 15,
         b"",
         b"{\"cmd\":\"start\"}\n{\"cmd\":\"insert\",\"row\":{\"owner\":\"ann\",\"balance\":50,\"vip\":false}}\n{\"cmd\":\"size\"}\n\
 {\"cmd\":\"undo\"}\n{\"cmd\":\"start\"}\n{\"cmd\":\"revision\"}\n",
@@ -172,6 +175,24 @@ fn a_full_journal_turns_changes_away(rt: HostRuntime) -> Result<(), Fail> {
     let want =
         b"{\"ok\":true,\"revision\":1}\n{\"error\":\"journal\",\"ok\":false}\n{\"ok\":true,\"size\":0}\n{\"ok\":true,\"revision\":0}\n\
 {\"error\":\"journal\",\"ok\":false}\n{\"depth\":0,\"held\":0,\"ok\":true,\"revision\":0}\n";
+    assert!(rt; out.as_slice() == want.as_slice());
+    Ok(())
+}
+
+/// A journal that was full for a change is full behind a look-up too, whose line is shorter.
+#[test]
+fn a_look_up_leaves_a_journal_full(rt: HostRuntime) -> Result<(), Fail> {
+    let out = replied_in(
+        rt.alloc(),
+        ASKED_ROOM + 15,
+        b"",
+        b"{\"cmd\":\"start\"}\n{\"cmd\":\"insert\",\"row\":{\"owner\":\"ann\",\"balance\":50,\"vip\":false}}\n{\"cmd\":\"size\"}\n\
+{\"service\":\"status\"}\n",
+    )?;
+    let want =
+        b"{\"ok\":true,\"revision\":1}\n{\"error\":\"journal\",\"ok\":false}\n{\"ok\":true,\"size\":0}\n\
+{\"connections\":[{\"holds\":false,\"lines\":0,\"number\":2,\"unsent\":0},{\"holds\":true,\"lines\":3,\"number\":3,\"unsent\":77}],\
+\"depth\":1,\"holder\":3,\"journal\":{\"bytes\":16,\"full\":true},\"ok\":true,\"tables\":[{\"name\":\"accounts\",\"size\":0}],\"uptime\":7,\"version\":\"0.1.0\"}\n";
     assert!(rt; out.as_slice() == want.as_slice());
     Ok(())
 }
