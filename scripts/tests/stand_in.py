@@ -160,7 +160,7 @@ class Client:
     def __init__(self, number, stream):
         self.number, self.stream = number, stream
         self.lines, self.rest, self.held, self.out, self.has_ended, self.is_first = [], b"", b"", b"", False, True
-        self.asked = 0
+        self.asked, self.since = 0, 0
 
     def take(self, more):
         """Bytes that have come, b"" at the end. Behind a foreign first line no more is heard."""
@@ -229,7 +229,8 @@ class Service:
         if asked != b'{"service":"status"}':
             return compact({"error": "form", "ok": False})
         holder = self.reference.holder
-        connections = [{"holds": it.number == holder, "lines": it.asked, "number": it.number, "unsent": len(it.out) + len(it.held)} for it in self.clients.values()]
+        connections = [{"holds": it.number == holder, "lines": it.asked, "number": it.number, "since": it.since if it.number == holder else None,
+                        "unsent": len(it.out) + len(it.held)} for it in self.clients.values()]
         tables = [{"name": it, "size": json.loads(self.reference.answer(0, json.dumps({"cmd": "size", "table": it}).encode()))["size"]} for it in self.tables]
         depth = json.loads(self.reference.answer(0, b'{"cmd":"revision"}'))["depth"]
         return compact({"connections": connections, "depth": depth, "holder": holder, "journal": None, "ok": True, "tables": tables,
@@ -254,6 +255,8 @@ class Service:
             reply = NO_ROOM if lacks_room and PLANT == "taken" else reply
             client.held += reply
             client.asked += 1
+            if self.reference.holder == client.number != holder:
+                client.since = client.asked
             if PLANT == "crossed" and self.asked % 97 == 0:
                 for it in self.clients.values():
                     it.held += reply if it is not client else b""

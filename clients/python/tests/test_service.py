@@ -112,6 +112,10 @@ class Services(unittest.TestCase):
             self.assertEqual([it["number"] for it in told["connections"] if it["holds"]], [told["holder"]])
             self.assertEqual((len(told["connections"]), told["depth"], told["tables"]), (2, 1, [{"name": "accounts", "size": 1}]))
             self.assertEqual({it["unsent"] for it in told["connections"]}, {0})
+            self.assertEqual([it["since"] for it in told["connections"] if it["holds"]], [it["lines"] for it in told["connections"] if it["holds"]])
+            self.assertEqual([it["since"] for it in told["connections"] if not it["holds"]], [None])
+            other.size()
+            self.assertEqual([it["lines"] - it["since"] for it in service_lines.status(db)["connections"] if it["holds"]], [1])
             lines = ['{"cmd":"size"}', service_lines.STATUS_LINE, '{"cmd":"start"}', service_lines.SCHEMA_LINE, '{"service":"fly"}', '{"cmd":"revision"}']
             replies = list(map(json.loads, db.ask_lines(lines)))
             self.assertEqual([it.get("size", it.get("error", it["ok"])) for it in replies], [1, True, "busy", True, "form", True])

@@ -1,5 +1,6 @@
 pub mod StepLemmas
 pub mod RowLemmas
+mod SinceLemmas
 pub mod ServedLemmas
 pub mod StreamLemmas
 pub mod TellLemmas

@@ -139,9 +139,26 @@ fn the_status_of_two(rt: HostRuntime) -> Result<(), Fail> {
         b"{\"service\":\"status\"}\n",
     )?;
     let want =
-        b"{\"connections\":[{\"holds\":true,\"lines\":1,\"number\":2,\"unsent\":25},{\"holds\":false,\"lines\":0,\"number\":3,\"unsent\":0}],\
+        b"{\"connections\":[{\"holds\":true,\"lines\":1,\"number\":2,\"since\":1,\"unsent\":25},{\"holds\":false,\"lines\":0,\"number\":3,\"since\":null,\"unsent\":0}],\
 \"depth\":1,\"holder\":2,\"journal\":{\"bytes\":16,\"full\":false},\"ok\":true,\"tables\":[{\"name\":\"accounts\",\"size\":0}],\"uptime\":7,\"version\":\"0.1.0\"}\n";
     assert!(rt; out.as_slice() == want.as_slice());
+    Ok(())
+}
+
+/// A connection that holds a session, undoes it, and starts two: it holds since the line that started the first of these.
+#[test]
+fn a_holder_is_told_with_its_line(rt: HostRuntime) -> Result<(), Fail> {
+    let out = replied(
+        rt.alloc(),
+        b"",
+        b"{\"cmd\":\"size\"}\n{\"cmd\":\"start\"}\n{\"cmd\":\"undo\"}\n{\"cmd\":\"size\"}\n{\"cmd\":\"start\"}\n{\"cmd\":\"start\"}\n\
+{\"service\":\"status\"}\n",
+    )?;
+    let want =
+        b"{\"connections\":[{\"holds\":false,\"lines\":0,\"number\":2,\"since\":null,\"unsent\":0},\
+{\"holds\":true,\"lines\":6,\"number\":3,\"since\":5,\"unsent\":142}],\
+\"depth\":2,\"holder\":3,\"journal\":{\"bytes\":63,\"full\":false},\"ok\":true,\"tables\":[{\"name\":\"accounts\",\"size\":0}],\"uptime\":7,\"version\":\"0.1.0\"}\n";
+    assert!(rt; out.ends_with(want));
     Ok(())
 }
 
@@ -191,7 +208,7 @@ fn a_look_up_leaves_a_journal_full(rt: HostRuntime) -> Result<(), Fail> {
     )?;
     let want =
         b"{\"ok\":true,\"revision\":1}\n{\"error\":\"journal\",\"ok\":false}\n{\"ok\":true,\"size\":0}\n\
-{\"connections\":[{\"holds\":false,\"lines\":0,\"number\":2,\"unsent\":0},{\"holds\":true,\"lines\":3,\"number\":3,\"unsent\":77}],\
+{\"connections\":[{\"holds\":false,\"lines\":0,\"number\":2,\"since\":null,\"unsent\":0},{\"holds\":true,\"lines\":3,\"number\":3,\"since\":1,\"unsent\":77}],\
 \"depth\":1,\"holder\":3,\"journal\":{\"bytes\":16,\"full\":true},\"ok\":true,\"tables\":[{\"name\":\"accounts\",\"size\":0}],\"uptime\":7,\"version\":\"0.1.0\"}\n";
     assert!(rt; out.as_slice() == want.as_slice());
     Ok(())
