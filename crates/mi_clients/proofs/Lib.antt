@@ -4,6 +4,7 @@ mod SinceLemmas
 pub mod ServedLemmas
 pub mod StreamLemmas
 pub mod TellLemmas
+mod BesideLemmas
 mod SilenceLemmas
 mod InputLemmas
 mod HeardLemmas

@@ -255,7 +255,7 @@ tells_one_asked conn line text = ap (λ b. cond b line [] ++ []) (same_test conn
 -- ---- one connection
 
 -- what it has asked to end is that of the line, which has a byte
-ended_some : (before : Option ℕ) (line : List ℕ) → ¬ (line ≡ []) → ended_in line ≡ ends_after before line
+pub ended_some : (before : Option ℕ) (line : List ℕ) → ¬ (line ≡ []) → ended_in line ≡ ends_after before line
 ended_some before [] some = absurd (some refl)
 ended_some before (b ∷ bs) some = refl
 

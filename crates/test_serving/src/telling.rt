@@ -5,7 +5,7 @@ ghost use Rattle.mi_ledger.specs.Ledger.{hub_of, log_of, IsSettled};
 ghost use Rattle.mi_clients.specs.Row.{ids, Attends};
 
 use crate::tests::hub;
-use mi_clients::{Client, Duplex, SchemaLine, admit, end_asked, serve_all};
+use mi_clients::{Beside, Client, Duplex, SchemaLine, admit, end_asked, end_beside, serve_all};
 use mi_ledger::Ledger;
 use mi_log::{DeviceLog, Log, MemoryDevice};
 use mi_plain::Plain;
@@ -233,5 +233,50 @@ fn a_holder_is_ended(rt: HostRuntime) -> Result<(), Fail> {
     let refused =
         b"{\"ok\":true}\n{\"ok\":true,\"schema\":\"a \\\"t\\\"\\n\"}\n{\"error\":\"busy\",\"ok\":false}\n";
     assert!(rt; kept.as_slice() == refused.as_slice());
+    Ok(())
+}
+
+/// A connection beside connection 2 is served four times, and what it has asked to end is ended. Whether connection 2 is gone then, nobody holds
+/// sessions, and the other one is there.
+fn serve_beside<'a>(alloc: Global, first: Pipe<'a>, other: Pipe<'a>) -> Result<bool, Fail> {
+    let log = DeviceLog::new(MemoryDevice::new(alloc, 100, 100));
+    let mut ledger = Ledger::<Plain, DeviceLog<MemoryDevice>>::new(hub(alloc)?, log);
+    let mut row = Vec::new(alloc);
+    come(alloc, &mut ledger, &mut row, 2, first)?;
+    turn(alloc, &mut ledger, &mut row)?;
+    let schema = SchemaLine::of(alloc, "a \"t\"\n")?;
+    let mut buffer = [0u8; 4096];
+    let mut beside = Beside::new();
+    beside.seat(alloc, 3, other);
+    for _line in 0..4u64 {
+        beside.serve(alloc, &ledger, row.as_slice(), &mut buffer, &schema, 7);
+    }
+    end_beside(&mut beside, &mut row);
+    turn(alloc, &mut ledger, &mut row)?;
+    Ok(row.is_empty() && ledger.hub().holder().is_none() && !beside.is_free())
+}
+
+/// Beside the others a line of the tables is refused and changes nothing, a status is told, and a holder is ended.
+#[test]
+fn one_is_served_beside_the_others(rt: HostRuntime) -> Result<(), Fail> {
+    let alloc = rt.alloc();
+    let (unheard, out) = (Cell::new(Vec::new(alloc)), Cell::new(Vec::new(alloc)));
+    let first = Pipe {
+        alloc,
+        bytes: b"{\"cmd\":\"start\"}\n",
+        out: &unheard,
+    };
+    let other = Pipe {
+        alloc,
+        bytes: b"{\"cmd\":\"undo\"}\n{\"service\":\"status\"}\n{\"service\":\"end\",\"connection\":2}\n",
+        out: &out,
+    };
+    assert!(rt; serve_beside(alloc, first, other)?);
+    let want =
+        b"{\"error\":\"places\",\"ok\":false}\n{\"connections\":[{\"holds\":true,\"lines\":1,\"number\":2,\"since\":1,\"unsent\":0}],\
+\"depth\":1,\"holder\":2,\"journal\":{\"bytes\":16,\"full\":false},\"ok\":true,\"tables\":[{\"name\":\"accounts\",\"size\":0}],\"uptime\":7,\"version\":\"0.1.0\"}\n\
+{\"ok\":true}\n";
+    let out = out.replace(Vec::new(alloc));
+    assert!(rt; out.as_slice() == want.as_slice());
     Ok(())
 }
