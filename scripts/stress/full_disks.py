@@ -12,8 +12,8 @@ from stress.journal_walk import Differs
 
 LOOKING = 2_000
 """Bytes that the lines for looking need at most."""
-KEPT_ROOM = 65_536
-"""Bytes of room that a service keeps for undoing, in front of which it refuses changes."""
+ASKED_ROOM = 65_536 + 1 + 65_536
+"""Bytes of room without which a service refuses changes: the longest line, its newline, and what is kept for undoing."""
 
 
 class Limit:
@@ -93,7 +93,7 @@ def room_of(path):
 
 def takes_looking(disk, journal):
     """A disk has room so that the tables can be looked at. (Undoing takes of what is kept for it.)"""
-    lacks = LOOKING + KEPT_ROOM - room_of(journal)
+    lacks = LOOKING + ASKED_ROOM - room_of(journal)
     if lacks > 0:
         disk.takes(lacks, at_once=True)
 

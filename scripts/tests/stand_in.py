@@ -31,7 +31,7 @@ PLANT = os.environ.get("PLANT", "")
 BOUND = 65_536
 MOST = 64
 UNDO = b'{"cmd":"undo"}\n'
-ROOM, PIECE, KEPT_ROOM = 1 << 20, 16_384, 65_536
+ROOM, PIECE, ASKED_ROOM = 1 << 20, 16_384, LONGEST_LINE + 1 + 65_536
 NO_ROOM = b'{"error":"journal","ok":false}\n'
 MEMORY = b'{"error":"memory","ok":false}\n'
 DONE = b'{"ok":true}\n'
@@ -160,7 +160,7 @@ class Client:
     def __init__(self, number, stream):
         self.number, self.stream = number, stream
         self.lines, self.rest, self.held, self.out, self.has_ended, self.is_first = [], b"", b"", b"", False, True
-        self.asked = 0
+        self.asked, self.since = 0, 0
 
     def take(self, more):
         """Bytes that have come, b"" at the end. Behind a foreign first line no more is heard."""
@@ -229,7 +229,8 @@ class Service:
         if asked != b'{"service":"status"}':
             return compact({"error": "form", "ok": False})
         holder = self.reference.holder
-        connections = [{"holds": it.number == holder, "lines": it.asked, "number": it.number, "unsent": len(it.out) + len(it.held)} for it in self.clients.values()]
+        connections = [{"holds": it.number == holder, "lines": it.asked, "number": it.number, "since": it.since if it.number == holder else None,
+                        "unsent": len(it.out) + len(it.held)} for it in self.clients.values()]
         tables = [{"name": it, "size": json.loads(self.reference.answer(0, json.dumps({"cmd": "size", "table": it}).encode()))["size"]} for it in self.tables]
         depth = json.loads(self.reference.answer(0, b'{"cmd":"revision"}'))["depth"]
         return compact({"connections": connections, "depth": depth, "holder": holder, "journal": None, "ok": True, "tables": tables,
@@ -247,13 +248,15 @@ class Service:
                 stop(1, "it died")
             lacks = PLANT == "lacks" and self.asked % 20 == 0
             own = text.startswith(b'{"service":"')
-            lacks_room = not own and not self.journal.has_room(len(text) + 1 + KEPT_ROOM) and waits_for_room(text, len(self.reference.old))
+            lacks_room = not own and not self.journal.has_room(ASKED_ROOM) and waits_for_room(text, len(self.reference.old))
             is_done = not lacks_room or PLANT in ("taken", "unkept")
             reply = MEMORY if lacks else self.told(text) if own else self.reference.answer_ended(client.number, text) if is_done else NO_ROOM
             keep = not own and is_kept(text, reply) and holder in (None, client.number) and not (lacks_room and PLANT == "unkept")
             reply = NO_ROOM if lacks_room and PLANT == "taken" else reply
             client.held += reply
             client.asked += 1
+            if self.reference.holder == client.number != holder:
+                client.since = client.asked
             if PLANT == "crossed" and self.asked % 97 == 0:
                 for it in self.clients.values():
                     it.held += reply if it is not client else b""

@@ -54,6 +54,8 @@ class Sample(NamedTuple):
     """How many lines each of a service's connections has asked, by its number, where it tells."""
     uptime: Optional[int] = None
     """Since how many seconds a service is there."""
+    held_for: Optional[int] = None
+    """How many lines who holds sessions has asked behind the one with which that began, where a service tells."""
 
 
 class Watcher:
@@ -84,7 +86,7 @@ class Watcher:
         unsent = sum(it["unsent"] for it in connections)
         journal = told.get("journal") or {}
         return Sample(time.monotonic(), sizes, now.revision, now.depth, holder, self.turns, usage, len(connections), unsent,
-                      journal.get("bytes"), journal.get("full"), lines_of(told), told.get("uptime"))
+                      journal.get("bytes"), journal.get("full"), lines_of(told), told.get("uptime"), held_for(told))
 
     def sizes(self) -> List[Tuple[str, int]]:
         names = [it.name for it in self.db.schema.tables] if self.db.schema else ["(first)"]
@@ -129,6 +131,11 @@ def lines_of(told: Dict[str, Any]) -> Optional[Dict[int, int]]:
     return None if None in found.values() else found
 
 
+def held_for(told: Dict[str, Any]) -> Optional[int]:
+    """How many lines who holds sessions has asked behind the one with which that began. A former service doesn't tell."""
+    return next((it["lines"] - it["since"] for it in told["connections"] if it.get("since") is not None), None)
+
+
 def asking(now: Sample, before: Sample) -> List[str]:
     """What top shows of the lines that a service's connections ask, without those that were asked by one that has gone."""
     if now.lines is None or before.lines is None:
@@ -159,7 +166,7 @@ def screen(now: Sample, before: Sample) -> str:
         f"memory    {amount(now.usage.memory)}" + (f" ({amount(per_row)} a row)" if per_row else ""),
         f"read      {moved}   processor {'not told' if busy is None else f'{busy:.0%}'}",
         f"turns     {amount(rate(now.turns, before.turns, took), '')}/s",
-        f"sessions  {now.depth} open, revision {now.revision}; held by {now.holder}",
+        f"sessions  {now.depth} open, revision {now.revision}; held by {now.holder}" + ("" if now.held_for is None else f", for {now.held_for} lines"),
         *([] if now.connections is None else [f"clients   {now.connections} connections, {amount(now.unsent)} unsent"]),
         *asking(now, before),
         *([] if now.journal is None else [f"journal   {amount(now.journal)}{FULL if now.is_full else ''}"]),
@@ -182,6 +189,7 @@ def prometheus(it: Sample) -> str:
     add("revision", "gauge", "The revision.", ("", it.revision))
     add("open_sessions", "gauge", "Open sessions.", ("", it.depth))
     add("held_by_another", "gauge", "1 where another connection holds sessions.", ("", int(it.holder == "another connection")))
+    add("holder_lines", "gauge", "Lines that who holds sessions has asked since that began.", ("", it.held_for))
     add("connections", "gauge", "Connections of the service.", ("", it.connections))
     add("unsent_bytes", "gauge", "Bytes of replies that connections haven't taken.", ("", it.unsent))
     add("uptime_seconds", "gauge", "Seconds since the service's start.", ("", it.uptime))
@@ -274,10 +282,15 @@ def main_metrics(words: Optional[List[str]] = None) -> int:
     return watch(options, shown)
 
 
+def holding(it: Dict[str, Any]) -> str:
+    """Whether a connection of a status holds sessions, and since which of its lines. A former service doesn't tell the line."""
+    return "" if not it["holds"] else "yes" if it.get("since") is None else f"since line {it['since']}"
+
+
 def shown_status(told: Dict[str, Any]) -> str:
     """A status as people read it."""
     connections = [
-        {"connection": it["number"], "holds sessions": "yes" if it["holds"] else "", "lines": it.get("lines", ""), "unsent": it["unsent"]}
+        {"connection": it["number"], "holds sessions": holding(it), "lines": it.get("lines", ""), "unsent": it["unsent"]}
         for it in told["connections"]
     ]
     since = f", up {up(told['uptime'])}" if "uptime" in told else ""

@@ -83,7 +83,7 @@ released_some conn (Some h) some = without_some h (nat_eq h.conn conn) some
 
 step_some : (step : Step) (acts : List Act) (old new : HubState) → StepDone old step acts new → HoldsSome old.held.holder → HoldsSome new.held.holder
 step_some (comes conn) acts old new done some = subst (λ (s : HubState). HoldsSome s.held.holder) (sym done.0.3) some
-step_some (asks conn line reply) acts old new done some =
+step_some (asks conn line reply began) acts old new done some =
     turns_some conn _ done.0.0.2.replies old.held new.held done.0.0.2.in_turn some
 step_some (denies conn line reply) acts old new done some = subst (λ (s : HubState). HoldsSome s.held.holder) (sym done.1) some
 step_some (tells conn line told) acts old new done some = subst (λ (s : HubState). HoldsSome s.held.holder) (sym done.1) some

@@ -1,8 +1,10 @@
 pub mod StepLemmas
 pub mod RowLemmas
+mod SinceLemmas
 pub mod ServedLemmas
 pub mod StreamLemmas
 pub mod TellLemmas
+mod BesideLemmas
 mod SilenceLemmas
 mod InputLemmas
 mod HeardLemmas

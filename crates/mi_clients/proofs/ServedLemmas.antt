@@ -7,7 +7,7 @@ use Rattle.std.specs.Prelude.{slice_set, slice_index_or, OnOk, IfOk, IfSome}
 use Rattle.std.specs.List.{remove, All, AllZip, Contains}
 use Rattle.std.specs.Io.KnownBytes.{Appends, Consumes, Keeps, IsAtEnd}
 use Rattle.std.proofs.KnownBytes.{Appends-nil, Appends-trans, Consumes-kept, Keeps-refl, Keeps-trans}
-use Rattle.mi_clients.specs.Client.{owed, Owes, IsServed, HasRoom, IsAsked, IsHeard, AsksAll, AsksWithin, Hears, AsksWhatCame, IsAsFar, HasSent, IsSent, IsOver, IsWhole, GoesOn, IsWoken}
+use Rattle.mi_clients.specs.Client.{owed, Owes, IsServed, HasRoom, IsAsked, IsHeard, AsksAll, AsksWithin, Hears, AsksWhatCame, KnowsSince, IsAsFar, HasSent, IsSent, IsOver, IsWhole, GoesOn, IsWoken}
 use Rattle.mi_clients.specs.Input.{waiting, count_on}
 use Rattle.mi_clients.specs.declared.client.TheConstants.{MOST_UNSENT}
 use Rattle.mi_hub.specs.Ended.{ended}
@@ -23,6 +23,7 @@ use Rattle.mi_clients.specs.declared.input.Input.{Input}
 use Rattle.mi_clients.specs.declared.client.Phase.{Phase}
 use Rattle.mi_clients.specs.declared.client.Phase.TheVariants.{Open, Ended, Asked, Broken}
 use Rattle.mi_clients.proofs.InputLemmas.{unended_back}
+use Rattle.mi_clients.proofs.SinceLemmas.{knows_front, knows_behind}
 use Rattle.mi_clients.proofs.StepLemmas.{none_more}
 use Rattle.mi_clients.proofs.RowLemmas.{same_test, turned, none_at, front_none, back_none}
 
@@ -64,7 +65,7 @@ only_join conn xs ys p q = λ k other. given_front k xs ys q ∙ p k other
 pub asks_given : (conn : ℕ) (steps : List Step) (taken given : List ℕ) → AreAsks conn steps taken given → given_to conn steps ≡ given
 asks_given conn [] taken given p = sym p.1
 asks_given conn (comes k ∷ steps) taken given p = absurd p
-asks_given conn (asks k line reply ∷ steps) taken given p =
+asks_given conn (asks k line reply began ∷ steps) taken given p =
     ap (λ n. cond (nat_eq n conn) reply [] ++ given_to conn steps) p.0
     ∙ ap (λ b. cond b reply [] ++ given_to conn steps) (same_test conn)
     ∙ ap (λ t. reply ++ t) (asks_given conn steps p.1 p.2 p.3) ∙ sym p.5
@@ -79,7 +80,7 @@ asks_given conn (goes k ∷ steps) taken given p = absurd p
 asks_only : (conn : ℕ) (steps : List Step) (taken given : List ℕ) → AreAsks conn steps taken given → GivesOnly conn steps
 asks_only conn [] taken given p = λ k other. refl
 asks_only conn (comes k ∷ steps) taken given p = absurd p
-asks_only conn (asks j line reply ∷ steps) taken given p = λ k other.
+asks_only conn (asks j line reply began ∷ steps) taken given p = λ k other.
     ap (λ n. cond (nat_eq n k) reply [] ++ given_to k steps) p.0
     ∙ ap (λ b. cond b reply [] ++ given_to k steps) other
     ∙ asks_only conn steps p.1 p.2 p.3 k other
@@ -95,7 +96,7 @@ asks_only conn (goes k ∷ steps) taken given p = absurd p
 pub undos_none : (conn : ℕ) (steps : List Step) → AreUndos conn steps → GivesNone steps
 undos_none conn [] p = λ k. refl
 undos_none conn (comes k ∷ steps) p = absurd p
-undos_none conn (asks k line reply ∷ steps) p = absurd p
+undos_none conn (asks k line reply began ∷ steps) p = absurd p
 undos_none conn (denies k line reply ∷ steps) p = absurd p
 undos_none conn (tells k line text ∷ steps) p = absurd p
 undos_none conn (undoes j reply ∷ steps) p = λ k. undos_none conn steps p.1 k
@@ -118,10 +119,10 @@ asked_join k [] ys = refl
 asked_join k (x ∷ xs) ys =
     ap (λ t. line_by k x ++ t) (asked_join k xs ys) ∙ sym (append_assoc (line_by k x) (asked_by k xs) (asked_by k ys))
 
-asks_taken : (conn : ℕ) (steps : List Step) (taken given : List ℕ) → AreAsks conn steps taken given → asked_by conn steps ≡ taken
+pub asks_taken : (conn : ℕ) (steps : List Step) (taken given : List ℕ) → AreAsks conn steps taken given → asked_by conn steps ≡ taken
 asks_taken conn [] taken given p = sym p.0
 asks_taken conn (comes k ∷ steps) taken given p = absurd p
-asks_taken conn (asks k line reply ∷ steps) taken given p =
+asks_taken conn (asks k line reply began ∷ steps) taken given p =
     ap (λ n. cond (nat_eq n conn) line [] ++ asked_by conn steps) p.0
     ∙ ap (λ b. cond b line [] ++ asked_by conn steps) (same_test conn)
     ∙ ap (λ t. line ++ t) (asks_taken conn steps p.1 p.2 p.3) ∙ sym p.4
@@ -133,10 +134,10 @@ asks_taken conn (tells k line text ∷ steps) taken given p = absurd p
 asks_taken conn (undoes k reply ∷ steps) taken given p = absurd p
 asks_taken conn (goes k ∷ steps) taken given p = absurd p
 
-undos_taken : (conn k : ℕ) (steps : List Step) → AreUndos conn steps → asked_by k steps ≡ []
+pub undos_taken : (conn k : ℕ) (steps : List Step) → AreUndos conn steps → asked_by k steps ≡ []
 undos_taken conn k [] p = refl
 undos_taken conn k (comes j ∷ steps) p = absurd p
-undos_taken conn k (asks j line reply ∷ steps) p = absurd p
+undos_taken conn k (asks j line reply began ∷ steps) p = absurd p
 undos_taken conn k (denies j line reply ∷ steps) p = absurd p
 undos_taken conn k (tells j line text ∷ steps) p = absurd p
 undos_taken conn k (undoes j reply ∷ steps) p = undos_taken conn k steps p.1
@@ -152,7 +153,7 @@ taken_in conn xs ys taken given p q =
 asks_only_lines : (conn : ℕ) (steps : List Step) (taken given : List ℕ) → AreAsks conn steps taken given → AsksOnly conn steps
 asks_only_lines conn [] taken given p = λ k other. refl
 asks_only_lines conn (comes k ∷ steps) taken given p = absurd p
-asks_only_lines conn (asks j line reply ∷ steps) taken given p = λ k other.
+asks_only_lines conn (asks j line reply began ∷ steps) taken given p = λ k other.
     ap (λ n. cond (nat_eq n k) line [] ++ asked_by k steps) p.0
     ∙ ap (λ b. cond b line [] ++ asked_by k steps) other
     ∙ asks_only_lines conn steps p.1 p.2 p.3 k other
@@ -201,7 +202,7 @@ quiet_more conn xs ys (k ∷ ks) p only none = (
 )
 
 -- what holds whether it is asked or not
-whether : (o : Option (List ℕ)) (P : Type 0) → P → IfSome o (λ _. P)
+pub whether : (o : Option (List ℕ)) (P : Type 0) → P → IfSome o (λ _. P)
 whether None P p = tt
 whether (Some x) P p = p
 
@@ -210,7 +211,7 @@ whether (Some x) P p = p
 pub only_then : (k : ℕ) (xs ys : List Step) → OnlyAsks k xs → OnlyAsks k ys → OnlyAsks k (xs ++ ys)
 only_then k [] ys p q = q
 only_then k (comes j ∷ xs) ys p q = (p.0, only_then k xs ys p.1 q)
-only_then k (asks j line reply ∷ xs) ys p q = only_then k xs ys p q
+only_then k (asks j line reply began ∷ xs) ys p q = only_then k xs ys p q
 only_then k (denies j line reply ∷ xs) ys p q = only_then k xs ys p q
 only_then k (tells j line text ∷ xs) ys p q = only_then k xs ys p q
 only_then k (undoes j reply ∷ xs) ys p q = (p.0, only_then k xs ys p.1 q)
@@ -219,7 +220,7 @@ only_then k (goes j ∷ xs) ys p q = (p.0, only_then k xs ys p.1 q)
 only_asks : (conn k : ℕ) (steps : List Step) (taken given : List ℕ) → AreAsks conn steps taken given → OnlyAsks k steps
 only_asks conn k [] taken given p = tt
 only_asks conn k (comes j ∷ steps) taken given p = absurd p
-only_asks conn k (asks j line reply ∷ steps) taken given p = only_asks conn k steps p.1 p.2 p.3
+only_asks conn k (asks j line reply began ∷ steps) taken given p = only_asks conn k steps p.1 p.2 p.3
 only_asks conn k (denies j line reply ∷ steps) taken given p = only_asks conn k steps p.1 p.2 p.3
 only_asks conn k (tells j line text ∷ steps) taken given p = absurd p
 only_asks conn k (undoes j reply ∷ steps) taken given p = absurd p
@@ -228,7 +229,7 @@ only_asks conn k (goes j ∷ steps) taken given p = absurd p
 undos_others : (conn : ℕ) (steps : List Step) → AreUndos conn steps → LeavesOthers conn steps
 undos_others conn [] p = λ k other. tt
 undos_others conn (comes j ∷ steps) p = absurd p
-undos_others conn (asks j line reply ∷ steps) p = absurd p
+undos_others conn (asks j line reply began ∷ steps) p = absurd p
 undos_others conn (denies j line reply ∷ steps) p = absurd p
 undos_others conn (tells j line text ∷ steps) p = absurd p
 undos_others conn (undoes j reply ∷ steps) p = λ k other. (ap (λ n. nat_eq n k) p.0 ∙ other, undos_others conn steps p.1 k other)
@@ -294,13 +295,16 @@ whole_then l m (inl is) q more = inl (more is).0
 whole_then l m (inr none) (inl is) more = inl is
 whole_then l m (inr none) (inr all) more = inr (ap (λ t. t ++ l) all ∙ none)
 
-asked_open : (p : Phase) → p ≡ Asked → p ≡ Open → ⊥
+heads : (x y : Input) (xs ys : List Input) → x ∷ xs ≡ y ∷ ys → x ≡ y
+heads x y xs ys e = cc
+
+pub asked_open : (p : Phase) → p ≡ Asked → p ≡ Open → ⊥
 asked_open p h k = cc
 
-broken_open : (p : Phase) → p ≡ Broken → p ≡ Open → ⊥
+pub broken_open : (p : Phase) → p ≡ Broken → p ≡ Open → ⊥
 broken_open p h k = cc
 
-ended_open : (p : Phase) → p ≡ Ended → p ≡ Open → ⊥
+pub ended_open : (p : Phase) → p ≡ Ended → p ≡ Open → ⊥
 ended_open p h k = cc
 
 module _ {S : Type 0} where
@@ -582,43 +586,70 @@ module _ {S : Type 0} where
 
   -- ---- what came of each
 
+  -- it holds too where others ask in front of these steps, or behind them
+  abbrev pub Front : (List Step → Client S → Client S → Type 0) → Type 0
+  Front Came = (xs ys : List Step) (old new : Client S) → asked_by old.conn xs ≡ [] → Came ys old new → Came (xs ++ ys) old new
+
+  abbrev pub Behind : (List Step → Client S → Client S → Type 0) → Type 0
+  Behind Came = (xs ys : List Step) (old new : Client S) → asked_by old.conn ys ≡ [] → Came xs old new → Came (xs ++ ys) old new
+
+  -- so does what is said of the lines that it asks
+  pub taken_front : (Came : List ℕ → Client S → Client S → Type 0) → Front (λ zs old new. Came (asked_by old.conn zs) old new)
+  taken_front Came = λ xs ys old new none p.
+      subst (λ t. Came t old new) (sym (asked_join old.conn xs ys ∙ ap (λ t. t ++ asked_by old.conn ys) none)) p
+
+  pub taken_behind : (Came : List ℕ → Client S → Client S → Type 0) → Behind (λ zs old new. Came (asked_by old.conn zs) old new)
+  taken_behind Came = λ xs ys old new none p.
+      subst (λ t. Came t old new)
+      (sym (asked_join old.conn xs ys ∙ ap (λ t. asked_by old.conn xs ++ t) none ∙ append-nil (asked_by old.conn xs))) p
+
+  -- what came is asked, and since which line it holds sessions is known
+  abbrev pub CameKnown : (S → Option (List ℕ)) → List Step → Client S → Client S → Type 0
+  CameKnown remaining zs old new = AsksWhatCame remaining (asked_by old.conn zs) old new × KnowsSince zs old new
+
+  pub known_front : (remaining : S → Option (List ℕ)) → Front (λ zs old new. CameKnown remaining zs old new)
+  known_front remaining = λ xs ys old new none p.
+      (taken_front (λ t o y. AsksWhatCame remaining t o y) xs ys old new none p.0, knows_front xs ys old new none p.1)
+
+  pub known_behind : (remaining : S → Option (List ℕ)) → Behind (λ zs old new. CameKnown remaining zs old new)
+  known_behind remaining = λ xs ys old new none p.
+      (taken_behind (λ t o y. AsksWhatCame remaining t o y) xs ys old new none p.0, knows_behind xs ys old new none p.1)
+
   -- of the first so many of a row this holds with what each asks in these steps, and the others are as they were and ask nothing
-  abbrev pub AskedTo : (List ℕ → Client S → Client S → Type 0) → List Step → ℕ → List (Client S) → List (Client S) → Type 0
+  abbrev pub AskedTo : (List Step → Client S → Client S → Type 0) → List Step → ℕ → List (Client S) → List (Client S) → Type 0
   AskedTo Came steps zero olds row = (row ≡ olds) × AllQuiet steps (ids olds)
   AskedTo Came steps (suc i) [] [] = Unit {0}
   AskedTo Came steps (suc i) [] (y ∷ row) = ⊥
   AskedTo Came steps (suc i) (o ∷ olds) [] = ⊥
   AskedTo Came steps (suc i) (o ∷ olds) (y ∷ row) =
-      (y.conn ≡ o.conn) × Came (asked_by o.conn steps) o y × AskedTo Came steps i olds row
+      (y.conn ≡ o.conn) × Came steps o y × AskedTo Came steps i olds row
 
-  pub asked_to_none : (Came : List ℕ → Client S → Client S → Type 0) (row : List (Client S)) → AskedTo Came [] 0 row row
+  pub asked_to_none : (Came : List Step → Client S → Client S → Type 0) (row : List (Client S)) → AskedTo Came [] 0 row row
   asked_to_none Came row = (refl, quiet_none (ids row))
 
-  pub asked_to_set : (Came : List ℕ → Client S → Client S → Type 0) (xs ys : List Step) (olds row : List (Client S)) (i : ℕ) (d x : Client S) → AllDiffer (ids row)
+  pub asked_to_set : (Came : List Step → Client S → Client S → Type 0) → Front Came → Behind Came → (xs ys : List Step) (olds row : List (Client S)) (i : ℕ) (d x : Client S) → AllDiffer (ids row)
       → i < length row → AsksOnly (slice_index_or row i d).conn ys → x.conn ≡ (slice_index_or row i d).conn
-      → Came (asked_by (slice_index_or row i d).conn ys) (slice_index_or row i d) x → AskedTo Came xs i olds row
+      → Came ys (slice_index_or row i d) x → AskedTo Came xs i olds row
       → AskedTo Came (xs ++ ys) (suc i) olds (slice_set row i x)
-  asked_to_set Came xs ys olds [] i d x differ lt only same came p = absurd (omega arith)
-  asked_to_set Came xs ys olds (y ∷ row) zero d x differ lt only same came p =
+  asked_to_set Came front behind xs ys olds [] i d x differ lt only same came p = absurd (omega arith)
+  asked_to_set Came front behind xs ys olds (y ∷ row) zero d x differ lt only same came p =
       let quiet : AllQuiet xs (ids (y ∷ row)) = subst (λ os. AllQuiet xs (ids os)) (sym p.0) p.1 in
       subst (λ os. AskedTo Came (xs ++ ys) 1 os (x ∷ row)) p.0 (
         same,
-        subst (λ t. Came t y x) (sym (asked_join y.conn xs ys ∙ ap (λ t. t ++ asked_by y.conn ys) quiet.0)) came,
+        front xs ys y x quiet.0 came,
         (refl, quiet_more y.conn xs ys (ids row) quiet.1 only differ.0),
       )
-  asked_to_set Came xs ys [] (y ∷ row) (suc i) d x differ lt only same came p = absurd p
-  asked_to_set Came xs ys (o ∷ olds) (y ∷ row) (suc i) d x differ lt only same came p = (
+  asked_to_set Came front behind xs ys [] (y ∷ row) (suc i) d x differ lt only same came p = absurd p
+  asked_to_set Came front behind xs ys (o ∷ olds) (y ∷ row) (suc i) d x differ lt only same came p = (
     p.0,
-    subst (λ t. Came t o y)
-        (sym (asked_join o.conn xs ys ∙ ap (λ t. asked_by o.conn xs ++ t)
-        (only o.conn (subst (λ k. nat_eq (slice_index_or row i d).conn k ≡ false) p.0 (none_at y.conn row i d (omega arith) differ.0)))
-        ∙ append-nil (asked_by o.conn xs))) p.1,
-    asked_to_set Came xs ys olds row i d x differ.1 (omega arith) only same came p.2,
+    behind xs ys o y
+        (only o.conn (subst (λ k. nat_eq (slice_index_or row i d).conn k ≡ false) p.0 (none_at y.conn row i d (omega arith) differ.0))) p.1,
+    asked_to_set Came front behind xs ys olds row i d x differ.1 (omega arith) only same came p.2,
   )
 
-  pub asked_to_all : (Came : List ℕ → Client S → Client S → Type 0) (steps : List Step) (olds row : List (Client S)) (i : ℕ) → AskedTo Came steps i olds row
-      → length row ≤ i → AllZip (λ x y. Came (asked_by x.conn steps) x y) olds row
-  asked_to_all Came steps olds [] zero p le = subst (λ os. AllZip (λ x y. Came (asked_by x.conn steps) x y) os []) p.0 tt
+  pub asked_to_all : (Came : List Step → Client S → Client S → Type 0) (steps : List Step) (olds row : List (Client S)) (i : ℕ) → AskedTo Came steps i olds row
+      → length row ≤ i → AllZip (λ x y. Came steps x y) olds row
+  asked_to_all Came steps olds [] zero p le = subst (λ os. AllZip (λ x y. Came steps x y) os []) p.0 tt
   asked_to_all Came steps olds (y ∷ row) zero p le = absurd (omega arith)
   asked_to_all Came steps [] [] (suc i) p le = tt
   asked_to_all Came steps [] (y ∷ row) (suc i) p le = absurd p
@@ -639,7 +670,7 @@ module _ {S : Type 0} where
   unread_set remaining (o ∷ olds) (y ∷ row) (suc i) d x lt one p = (p.0, unread_set remaining olds row i d x (omega arith) one p.1)
 
   -- one was asked what came of it, and then replies are sent
-  came_sent : (remaining : S → Option (List ℕ)) (taken : List ℕ) (x y z : Client S) → AsksWhatCame remaining taken x y
+  pub came_sent : (remaining : S → Option (List ℕ)) (taken : List ℕ) (x y z : Client S) → AsksWhatCame remaining taken x y
       → Keeps (remaining y.stream) (remaining z.stream) → z.input ≡ y.input → IsAsFar y z → AsksWhatCame remaining taken x z
   came_sent remaining taken x y z p kept same far = (
     p.0,
@@ -679,14 +710,20 @@ module _ {S : Type 0} where
   -- the same of a row, of which others go
   each_came_sent : (contents remaining : S → Option (List ℕ)) (steps : List Step) (a b d : List (Client S)) → EachAsked remaining steps a b
       → EachServed contents [] b d → EachServed contents steps a b → EachUnread remaining b d → inputs d ≡ inputs b → EachAsFar b d
-      → AllZip (λ old new. (new.conn ≡ old.conn) × AsksWhatCame remaining (asked_by old.conn steps) old new) a d
+      → AllZip (λ old new. (new.conn ≡ old.conn) × CameKnown remaining steps old new) a d
   each_came_sent contents remaining steps [] [] [] p sent served kept same far = tt
   each_came_sent contents remaining steps [] [] (z ∷ d) p sent served kept same far = absurd sent
   each_came_sent contents remaining steps [] (y ∷ b) d p sent served kept same far = absurd p
   each_came_sent contents remaining steps (x ∷ a) [] d p sent served kept same far = absurd p
   each_came_sent contents remaining steps (x ∷ a) (y ∷ b) [] p sent served kept same far = absurd sent
   each_came_sent contents remaining steps (x ∷ a) (y ∷ b) (z ∷ d) p sent served kept same far = (
-    (sent.0.conn ∙ served.0.conn, came_sent remaining (asked_by x.conn steps) x y z p.0 kept.0 (cc) far.0),
+    (
+      sent.0.conn ∙ served.0.conn,
+      (
+        came_sent remaining (asked_by x.conn steps) x y z p.0.0 kept.0 (cc) far.0,
+        ap (λ (i : Input). i.since) (heads z.input y.input (inputs d) (inputs b) same) ∙ p.0.1,
+      ),
+    ),
     each_came_sent contents remaining steps a b d p.1 sent.1 served.1 kept.1 (cc) far.1,
   )
 
@@ -695,13 +732,9 @@ module _ {S : Type 0} where
       → AsksNone ys → StayersAsked remaining (xs ++ ys) a e
   stayers_asked contents remaining xs ys a b d e came sent served kept same far left quiet = λ new h.
       let all = each_came_sent contents remaining xs a b d came sent served kept same far in
-      let r = zip_from (λ old new. (new.conn ≡ old.conn) × AsksWhatCame remaining (asked_by old.conn xs) old new) a d new all (in_from d new (left.from new h)) in (
-        r.0,
-        in_to a r.0 r.1,
-        r.2.0,
-        subst (λ t. AsksWhatCame remaining t r.0 new)
-            (sym (asked_join r.0.conn xs ys ∙ ap (λ t. asked_by r.0.conn xs ++ t) (quiet r.0.conn) ∙ append-nil (asked_by r.0.conn xs))) r.2.1,
-      )
+      let r = zip_from (λ old new. (new.conn ≡ old.conn) × CameKnown remaining xs old new) a d new all (in_from d new (left.from new h)) in
+      let known = known_behind remaining xs ys r.0 new (quiet r.0.conn) r.2.1 in
+      (r.0, in_to a r.0 r.1, r.2.0, known.0, known.1)
 
   -- ---- those that were told
 
@@ -950,7 +983,7 @@ module _ {S : Type 0} where
   ids_join (x ∷ a) b = ap (λ ks. x.conn ∷ ks) (ids_join a b)
 
   pub new_before : (c : Client S) (a b comers : List (Client S)) → b ≡ a ++ comers → IsNew c b → IsNew c a
-  new_before c a b comers is p = (p.0, p.1, p.2, none_front c.conn (ids a) (ids comers) (subst (IsNoneOf c.conn) (ap ids is ∙ ids_join a comers) p.3), p.4, p.5)
+  new_before c a b comers is p = (p.0, p.1, p.2, none_front c.conn (ids a) (ids comers) (subst (IsNoneOf c.conn) (ap ids is ∙ ids_join a comers) p.3), p.4, p.5, p.6)
 
   -- those that were there before the others came
   pub only_before : (steps : List Step) (a b : List (Client S)) → Joins a b → AllOnlyAsk steps (ids b) → AllOnlyAsk steps (ids a)

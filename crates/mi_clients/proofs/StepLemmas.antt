@@ -1,5 +1,5 @@
 -- Steps one behind another, and the steps that calls of a ledger are.
-use Rattle.std.proofs.Common.{◌≡◌, ℕ, List, [], ◌∷◌, ◌++◌, codes, Bool, true, false, inl, inr, Option, Some, Result, Ok, refl, sym, ap, ◌∙◌, subst, append-nil, append_assoc}
+use Rattle.std.proofs.Common.{◌≡◌, ℕ, List, [], ◌∷◌, ◌++◌, codes, Bool, true, false, not, ◌&&◌, cond, nat_eq, inl, inr, Option, Some, Result, Ok, refl, sym, ap, ◌∙◌, subst, append-nil, append_assoc}
 use Rattle.std.specs.Io.KnownBytes.{Appends, Keeps}
 use Rattle.std.proofs.KnownBytes.{Appends-nil, Appends-kept, Appends-trans, Keeps-refl}
 use Rattle.mi_commands.specs.Holder.{HeldDatabase}
@@ -14,14 +14,16 @@ use Rattle.mi_replay.specs.RunActs.{ActsOfDone}
 use Rattle.mi_replay.proofs.JoinLemmas.{journals_join}
 use Rattle.mi_ledger.specs.Journals.{Journals, Asks, IsWholeLine}
 use Rattle.mi_ledger.proofs.JournalLemmas.{asked_attached}
-use Rattle.mi_ledger.specs.Ledger.{holder_conn}
+use Rattle.mi_ledger.specs.Ledger.{holder_conn, is_conn}
+use Rattle.mi_clients.specs.Input.{count_on}
 use Rattle.mi_ledger.specs.Room.{IsTurnedAway}
 use Rattle.mi_ledger.specs.declared.fault.LedgerFault.{LedgerFault}
 use Rattle.mi_ledger.specs.declared.ledger.Admitted.{Admitted}
 use Rattle.mi_ledger.specs.declared.ledger.Admitted.TheVariants.{Asked, TurnedAway}
 use Rattle.mi_model.specs.Database.{depth}
 use Rattle.mi_clients.specs.ServiceLines.{is_service}
-use Rattle.mi_clients.specs.Steps.{Step, comes, asks, denies, tells, undoes, goes, undo_bytes, StepDone, DoneBy, Makes, IsAskOf, is_denial, AreAsks, AreUndos}
+use Rattle.mi_clients.proofs.RowLemmas.{same_test}
+use Rattle.mi_clients.specs.Steps.{Step, comes, asks, denies, tells, undoes, goes, undo_bytes, begins_in, StepDone, DoneBy, Makes, IsAskOf, is_denial, since_after, AreAsks, AreUndos}
 
 -- ---- nothing
 
@@ -103,10 +105,10 @@ undo_makes conn line out old new a b is holds p = record {
 
 -- a line is asked
 asks_makes : (conn : ℕ) (line out : List ℕ) (old new : HubState) (a b : Option (List ℕ)) → is_service line ≡ false → Asks conn line old new a b out
-    → Makes (asks conn line out ∷ []) old new a b
+    → Makes (asks conn line out (begins_in conn old new) ∷ []) old new a b
 asks_makes conn line out old new a b other p = record {
   acts = p.acts;
-  done = one_step (asks conn line out) old new p.acts ((p.done, p.are), other);
+  done = one_step (asks conn line out (begins_in conn old new)) old new p.acts ((p.done, p.are), other, refl);
   journal = p.journal;
 }
 
@@ -152,6 +154,22 @@ pub asks_attached : (conn : ℕ) (line out : List ℕ) (old new : HubState) (a b
     → Asks conn line old new a b out → new.attached ≡ old.attached
 asks_attached conn line out old new a b here p = asked_attached conn line out old new here p.done p.still
 
+-- with which line it began to hold sessions
+asked_since : (conn : ℕ) (line out : List ℕ) (began : Bool) (n s : ℕ) → ¬ (line ≡ [])
+    → since_after conn n s (asks conn line out began ∷ []) ≡ cond began (count_on n line) s
+asked_since conn [] out began n s some = absurd (some refl)
+asked_since conn (b ∷ bs) out began n s some =
+    ap (λ t. cond (t && began) (count_on n (cond t (b ∷ bs) [])) s) (same_test conn)
+
+held_still : (b : Bool) → (not b && b) ≡ false
+held_still true = refl
+held_still false = refl
+
+kept_since : (conn : ℕ) (old new : HubState) → new ≡ old → begins_in conn old new ≡ false
+kept_since conn old new same =
+    ap (λ (s : HubState). not (is_conn (holder_conn old.held.holder) conn) && is_conn (holder_conn s.held.holder) conn) same
+    ∙ held_still (is_conn (holder_conn old.held.holder) conn)
+
 -- a line that a ledger was asked is done, or turned away
 pub line_step : (conn : ℕ) (line before after : List ℕ) (old new : HubState) (a b : Option (List ℕ)) (lacks : Bool) (r : Admitted)
     → is_service line ≡ false
@@ -160,12 +178,14 @@ pub line_step : (conn : ℕ) (line before after : List ℕ) (old new : HubState)
     × IsTurnedAway (depth old.held.database) line out × (lacks ≡ true) × (new ≡ old) × (b ≡ a))
     → (out : List ℕ) × (after ≡ before ++ out) × (step : Step) × IsAskOf conn line out step × Makes (step ∷ []) old new a b
     × (is_denial step ≡ true → lacks ≡ true)
+    × ((n s : ℕ) → ¬ (line ≡ []) → since_after conn n s (step ∷ []) ≡ cond (begins_in conn old new) (count_on n line) s)
 line_step conn line before after old new a b lacks Asked other asked away =
     let p = asked refl in
-    (p.0, p.1, asks conn line p.0, inl refl, asks_makes conn line p.0 old new a b other p.2, λ is. absurd (cc))
+    let began = begins_in conn old new in
+    (p.0, p.1, asks conn line p.0 began, inl (began, refl), asks_makes conn line p.0 old new a b other p.2, λ is. absurd (cc), λ n s some. asked_since conn line p.0 began n s some)
 line_step conn line before after old new a b lacks TurnedAway other asked away =
     let p = away refl in
-    (p.0, p.1, denies conn line p.0, inr refl, denies_makes conn line p.0 old new a b other p.2 p.4 p.5, λ is. p.3)
+    (p.0, p.1, denies conn line p.0, inr refl, denies_makes conn line p.0 old new a b other p.2 p.4 p.5, λ is. p.3, λ n s some. ap (λ b. cond b (count_on n line) s) (sym (kept_since conn old new p.4)))
 
 -- and leaves who is attached
 pub line_attached : (conn : ℕ) (line before after : List ℕ) (old new : HubState) (a b : Option (List ℕ)) (lacks : Bool) (r : Admitted)
@@ -196,11 +216,11 @@ one_ask conn taken given line out p = (
 pub asks_more : (conn : ℕ) (steps : List Step) (taken given line out : List ℕ) (step : Step) → IsAskOf conn line out step
     → AreAsks conn steps taken given → AreAsks conn (steps ++ step ∷ []) (taken ++ line) (given ++ out)
 asks_more conn [] taken given line out step is p = elim is [
-  | inl same ↦ subst (λ s. AreAsks conn (s ∷ []) (taken ++ line) (given ++ out)) (sym same) (one_ask conn taken given line out p)
+  | inl same ↦ subst (λ s. AreAsks conn (s ∷ []) (taken ++ line) (given ++ out)) (sym same.1) (one_ask conn taken given line out p)
   | inr same ↦ subst (λ s. AreAsks conn (s ∷ []) (taken ++ line) (given ++ out)) (sym same) (one_ask conn taken given line out p)
 ]
 asks_more conn (comes k ∷ steps) taken given line out step is p = absurd p
-asks_more conn (asks k l o ∷ steps) taken given line out step is p = (
+asks_more conn (asks k l o began ∷ steps) taken given line out step is p = (
   p.0,
   p.1 ++ line,
   p.2 ++ out,
@@ -223,7 +243,7 @@ asks_more conn (goes k ∷ steps) taken given line out step is p = absurd p
 pub undos_more : (conn : ℕ) (steps : List Step) (out : List ℕ) → AreUndos conn steps → AreUndos conn (steps ++ undoes conn out ∷ [])
 undos_more conn [] out p = (refl, tt)
 undos_more conn (comes k ∷ steps) out p = absurd p
-undos_more conn (asks k l o ∷ steps) out p = absurd p
+undos_more conn (asks k l o began ∷ steps) out p = absurd p
 undos_more conn (denies k l o ∷ steps) out p = absurd p
 undos_more conn (tells k l o ∷ steps) out p = absurd p
 undos_more conn (undoes k o ∷ steps) out p = (p.0, undos_more conn steps out p.1)

@@ -18,13 +18,14 @@ use Rattle.mi_clients.specs.Status.{listed, connection_text, database_text, stat
 use Rattle.mi_clients.specs.Heard.{heard}
 use Rattle.mi_clients.specs.Input.{waiting, count_on}
 use Rattle.mi_clients.specs.Lines.{SameLines, Ends}
-use Rattle.mi_clients.specs.Client.{owed, Owes, HasRoom, MayTell, IsAsked, IsHeard, AsksWhatCame, IsAsFar, ends_after, Takes, GoesOn, IsWhole, BreaksWith, IsSame, IsRead, IsServed}
+use Rattle.mi_clients.specs.Client.{owed, Owes, HasRoom, MayTell, IsAsked, IsHeard, AsksWhatCame, KnowsSince, IsAsFar, ends_after, Takes, GoesOn, IsWhole, BreaksWith, IsSame, IsRead, IsServed}
 use Rattle.mi_clients.specs.Row.{EachServed, EachAsked, EachTakes, EachSame, EachRead, OpenOnlyAsk, NoneIsWhole, AllBreakWith, TellsWhatIs, Joins}
 use Rattle.mi_clients.specs.Steps.{Step, comes, asks, denies, tells, undoes, goes, given_to, asked_by, told_by, reply_to, GivesOnly, GivesNone, AsksOnly, AsksNone, OnlyAsks}
 use Rattle.mi_clients.specs.Steps.{AreAsks, AreUndos, AreTells, AllTell, TellsNone, TellsSo, DoneBy, Makes}
 use Rattle.mi_clients.specs.declared.client.Client.{Client}
 use Rattle.mi_clients.specs.declared.client.Phase.{Phase}
 use Rattle.mi_clients.specs.declared.client.Phase.TheVariants.{Open, Broken}
+use Rattle.mi_clients.proofs.SinceLemmas.{knows_front, knows_told}
 use Rattle.mi_clients.proofs.InputLemmas.{unended_back, same_front, first_newline, count_join}
 use Rattle.mi_clients.proofs.RowLemmas.{same_test, true_false, front_none, back_none, zip_weaker, zip_then, zip_all}
 use Rattle.mi_clients.proofs.StepLemmas.{makes_then}
@@ -125,7 +126,7 @@ status_joined row s j up h d old a b new eh ed ea eb en =
 pub quiet_join : (xs ys : List Step) → TellsNone xs → TellsNone ys → TellsNone (xs ++ ys)
 quiet_join [] ys p q = q
 quiet_join (comes j ∷ xs) ys p q = quiet_join xs ys p q
-quiet_join (asks j line reply ∷ xs) ys p q = quiet_join xs ys p q
+quiet_join (asks j line reply began ∷ xs) ys p q = quiet_join xs ys p q
 quiet_join (denies j line reply ∷ xs) ys p q = quiet_join xs ys p q
 quiet_join (tells j line text ∷ xs) ys p q = absurd p
 quiet_join (undoes j reply ∷ xs) ys p q = quiet_join xs ys p q
@@ -134,7 +135,7 @@ quiet_join (goes j ∷ xs) ys p q = quiet_join xs ys p q
 pub asks_quiet : (conn : ℕ) (steps : List Step) (taken given : List ℕ) → AreAsks conn steps taken given → TellsNone steps
 asks_quiet conn [] taken given p = tt
 asks_quiet conn (comes j ∷ steps) taken given p = absurd p
-asks_quiet conn (asks j line reply ∷ steps) taken given p = asks_quiet conn steps p.1 p.2 p.3
+asks_quiet conn (asks j line reply began ∷ steps) taken given p = asks_quiet conn steps p.1 p.2 p.3
 asks_quiet conn (denies j line reply ∷ steps) taken given p = asks_quiet conn steps p.1 p.2 p.3
 asks_quiet conn (tells j line text ∷ steps) taken given p = absurd p
 asks_quiet conn (undoes j reply ∷ steps) taken given p = absurd p
@@ -143,7 +144,7 @@ asks_quiet conn (goes j ∷ steps) taken given p = absurd p
 pub undos_quiet : (conn : ℕ) (steps : List Step) → AreUndos conn steps → TellsNone steps
 undos_quiet conn [] p = tt
 undos_quiet conn (comes j ∷ steps) p = absurd p
-undos_quiet conn (asks j line reply ∷ steps) p = absurd p
+undos_quiet conn (asks j line reply began ∷ steps) p = absurd p
 undos_quiet conn (denies j line reply ∷ steps) p = absurd p
 undos_quiet conn (tells j line text ∷ steps) p = absurd p
 undos_quiet conn (undoes j reply ∷ steps) p = undos_quiet conn steps p.1
@@ -153,8 +154,8 @@ undos_quiet conn (goes j ∷ steps) p = absurd p
 pub none_quiet : (steps : List Step) (acts : List Act) (old new : HubState) → DoneBy old steps acts new → GivesNone steps → TellsNone steps
 none_quiet [] acts old new p none = tt
 none_quiet (comes j ∷ steps) acts old new p none = none_quiet steps p.2 p.0 new p.4 none
-none_quiet (asks j line reply ∷ steps) acts old new p none =
-    none_quiet steps p.2 p.0 new p.4 (λ k. back_none (reply_to k (asks j line reply)) (given_to k steps) (none k))
+none_quiet (asks j line reply began ∷ steps) acts old new p none =
+    none_quiet steps p.2 p.0 new p.4 (λ k. back_none (reply_to k (asks j line reply began)) (given_to k steps) (none k))
 none_quiet (denies j line reply ∷ steps) acts old new p none =
     none_quiet steps p.2 p.0 new p.4 (λ k. back_none (reply_to k (denies j line reply)) (given_to k steps) (none k))
 none_quiet (tells j line text ∷ steps) acts old new p none =
@@ -165,7 +166,7 @@ none_quiet (goes j ∷ steps) acts old new p none = none_quiet steps p.2 p.0 new
 pub quiet_so : (status schema : List ℕ) (steps : List Step) → TellsNone steps → TellsSo status schema steps
 quiet_so status schema [] p = tt
 quiet_so status schema (comes j ∷ steps) p = quiet_so status schema steps p
-quiet_so status schema (asks j line reply ∷ steps) p = quiet_so status schema steps p
+quiet_so status schema (asks j line reply began ∷ steps) p = quiet_so status schema steps p
 quiet_so status schema (denies j line reply ∷ steps) p = quiet_so status schema steps p
 quiet_so status schema (tells j line text ∷ steps) p = absurd p
 quiet_so status schema (undoes j reply ∷ steps) p = quiet_so status schema steps p
@@ -174,7 +175,7 @@ quiet_so status schema (goes j ∷ steps) p = quiet_so status schema steps p
 pub so_join : (status schema : List ℕ) (xs ys : List Step) → TellsSo status schema xs → TellsSo status schema ys → TellsSo status schema (xs ++ ys)
 so_join status schema [] ys p q = q
 so_join status schema (comes j ∷ xs) ys p q = so_join status schema xs ys p q
-so_join status schema (asks j line reply ∷ xs) ys p q = so_join status schema xs ys p q
+so_join status schema (asks j line reply began ∷ xs) ys p q = so_join status schema xs ys p q
 so_join status schema (denies j line reply ∷ xs) ys p q = so_join status schema xs ys p q
 so_join status schema (tells j line text ∷ xs) ys p q = (p.0, so_join status schema xs ys p.1 q)
 so_join status schema (undoes j reply ∷ xs) ys p q = so_join status schema xs ys p q
@@ -185,7 +186,7 @@ so_join status schema (goes j ∷ xs) ys p q = so_join status schema xs ys p q
 pub tells_only : (conn : ℕ) (steps : List Step) → AreTells conn steps → GivesOnly conn steps
 tells_only conn [] p = λ k other. refl
 tells_only conn (comes j ∷ steps) p = absurd p
-tells_only conn (asks j line reply ∷ steps) p = absurd p
+tells_only conn (asks j line reply began ∷ steps) p = absurd p
 tells_only conn (denies j line reply ∷ steps) p = absurd p
 tells_only conn (tells j line text ∷ steps) p = λ k other.
     ap (λ n. cond (nat_eq n k) text [] ++ given_to k steps) p.0
@@ -197,7 +198,7 @@ tells_only conn (goes j ∷ steps) p = absurd p
 pub tells_asked : (conn : ℕ) (steps : List Step) → AreTells conn steps → AsksOnly conn steps
 tells_asked conn [] p = λ k other. refl
 tells_asked conn (comes j ∷ steps) p = absurd p
-tells_asked conn (asks j line reply ∷ steps) p = absurd p
+tells_asked conn (asks j line reply began ∷ steps) p = absurd p
 tells_asked conn (denies j line reply ∷ steps) p = absurd p
 tells_asked conn (tells j line text ∷ steps) p = λ k other.
     ap (λ n. cond (nat_eq n k) line [] ++ asked_by k steps) p.0
@@ -209,7 +210,7 @@ tells_asked conn (goes j ∷ steps) p = absurd p
 pub tells_all : (conn : ℕ) (steps : List Step) → AreTells conn steps → AllTell steps
 tells_all conn [] p = tt
 tells_all conn (comes j ∷ steps) p = absurd p
-tells_all conn (asks j line reply ∷ steps) p = absurd p
+tells_all conn (asks j line reply began ∷ steps) p = absurd p
 tells_all conn (denies j line reply ∷ steps) p = absurd p
 tells_all conn (tells j line text ∷ steps) p = tells_all conn steps p.1
 tells_all conn (undoes j reply ∷ steps) p = absurd p
@@ -218,7 +219,7 @@ tells_all conn (goes j ∷ steps) p = absurd p
 pub tell_join : (xs ys : List Step) → AllTell xs → AllTell ys → AllTell (xs ++ ys)
 tell_join [] ys p q = q
 tell_join (comes j ∷ xs) ys p q = absurd p
-tell_join (asks j line reply ∷ xs) ys p q = absurd p
+tell_join (asks j line reply began ∷ xs) ys p q = absurd p
 tell_join (denies j line reply ∷ xs) ys p q = absurd p
 tell_join (tells j line text ∷ xs) ys p q = tell_join xs ys p q
 tell_join (undoes j reply ∷ xs) ys p q = absurd p
@@ -228,7 +229,7 @@ tell_join (goes j ∷ xs) ys p q = absurd p
 tell_alone : (k : ℕ) (steps : List Step) → AllTell steps → OnlyAsks k steps
 tell_alone k [] p = tt
 tell_alone k (comes j ∷ steps) p = absurd p
-tell_alone k (asks j line reply ∷ steps) p = absurd p
+tell_alone k (asks j line reply began ∷ steps) p = absurd p
 tell_alone k (denies j line reply ∷ steps) p = absurd p
 tell_alone k (tells j line text ∷ steps) p = tell_alone k steps p
 tell_alone k (undoes j reply ∷ steps) p = absurd p
@@ -238,7 +239,7 @@ tell_alone k (goes j ∷ steps) p = absurd p
 tell_lines : (k : ℕ) (steps : List Step) → AllTell steps → told_by k steps ≡ asked_by k steps
 tell_lines k [] p = refl
 tell_lines k (comes j ∷ steps) p = absurd p
-tell_lines k (asks j line reply ∷ steps) p = absurd p
+tell_lines k (asks j line reply began ∷ steps) p = absurd p
 tell_lines k (denies j line reply ∷ steps) p = absurd p
 tell_lines k (tells j line text ∷ steps) p = ap (λ t. cond (nat_eq j k) line [] ++ t) (tell_lines k steps p)
 tell_lines k (undoes j reply ∷ steps) p = absurd p
@@ -254,7 +255,7 @@ tells_one_asked conn line text = ap (λ b. cond b line [] ++ []) (same_test conn
 -- ---- one connection
 
 -- what it has asked to end is that of the line, which has a byte
-ended_some : (before : Option ℕ) (line : List ℕ) → ¬ (line ≡ []) → ended_in line ≡ ends_after before line
+pub ended_some : (before : Option ℕ) (line : List ℕ) → ¬ (line ≡ []) → ended_in line ≡ ends_after before line
 ended_some before [] some = absurd (some refl)
 ended_some before (b ∷ bs) some = refl
 
@@ -278,6 +279,7 @@ module _ {S : Type 0} where
     waits = refl;
     first = refl;
     counts = refl;
+    since = refl;
     far = inr refl;
     lines = refl;
     ends = refl;
@@ -287,14 +289,15 @@ module _ {S : Type 0} where
 
   -- one that is told something to its line
   pub takes_line : (line : List ℕ) (a b : Client S) → MayTell a → ¬ (line ≡ []) → b.conn ≡ a.conn → b.stream ≡ a.stream
-      → waiting a.input ≡ line ++ waiting b.input → b.input.is_first ≡ a.input.is_first → b.input.lines ≡ count_on a.input.lines line → IsAsFar a b
-      → b.has_lines ≡ a.has_lines → b.ends ≡ ended_in line → Takes line a b
-  takes_line line a b may some conn stream waits first counts far lines ends = record {
+      → waiting a.input ≡ line ++ waiting b.input → b.input.is_first ≡ a.input.is_first → b.input.lines ≡ count_on a.input.lines line
+      → b.input.since ≡ a.input.since → IsAsFar a b → b.has_lines ≡ a.has_lines → b.ends ≡ ended_in line → Takes line a b
+  takes_line line a b may some conn stream waits first counts since far lines ends = record {
     conn = conn;
     stream = stream;
     waits = waits;
     first = first;
     counts = counts;
+    since = since;
     far = far;
     lines = lines;
     ends = ends ∙ ended_some a.ends line some;
@@ -351,35 +354,43 @@ module _ {S : Type 0} where
         ∙ back_none (told_by b.conn xs) (told_by b.conn ys) (sym (told_join b.conn xs ys) ∙ none)))))
   ]
 
-  -- what came is asked of the tables or told, or waits
-  came_told : (remaining : S → Option (List ℕ)) (taken more : List ℕ) (x y z : Client S) → AsksWhatCame remaining taken x y → Takes more y z
-      → AsksWhatCame remaining (taken ++ more) x z
-  came_told remaining taken more x y z p q = (
+  -- what came is asked, or waits, and then more is taken of what waits
+  pub came_more : (remaining : S → Option (List ℕ)) (taken more : List ℕ) (x y z : Client S) → AsksWhatCame remaining taken x y → z.stream ≡ y.stream
+      → waiting y.input ≡ more ++ waiting z.input → z.input.is_first ≡ y.input.is_first → z.input.lines ≡ count_on y.input.lines more
+      → (z.phase ≡ Open → y.phase ≡ Open) → (y.phase ≡ Broken → (z.phase ≡ Broken) × (more ≡ [])) → AsksWhatCame remaining (taken ++ more) x z
+  came_more remaining taken more x y z p stream waits first counts opens breaks = (
     p.0,
-    subst (λ s. Consumes (remaining x.stream) (remaining s) p.0) (sym q.stream) p.1,
-    λ no. ((p.2 no).0, λ is. (p.2 no).1 (was_open y z q.far is)),
+    subst (λ s. Consumes (remaining x.stream) (remaining s) p.0) (sym stream) p.1,
+    λ no. ((p.2 no).0, λ is. (p.2 no).1 (opens is)),
     elim p.3 [
       | inl broken ↦ inl (
-        still_broken y z q.far broken.0,
-        ap (λ t. t ++ more) broken.1 ∙ (q.other (λ may. may.0.0 broken.0)).1,
+        (breaks broken.0).0,
+        ap (λ t. t ++ more) broken.1 ∙ (breaks broken.0).1,
       )
       | inr (inl lines) ↦ inr (inl (
         subst (SameLines (heard x.input.is_first (waiting x.input ++ p.0))) moved lines.0,
-        q.first ∙ lines.1,
-        λ last is. lines.2 last (was_open y z q.far is),
+        first ∙ lines.1,
+        λ last is. lines.2 last (opens is),
       ))
       | inr (inr ends) ↦ inr (inr (
-        λ is. ends.0 (was_open y z q.far is),
+        λ is. ends.0 (opens is),
         ends.1,
-        subst (λ s. IfSome (remaining x.stream) (λ _. IsAtEnd (remaining s))) (sym q.stream) ends.2,
+        subst (λ s. IfSome (remaining x.stream) (λ _. IsAtEnd (remaining s))) (sym stream) ends.2,
         subst (Ends (waiting x.input)) moved ends.3,
       ))
     ],
-    q.counts ∙ ap (λ n. count_on n more) p.4 ∙ sym (count_join x.input.lines taken more),
+    counts ∙ ap (λ n. count_on n more) p.4 ∙ sym (count_join x.input.lines taken more),
   )
     where
       moved : taken ++ waiting y.input ≡ (taken ++ more) ++ waiting z.input
-      moved = ap (λ w. taken ++ w) q.waits ∙ sym (append_assoc taken more (waiting z.input))
+      moved = ap (λ w. taken ++ w) waits ∙ sym (append_assoc taken more (waiting z.input))
+
+  -- it is asked of the tables or told
+  came_told : (remaining : S → Option (List ℕ)) (taken more : List ℕ) (x y z : Client S) → AsksWhatCame remaining taken x y → Takes more y z
+      → AsksWhatCame remaining (taken ++ more) x z
+  came_told remaining taken more x y z p q =
+      came_more remaining taken more x y z p q.stream q.waits q.first q.counts (was_open y z q.far)
+      (λ is. (still_broken y z q.far is, (q.other (λ may. may.0.0 is)).1))
 
   -- ---- a row
 
@@ -389,15 +400,18 @@ module _ {S : Type 0} where
       (zip_weaker (λ x y. Takes (asked_by x.conn ys) x y) (λ x y. IsAsked x → IsHeard (xs ++ ys) y) (λ x y p was. heard_one xs ys x y was p all) b m takes) asked
 
   pub each_came_told : (contents remaining : S → Option (List ℕ)) (xs ys : List Step) (a b m : List (Client S)) → EachServed contents xs a b
-      → EachAsked remaining xs a b → EachTakes ys b m → EachAsked remaining (xs ++ ys) a m
-  each_came_told contents remaining xs ys a b m served asked takes =
+      → EachAsked remaining xs a b → EachTakes ys b m → AllTell ys → EachAsked remaining (xs ++ ys) a m
+  each_came_told contents remaining xs ys a b m served asked takes all =
       let first : Client S → Client S → Type 0 = λ x y. IsServed contents (given_to x.conn xs) x y in
-      let came : Client S → Client S → Type 0 = λ x y. AsksWhatCame remaining (asked_by x.conn xs) x y in
+      let came : Client S → Client S → Type 0 = λ x y. AsksWhatCame remaining (asked_by x.conn xs) x y × KnowsSince xs x y in
       let more : Client S → Client S → Type 0 = λ x y. Takes (asked_by x.conn ys) x y in
-      zip_then (λ x y. first x y × came x y) more (λ x y. AsksWhatCame remaining (asked_by x.conn (xs ++ ys)) x y)
-      (λ x y z p q. subst (λ t. AsksWhatCame remaining t x z)
-      (ap (λ k. asked_by x.conn xs ++ asked_by k ys) p.0.conn ∙ sym (asked_join x.conn xs ys))
-      (came_told remaining (asked_by x.conn xs) (asked_by y.conn ys) x y z p.1 q))
+      zip_then (λ x y. first x y × came x y) more (λ x y. AsksWhatCame remaining (asked_by x.conn (xs ++ ys)) x y × KnowsSince (xs ++ ys) x y)
+      (λ x y z p q. (
+        subst (λ t. AsksWhatCame remaining t x z)
+            (ap (λ k. asked_by x.conn xs ++ asked_by k ys) p.0.conn ∙ sym (asked_join x.conn xs ys))
+            (came_told remaining (asked_by x.conn xs) (asked_by y.conn ys) x y z p.1.0 q),
+        knows_told xs ys x y z all q.since p.1.1,
+      ))
       a b m (zip_both first came a b served asked) takes
 
   pub opens_told : (xs ys : List Step) (b m : List (Client S)) → OpenOnlyAsk xs b → EachTakes ys b m → AllTell ys → OpenOnlyAsk (xs ++ ys) m
@@ -481,6 +495,7 @@ module _ {S : Type 0} where
         served_by contents (given_to r.0.conn p.first) (given_to r.0.conn (xs ++ p.first)) r.0 c (sym (given_behind r.0.conn xs p.first none)) r.2,
         r.3 ∙ ap (count_on r.0.input.lines)
             (sym (asked_join r.0.conn xs p.first ∙ ap (λ t. t ++ asked_by r.0.conn p.first) (quiet r.0.conn))),
+        knows_front xs p.first r.0 c (quiet r.0.conn) r.4,
       );
       status = p.status;
       «is» = p.«is»;

@@ -8,7 +8,7 @@ use Rattle.mi_clients.specs.Lines.{SameLines, Ends}
 use Rattle.mi_clients.specs.Heard.{heard, still_first, is_last}
 use Rattle.mi_clients.specs.Stream.{one_more}
 use Rattle.mi_clients.specs.ServiceLines.{is_service, ended_in}
-use Rattle.mi_clients.specs.Steps.{Step, IsAskOf, given_to, told_by}
+use Rattle.mi_clients.specs.Steps.{Step, IsAskOf, given_to, told_by, since_after}
 use Rattle.mi_ledger.specs.Journals.{IsWholeLine}
 use Rattle.mi_hub.specs.Ended.{ended}
 use Rattle.mi_clients.specs.declared.client.Client.{Client}
@@ -123,6 +123,10 @@ AsksWhatCame remaining taken old new =
     × Ends (waiting old.input) (taken ++ waiting new.input))))
     × (new.input.lines ≡ count_on old.input.lines taken)
 
+-- Between old and new these steps are made, and it is known with which of its lines a connection last began to hold sessions.
+abbrev pub KnowsSince : {S : Type 0} → List Step → Client S → Client S → Type 0
+KnowsSince steps old new = new.input.since ≡ since_after old.conn old.input.lines old.input.since steps
+
 -- it is as far as it was, or it is broken
 abbrev pub IsAsFar : {S : Type 0} → Client S → Client S → Type 0
 IsAsFar old new = (new.phase ≡ Broken) ⊎ (new.phase ≡ old.phase)
@@ -140,6 +144,7 @@ pub record Takes {S : Type 0} (taken : List ℕ) (old new : Client S) : Type 0 w
   pub waits : waiting old.input ≡ taken ++ waiting new.input
   pub first : new.input.is_first ≡ old.input.is_first
   pub counts : new.input.lines ≡ count_on old.input.lines taken
+  pub since : new.input.since ≡ old.input.since
   pub far : IsAsFar old new
   pub lines : new.has_lines ≡ old.has_lines
   pub ends : new.ends ≡ ends_after old.ends taken

@@ -12,4 +12,5 @@ pub mod Status
 pub mod Row
 pub mod Silence
 pub mod Ending
+pub mod Beside
 pub mod Laws

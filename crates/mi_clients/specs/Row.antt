@@ -4,7 +4,7 @@ use Rattle.std.specs.List.{All, AllZip, Contains}
 use Rattle.std.specs.Io.KnownBytes.{Keeps}
 use Rattle.mi_hub.specs.declared.connection.Connection.{Connection}
 use Rattle.mi_hub.specs.Run.{HubState, attach, Refused as HubRefuses}
-use Rattle.mi_clients.specs.Client.{owed, IsServed, IsOver, IsAsFar, Takes, AsksAll, AsksWhatCame, GoesOn, IsWoken, IsWhole, BreaksWith, IsSame, IsRead}
+use Rattle.mi_clients.specs.Client.{owed, IsServed, IsOver, IsAsFar, Takes, AsksAll, AsksWhatCame, KnowsSince, GoesOn, IsWoken, IsWhole, BreaksWith, IsSame, IsRead}
 use Rattle.mi_clients.specs.Input.{waiting, count_on}
 use Rattle.mi_clients.specs.Status.{IsStatus}
 use Rattle.mi_clients.specs.Steps.{Step, given_to, asked_by, OnlyAsks, Makes, TellsSo}
@@ -45,18 +45,20 @@ pub record Attends (row : List ℕ) (attached : List Connection) : Type 0 where
 abbrev pub EachServed : {S : Type 0} → (S → Option (List ℕ)) → List Step → List (Client S) → List (Client S) → Type 0
 EachServed contents steps olds news = AllZip (λ old new. IsServed contents (given_to old.conn steps) old new) olds news
 
--- Each connection of a row was asked in these steps what came of it, or that waits.
+-- Each connection of a row was asked in these steps what came of it, or that waits, and since which line it holds sessions is known.
 abbrev pub EachAsked : {S : Type 0} → (S → Option (List ℕ)) → List Step → List (Client S) → List (Client S) → Type 0
-EachAsked remaining steps olds news = AllZip (λ old new. AsksWhatCame remaining (asked_by old.conn steps) old new) olds news
+EachAsked remaining steps olds news =
+    AllZip (λ old new. AsksWhatCame remaining (asked_by old.conn steps) old new × KnowsSince steps old new) olds news
 
 -- nothing is read of any stream of a row
 abbrev pub EachUnread : {S : Type 0} → (S → Option (List ℕ)) → List (Client S) → List (Client S) → Type 0
 EachUnread remaining olds news = AllZip (λ old new. Keeps (remaining old.stream) (remaining new.stream)) olds news
 
--- it has just come: more may come of it, its first line too, nothing of it waits or was asked, it is owed nothing, and its number is none of
--- the row's
+-- it has just come: more may come of it, its first line too, nothing of it waits or was asked, it is owed nothing, its number is none of the
+-- row's, and it has held no session
 abbrev pub IsNew : {S : Type 0} → Client S → List (Client S) → Type 0
 IsNew c row = (c.phase ≡ Open) × (waiting c.input ≡ []) × (owed c ≡ []) × IsNoneOf c.conn (ids row) × IsTrue c.input.is_first × (c.input.lines ≡ 0)
+    × (c.input.since ≡ 0)
 
 -- some connections have come, and stand behind the others, which are as they were
 abbrev pub Joins : {S : Type 0} → List (Client S) → List (Client S) → Type 0
@@ -67,10 +69,11 @@ pub record LetsGo {S : Type 0} (olds news : List (Client S)) : Type 0 where
   pub from : (c : Client S) → Contains news c → Contains olds c
   pub to : (c : Client S) → Contains olds c → Contains news c ⊎ IsOver c
 
--- Each connection that is in a row was in it before, and was asked in these steps what came of it, or that waits.
+-- Each connection that is in a row was in it before, and was asked in these steps what came of it, or that waits. Since which line it holds
+-- sessions is known.
 abbrev pub StayersAsked : {S : Type 0} → (S → Option (List ℕ)) → List Step → List (Client S) → List (Client S) → Type 0
 StayersAsked {S} remaining steps olds news = (new : Client S) → Contains news new
-    → (old : Client S) × Contains olds old × (new.conn ≡ old.conn) × AsksWhatCame remaining (asked_by old.conn steps) old new
+    → (old : Client S) × Contains olds old × (new.conn ≡ old.conn) × AsksWhatCame remaining (asked_by old.conn steps) old new × KnowsSince steps old new
 
 -- the service told each of a row what it asked in these steps
 abbrev pub EachTakes : {S : Type 0} → List Step → List (Client S) → List (Client S) → Type 0
@@ -78,7 +81,7 @@ EachTakes steps olds news = AllZip (λ old new. Takes (asked_by old.conn steps) 
 
 -- What the service tells in these steps is so: the status is that of these connections, this hub and this journal, as the first of the
 -- steps have left them, and the schema is told by this line. The connections are those that the hub has attached then: they were in the row
--- before, or have come, and each was served meanwhile, and its lines were counted. Whether the journal lacks room is as it is at the end, since
+-- before, or have come, and each was served meanwhile, its lines were counted, and the line noted since which it holds sessions. Whether the journal lacks room is as it is at the end, since
 -- no later step asks for any.
 pub record TellsWhatIs {S : Type 0} (contents : S → Option (List ℕ)) (schema : List ℕ) (seconds : ℕ) (steps : List Step) (start : HubState)
     (before : Option (List ℕ)) (lacks : Bool) (olds : List (Client S)) : Type 0 where
@@ -92,7 +95,7 @@ pub record TellsWhatIs {S : Type 0} (contents : S → Option (List ℕ)) (schema
   pub attends : Attends (ids row) hub.attached
   pub from : (c : Client S) → Contains row c
       → (old : Client S) × (Contains olds old ⊎ IsNew old olds) × IsServed contents (given_to old.conn first) old c
-      × (c.input.lines ≡ count_on old.input.lines (asked_by old.conn first))
+      × (c.input.lines ≡ count_on old.input.lines (asked_by old.conn first)) × KnowsSince first old c
   pub status : List ℕ
   pub «is» : IsStatus appended lacks seconds row hub status
   pub told : TellsSo status schema steps

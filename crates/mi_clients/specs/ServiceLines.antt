@@ -52,6 +52,14 @@ abbrev pub told_to : List ℕ → List ℕ → List ℕ → List ℕ
 told_to status schema line =
     if asks_status line then status else if asks_schema line then schema else if is_some (ended_in line) then done_line else form_line
 
+-- the refusal of another line beside those that have a place
+abbrev pub places_line : List ℕ
+places_line = codes "{\"error\":\"places\",\"ok\":false}\n"
+
+-- what is told to a line beside them
+abbrev pub told_beside : List ℕ → List ℕ → List ℕ → List ℕ
+told_beside status schema line = if is_service line then told_to status schema line else places_line
+
 -- the bytes of the line that tells a schema
 abbrev pub line_of : SchemaLine → List ℕ
 line_of s = s.bytes.items

@@ -1,6 +1,6 @@
 -- The line that tells the status of a service: its connections, who of them holds sessions, how many sessions are open, how many rows each
 -- table has, and since how many seconds it is there. With connection 2 alone, which holds the one session over an empty table:
--- {"connections":[{"holds":true,"lines":1,"number":2,"unsent":0}],"depth":1,"holder":2,"journal":{"bytes":119,"full":false},"ok":true,
+-- {"connections":[{"holds":true,"lines":1,"number":2,"since":1,"unsent":0}],"depth":1,"holder":2,"journal":{"bytes":119,"full":false},"ok":true,
 -- "tables":[{"name":"accounts","size":0}],"uptime":60,"version":"0.1.0"}
 use Rattle.std.specs.Prelude.{◌≡◌, ◌⊎◌, ℕ, ◌+◌, List, [], ◌∷◌, ◌++◌, length, Bool, true, false, ◌==◌, if◌then◌else◌, Option, Some, None, codes, decimal, IfSome}
 use Rattle.std.specs.Option.{option_map_or}
@@ -26,15 +26,24 @@ abbrev pub flag_text : Bool → List ℕ
 flag_text true = codes "true"
 flag_text false = codes "false"
 
--- a connection's number, and how many bytes of its replies are unsent
-abbrev pub unsent_text : {S : Type 0} → Client S → List ℕ
-unsent_text c = decimal c.conn ++ (codes ",\"unsent\":" ++ (decimal (length (owed c)) ++ codes "}"))
+-- with which of its lines a connection began to hold sessions, where it holds some
+abbrev pub since_text : {S : Type 0} → Option ℕ → Client S → List ℕ
+since_text holder c = if is_conn holder c.conn then decimal c.input.since else codes "null"
 
--- a connection: whether it holds sessions, how many lines it has asked, its number, and how many bytes of its replies are unsent
+-- how many bytes of its replies are unsent
+abbrev pub unsent_text : {S : Type 0} → Client S → List ℕ
+unsent_text c = codes ",\"unsent\":" ++ (decimal (length (owed c)) ++ codes "}")
+
+-- a connection's number, since which line it holds sessions, and how many bytes of its replies are unsent
+abbrev pub number_text : {S : Type 0} → Option ℕ → Client S → List ℕ
+number_text holder c = decimal c.conn ++ (codes ",\"since\":" ++ (since_text holder c ++ unsent_text c))
+
+-- a connection: whether it holds sessions, how many lines it has asked, its number, since which line it holds sessions, and how many bytes of its
+-- replies are unsent
 abbrev pub connection_text : {S : Type 0} → Option ℕ → ℕ → Client S → List ℕ
 connection_text holder n c =
     codes "{\"holds\":" ++ (flag_text (is_conn holder c.conn) ++ (codes ",\"lines\":" ++ (decimal c.input.lines
-    ++ (codes ",\"number\":" ++ unsent_text c))))
+    ++ (codes ",\"number\":" ++ number_text holder c))))
 
 abbrev pub holder_text : Option ℕ → List ℕ
 holder_text None = codes "null"

@@ -1,11 +1,10 @@
 //! The lines of one connection, asked of the ledger. It reads and writes no stream.
-ghost use Rattle.std.specs.Prelude.{◌≡◌, ◌⊎◌, ◌<◌, ◌++◌, ℕ, List, [], ◌∷◌, Some, Err, true, false, length, IsTrue, IsFalse, OnOk, OnErr, IfOk, IsOk};
+ghost use Rattle.std.specs.Prelude.{◌≡◌, ◌⊎◌, ◌<◌, ◌++◌, ℕ, List, [], ◌∷◌, Some, Err, true, false, not, ◌&&◌, length, IsTrue, IsFalse, OnOk, OnErr, IfOk, IsOk};
 ghost use Rattle.std.specs.Io.KnownBytes.{Keeps};
 ghost use Rattle.mi_commands.specs.Holder.{held_by, released};
 ghost use Rattle.mi_hub.specs.Connections.{rest_at, others};
-ghost use Rattle.mi_ledger.specs.Ledger.{holder_conn};
-ghost use Rattle.mi_ledger.specs.Ledger.{hub_of, log_of, IsSettled};
-ghost use Rattle.mi_clients.specs.Steps.{Step, Makes, IsAskOf, is_denial, GivesNone, AsksNone, AreAsks, AreUndos, LeavesOthers, HoldsSome};
+ghost use Rattle.mi_ledger.specs.Ledger.{hub_of, log_of, IsSettled, holder_conn, is_conn};
+ghost use Rattle.mi_clients.specs.Steps.{Step, Makes, IsAskOf, is_denial, since_after, GivesNone, AsksNone, AreAsks, AreUndos, LeavesOthers, HoldsSome};
 ghost use Rattle.mi_clients.specs.Input.{waiting, count_on};
 ghost use Rattle.mi_ledger.specs.HeldReplies.{bytes_of};
 ghost use Rattle.mi_clients.specs.Output.{unsent};
@@ -15,7 +14,7 @@ ghost use Rattle.mi_clients.specs.declared.client.Phase.TheVariants as phases;
 
 use crate::client::{Client, Phase};
 use crate::service_lines::is_service;
-use mi_ledger::{HeldReplies, Ledger, LedgerFault};
+use mi_ledger::{HeldReplies, Ledger, LedgerFault, is_holder};
 use mi_log::Log;
 use mi_sessions::Sessions;
 use mi_value::limits::MAX_SESSIONS;
@@ -100,6 +99,20 @@ fn release_each<D: Sessions + Drop, L: Log + Drop, S>(
     }
 }
 
+/// Whether a connection holds sessions.
+fn holds_some<D: Sessions + Drop, L: Log + Drop>(ledger: &Ledger<D, L>, conn: u64) -> bool
+    ensures { result ≡ is_conn (holder_conn (hub_of ledger.now).held.holder) conn }
+{
+    is_holder(ledger.hub().holder(), conn)
+}
+
+/// Whether a connection begins to hold sessions: it held none before, and holds some.
+fn begins_to_hold(held: bool, holds: bool) -> bool
+    ensures { result ≡ (not held && holds) }
+{
+    !held && holds
+}
+
 /// What came of asking the first whole line of a connection that waits.
 #[derive(Clone, Copy, Drop)]
 enum Found {
@@ -124,7 +137,8 @@ fn ask_line<D: Sessions + Drop, L: Log + Drop, S>(
         × (waiting client.old.input ≡ line ++ waiting client.new.input) × (owed client.new ≡ owed client.old ++ out)
         × Makes (step ∷ []) (hub_of ledger.old) (hub_of ledger.new) (L.appended (log_of ledger.old)) (L.appended (log_of ledger.new))
         × (is_denial step ≡ true → L.lacks_room (log_of ledger.new) ≡ true)
-        × (client.new.input.lines ≡ count_on client.old.input.lines line)) }
+        × (client.new.input.lines ≡ count_on client.old.input.lines line)
+        × (client.new.input.since ≡ since_after client.old.conn client.old.input.lines client.old.input.since (step ∷ []))) }
     ensures none { IfOk result (λ found. found ≡ Found.Nothing → (client.new ≡ client.old) × (ledger.new ≡ ledger.old) × (ended (waiting client.old.input) ≡ [])) }
     ensures service { IfOk result (λ found. found ≡ Found.Service → (client.new ≡ client.old) × (ledger.new ≡ ledger.old) × IsAtService client.old) }
     ensures same { OnOk result ((client.new.conn ≡ client.old.conn) × (client.new.phase ≡ client.old.phase) × (client.new.stream ≡ client.old.stream)) }
@@ -139,9 +153,12 @@ fn ask_line<D: Sessions + Drop, L: Log + Drop, S>(
     if is_service(line) {
         return Ok(Found::Service);
     }
+    let held = holds_some(ledger, client.conn);
     ledger.ask_in_room(client.alloc, client.conn, line, &mut client.held)?;
+    let holds = holds_some(ledger, client.conn);
+    let begins = begins_to_hold(held, holds);
     let count = line.len();
-    client.input.pass(count);
+    client.input.pass(count, begins);
     Ok(Found::Asked)
 }
 
@@ -159,7 +176,8 @@ pub fn ask_lines<D: Sessions + Drop, L: Log + Drop, S>(
         × Owes given client.old client.new
         × Makes steps (hub_of ledger.old) (hub_of ledger.new) (L.appended (log_of ledger.old)) (L.appended (log_of ledger.new))
         × AsksWithin client.old steps
-        × (client.new.input.lines ≡ count_on client.old.input.lines taken)) }
+        × (client.new.input.lines ≡ count_on client.old.input.lines taken)
+        × (client.new.input.since ≡ since_after client.old.conn client.old.input.lines client.old.input.since steps)) }
     ensures all { OnOk result (IsAsked client.new) }
     ensures phase { OnOk result (IsAsFar client.old client.new) }
     ensures first { OnOk result (client.new.input.is_first ≡ client.old.input.is_first) }

@@ -1,6 +1,7 @@
 //! A connection: its stream, what came of it and wasn't asked yet, and what it is to be sent. It asks nobody.
 ghost use Rattle.std.specs.Prelude.{◌≡◌, ◌<◌, ◌⊎◌, ◌↔◌, ◌++◌, ◌||◌, ℕ, List, [], length, true, IsTrue, IsFalse};
 ghost use Rattle.mi_hub.specs.Ended.{ended};
+ghost use Rattle.mi_ledger.specs.HeldReplies.{bytes_of};
 ghost use Rattle.mi_clients.specs.Input.{waiting};
 ghost use Rattle.mi_clients.specs.declared.client.Phase.TheVariants as phases;
 
@@ -85,6 +86,8 @@ impl<S> Client<S> {
         ensures none { (waiting result.input ≡ []) × (owed result ≡ []) }
         ensures first { IsTrue result.input.is_first }
         ensures lines { result.input.lines ≡ 0 }
+        ensures since { result.input.since ≡ 0 }
+        ensures held { bytes_of result.held ≡ [] }
         ensures comes { IsTrue result.has_come }
     {
         Client {
@@ -117,6 +120,13 @@ impl<S> Client<S> {
         ensures { result ≡ self.now.input.lines }
     {
         self.input.lines()
+    }
+
+    /// The number of its line with which it last began to hold sessions; 0 where it never did.
+    pub(crate) fn since(&self) -> u64
+        ensures { result ≡ self.now.input.since }
+    {
+        self.input.since()
     }
 
     /// How many bytes of its replies are unsent.
@@ -258,7 +268,10 @@ impl<S: Duplex> Client<S> {
             × StopsReading S.is_dry piece (length buffer.old) self.old self.new }
         ensures contents { Keeps (S.contents self.old.stream) (S.contents self.new.stream) }
         ensures owed { owed self.new ≡ owed self.old }
+        ensures held { self.new.held ≡ self.old.held }
+        ensures ends { self.new.ends ≡ self.old.ends }
         ensures lines { self.new.input.lines ≡ self.old.input.lines }
+        ensures since { self.new.input.since ≡ self.old.input.since }
         ensures broken { self.old.phase ≡ phases.Broken → self.new.phase ≡ phases.Broken }
         ensures goes_on { GoesOn self.new → GoesOn self.old }
         ensures opens { self.new.phase ≡ phases.Open → self.old.phase ≡ phases.Open }
@@ -312,6 +325,7 @@ impl<S: Duplex> Client<S> {
         ensures waits { (self.new.phase ≡ phases.Broken) ⊎ Hears (waiting self.old.input ++ piece.now) [] self.old self.new }
         ensures comes { IsTrue self.new.has_come }
         ensures lines { self.new.input.lines ≡ self.old.input.lines }
+        ensures since { self.new.input.since ≡ self.old.input.since }
         ensures same { self.new ≡ record self.old { input = self.new.input; phase = self.new.phase; has_lines = self.new.has_lines; has_come = self.new.has_come; lines = self.new.lines; all_asked = self.new.all_asked } }
     {
         self.has_come = true;
@@ -328,6 +342,7 @@ impl<S: Duplex> Client<S> {
         requires { ended (waiting self.old.input) ≡ [] }
         ensures ends { (self.new.phase ≡ phases.Broken) ⊎ ((self.new.phase ≡ phases.Ended) × Ends (waiting self.old.input) (waiting self.new.input)) }
         ensures lines { self.new.input.lines ≡ self.old.input.lines }
+        ensures since { self.new.input.since ≡ self.old.input.since }
         ensures same { self.new ≡ record self.old { input = self.new.input; phase = self.new.phase; has_lines = self.new.has_lines; lines = self.new.lines; all_asked = self.new.all_asked } }
     {
         self.has_lines = true;

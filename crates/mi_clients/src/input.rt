@@ -1,5 +1,5 @@
 //! What a connection has sent and wasn't asked yet: whole lines, and the beginning of one. It reads no stream.
-ghost use Rattle.std.specs.Prelude.{◌≡◌, ◌≤◌, ◌++◌, ℕ, List, [], length, drop, OnOk, OnErr, IfOk, IsTrue, MatchOption};
+ghost use Rattle.std.specs.Prelude.{◌≡◌, ◌≤◌, ◌++◌, ℕ, List, [], length, drop, OnOk, OnErr, IfOk, IsTrue, MatchOption, if◌then◌else◌};
 ghost use Rattle.mi_hub.specs.Ended.{ended};
 ghost use Rattle.mi_ledger.specs.Journals.{IsWholeLine};
 ghost use Rattle.mi_clients.specs.Lines.{SameLines, Ends, IsFilled};
@@ -19,11 +19,20 @@ pub struct Input {
     asked: usize,
     /// How many lines of it were asked, as far as 64 bits count.
     lines: u64,
+    /// The number of the line, among these, with which it last began to hold sessions; 0 where it never did.
+    since: u64,
     /// Whether its first line is still to come.
     is_first: bool,
     ghost within: { asked ≤ length bytes.items },
     /// Where its first line is still to come, no whole line waits.
     ghost first: { IsTrue is_first → ended (drop asked bytes.items) ≡ [] },
+}
+
+/// The number of the line with which it last began to hold sessions, where it has asked this line, and that was its number before.
+fn since_line(begins: bool, line: u64, before: u64) -> u64
+    ensures { result ≡ (if begins then line else before) }
+{
+    if begins { line } else { before }
 }
 
 impl Input {
@@ -34,11 +43,13 @@ impl Input {
         ensures none { waiting result ≡ [] }
         ensures first { IsTrue result.is_first }
         ensures lines { result.lines ≡ 0 }
+        ensures since { result.since ≡ 0 }
     {
         Input {
             bytes: Vec::new(alloc),
             asked: 0,
             lines: 0,
+            since: 0,
             is_first: true,
         }
     }
@@ -69,15 +80,24 @@ impl Input {
         self.lines
     }
 
-    /// The first line, of so many bytes, has been asked.
-    pub fn pass(&mut self, count: usize)
+    /// The number of the line with which it last began to hold sessions; 0 where it never did.
+    pub fn since(&self) -> u64
+        ensures { result ≡ self.now.since }
+    {
+        self.since
+    }
+
+    /// The first line, of so many bytes, has been asked. It may have begun to hold sessions by it.
+    pub fn pass(&mut self, count: usize, begins: bool)
         requires { count ≤ length (waiting self.old) }
         ensures waiting { waiting self.new ≡ drop count (waiting self.old) }
         ensures first { self.new.is_first ≡ self.old.is_first }
         ensures lines { self.new.lines ≡ after_line self.old.lines }
+        ensures since { self.new.since ≡ (if begins then after_line self.old.lines else self.old.since) }
     {
         self.asked += count;
         self.lines = self.lines.saturating_add(1);
+        self.since = since_line(begins, self.lines, self.since);
     }
 
     /// What was asked is let go.
@@ -87,6 +107,7 @@ impl Input {
         ensures none { self.new.asked ≡ 0 }
         ensures first { self.new.is_first ≡ self.old.is_first }
         ensures lines { self.new.lines ≡ self.old.lines }
+        ensures since { self.new.since ≡ self.old.since }
     {
         let left = self.bytes.len() - self.asked;
         self.bytes.rotate_left(self.asked);
@@ -106,6 +127,7 @@ impl Input {
         ensures err { OnErr result (waiting self.new ≡ waiting self.old) }
         ensures let_go { kept self.new ≡ waiting self.new }
         ensures lines { self.new.lines ≡ self.old.lines }
+        ensures since { self.new.since ≡ self.old.since }
     {
         self.settle();
         let is_last = is_last(self.is_first, self.waiting(), piece);
@@ -123,6 +145,7 @@ impl Input {
         requires { ended (waiting self.old) ≡ [] }
         ensures ends { OnOk result (Ends (waiting self.old) (waiting self.new)) }
         ensures lines { self.new.lines ≡ self.old.lines }
+        ensures since { self.new.since ≡ self.old.since }
     {
         self.is_first = false;
         match closing(self.waiting()) {

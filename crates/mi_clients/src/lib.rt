@@ -4,6 +4,7 @@
 #![tactic(auto)]
 
 mod asking;
+mod beside;
 mod client;
 mod duplex;
 mod ending;
@@ -20,6 +21,7 @@ mod status;
 mod telling;
 
 pub use asking::part;
+pub use beside::{Beside, end_beside};
 pub use client::Client;
 pub use duplex::Duplex;
 pub use ending::end_asked;

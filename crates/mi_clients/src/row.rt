@@ -4,7 +4,7 @@ ghost use Rattle.std.specs.List.{All, Any};
 ghost use Rattle.std.specs.Io.KnownBytes.{Keeps};
 ghost use Rattle.mi_ledger.specs.Ledger.{hub_of, log_of, IsSettled};
 ghost use Rattle.mi_clients.specs.ServiceLines.{line_of};
-ghost use Rattle.mi_clients.specs.Client.{IsServed, IsAsked, IsHeard, IsSent, IsBusy, IsIdle, IsWhole, GoesOn, AsksWhatCame, BreaksWith, IsSame, IsRead, told};
+ghost use Rattle.mi_clients.specs.Client.{IsServed, IsAsked, IsHeard, IsSent, IsBusy, IsIdle, IsWhole, GoesOn, AsksWhatCame, KnowsSince, BreaksWith, IsSame, IsRead, told};
 ghost use Rattle.mi_clients.specs.Steps.{Step, Makes, given_to, asked_by, GivesOnly, GivesNone, AsksOnly, AsksNone, OnlyAsks, LeavesOthers, TellsNone};
 ghost use Rattle.mi_clients.specs.Row.{ids, inputs, Attends, EachServed, EachAsked, EachUnread, StayersAsked, EachAsFar, OpenOnlyAsk, AllOnlyAsk, Joins, LetsGo, NoneIsOver, Serves, EachWoken};
 ghost use Rattle.mi_clients.specs.Row.{NoneIsWhole, AllBreakWith, NoneHasFailed, EachSame, EachRead, EachUncounted, StayersSame, StayersRead, Admits, TellsWhatIs};
@@ -45,7 +45,7 @@ fn serve<D: Sessions + Drop, L: Log + Drop, S: Duplex>(
         × Makes steps (hub_of ledger.old) (hub_of ledger.new) (L.appended (log_of ledger.old)) (L.appended (log_of ledger.new))
         × AsksWhatCame S.remaining (asked_by client.old.conn steps) client.old client.new
         × LeavesOthers client.old.conn steps × (GoesOn client.new → OnlyAsks client.old.conn steps)
-        × AsksOnly client.old.conn steps × TellsNone steps) }
+        × AsksOnly client.old.conn steps × TellsNone steps × KnowsSince steps client.old client.new) }
     ensures goes_on { OnOk result (GoesOn client.new → GoesOn client.old) }
     ensures asked { OnOk result (IsAsked client.new) }
     ensures whole { OnOk result (¬ IsWhole client.new) }

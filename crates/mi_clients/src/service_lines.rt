@@ -52,6 +52,17 @@ pub(crate) fn ended_in(line: &[u8]) -> Option<u64>
     }
 }
 
+/// What is told beside the others to a line: what the service tells to one of its own, and to another one that there is no place for it.
+pub(crate) fn told_beside<'a>(line: &[u8], status: &'a [u8], schema: &'a [u8]) -> &'a [u8]
+    ensures { result.now ≡ spec.told_beside status.now schema.now line.now }
+{
+    if is_service(line) {
+        told_to(line, status, schema)
+    } else {
+        b"{\"error\":\"places\",\"ok\":false}\n"
+    }
+}
+
 /// What is told to a line of the service: the status or the schema where it asks for one, that a connection is ended where it asks for that,
 /// and else that its form is refused.
 pub(crate) fn told_to<'a>(line: &[u8], status: &'a [u8], schema: &'a [u8]) -> &'a [u8]

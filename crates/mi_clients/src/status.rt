@@ -37,17 +37,48 @@ fn flag_word(flag: bool) -> &'static str
     if flag { "true" } else { "false" }
 }
 
-/// Adds a connection's number, and how many bytes of its replies are unsent.
+/// Adds with which of its lines a connection began to hold sessions, where it holds some.
+fn add_since<S>(
+    alloc: Global,
+    text: &mut String,
+    holder: Option<u64>,
+    client: &Client<S>,
+) -> Result<(), AllocError>
+    ensures { OnOk result (string_bytes text.new ≡ string_bytes text.old ++ spec.since_text holder client.now) }
+{
+    if is_holder(holder, client.conn()) {
+        add_number(alloc, text, client.since())
+    } else {
+        text.push_str("null")
+    }
+}
+
+/// Adds how many bytes of a connection's replies are unsent.
 fn add_unsent<S>(alloc: Global, text: &mut String, client: &Client<S>) -> Result<(), AllocError>
     ensures { OnOk result (string_bytes text.new ≡ string_bytes text.old ++ spec.unsent_text client.now) }
 {
-    add_number(alloc, text, client.conn())?;
     text.push_str(",\"unsent\":")?;
     add_number(alloc, text, client.owed_bytes() as u64)?;
     text.push_str("}")
 }
 
-/// Adds a connection: whether it holds sessions, how many lines it has asked, its number, and how many bytes of its replies are unsent.
+/// Adds a connection's number, since which line it holds sessions, and how many bytes of its replies are unsent.
+fn add_numbered<S>(
+    alloc: Global,
+    text: &mut String,
+    holder: Option<u64>,
+    client: &Client<S>,
+) -> Result<(), AllocError>
+    ensures { OnOk result (string_bytes text.new ≡ string_bytes text.old ++ spec.number_text holder client.now) }
+{
+    add_number(alloc, text, client.conn())?;
+    text.push_str(",\"since\":")?;
+    add_since(alloc, text, holder, client)?;
+    add_unsent(alloc, text, client)
+}
+
+/// Adds a connection: whether it holds sessions, how many lines it has asked, its number, since which line it holds sessions, and how many bytes
+/// of its replies are unsent.
 fn add_connection<S>(
     alloc: Global,
     text: &mut String,
@@ -61,7 +92,7 @@ fn add_connection<S>(
     text.push_str(",\"lines\":")?;
     add_number(alloc, text, client.lines())?;
     text.push_str(",\"number\":")?;
-    add_unsent(alloc, text, client)
+    add_numbered(alloc, text, holder, client)
 }
 
 /// Adds the connections of a row.

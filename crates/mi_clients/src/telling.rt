@@ -24,10 +24,10 @@ use mi_sessions::Sessions;
 use std::alloc::Global;
 
 /// What is told where memory for the status is refused.
-const MEMORY: &[u8] = b"{\"error\":\"memory\",\"ok\":false}\n";
+pub(crate) const MEMORY: &[u8] = b"{\"error\":\"memory\",\"ok\":false}\n";
 
 /// Bytes that were released, and a text behind them, wait for the stream. Without room for them the connection is broken.
-fn put_behind<S>(client: &mut Client<S>, released: Vec<u8>, text: &[u8])
+pub(crate) fn put_behind<S>(client: &mut Client<S>, released: Vec<u8>, text: &[u8])
     ensures unsent { ((client.new.phase ≡ phases.Broken) × (unsent client.new.output ≡ unsent client.old.output))
         ⊎ ((client.new.phase ≡ client.old.phase) × (unsent client.new.output ≡ unsent client.old.output ++ (released.items ++ text.now))) }
     ensures input { client.new.input ≡ client.old.input }
@@ -91,7 +91,7 @@ fn tell<D: Sessions + Drop, L: Log + Drop, S>(
     let text = told_to(line, status, schema.as_slice());
     let ends = ended_in(line);
     let count = line.len();
-    client.input.pass(count);
+    client.input.pass(count, false);
     client.ends = ends;
     give(ledger, client, text)?;
     Ok(())
@@ -121,7 +121,20 @@ fn tell_each<D: Sessions + Drop, L: Log + Drop, S: Duplex>(
     Ok(())
 }
 
-/// The line of the status, where a connection of a row asks the service something. None where memory for it is refused.
+/// The line of the status of a row, a hub and its journal. None where memory for it is refused.
+pub(crate) fn status_now<D: Sessions + Drop, L: Log + Drop, S>(
+    alloc: Global,
+    ledger: &Ledger<D, L>,
+    row: &[Client<S>],
+    seconds: u64,
+) -> Option<String>
+    ensures { IfSome result (λ line. (journal : LogState) × IsStateOf (L.appended (log_of ledger.now)) (L.lacks_room (log_of ledger.now)) journal
+        × (string_bytes line ≡ status_line row.now (hub_of ledger.now) journal seconds)) }
+{
+    status_line(alloc, ledger.hub(), ledger.log().state(), seconds, row).ok()
+}
+
+/// The same where a connection of the row asks the service something.
 fn status_if_asked<D: Sessions + Drop, L: Log + Drop, S>(
     alloc: Global,
     ledger: &Ledger<D, L>,
@@ -134,7 +147,7 @@ fn status_if_asked<D: Sessions + Drop, L: Log + Drop, S>(
     if !row.iter().any(|client| client.service_line().is_some()) {
         return None;
     }
-    status_line(alloc, ledger.hub(), ledger.log().state(), seconds, row).ok()
+    status_now(alloc, ledger, row, seconds)
 }
 
 /// Tells each connection of a row what it asks of the service: the status of these connections and this hub, the schema, or that its form is

@@ -20,6 +20,10 @@ room_line = codes "{\"error\":\"journal\",\"ok\":false}\n"
 abbrev pub undo_room : ℕ
 undo_room = SHORT_UNDO * MAX_SESSIONS
 
+-- How much room is there where a log lacks none: for the longest line with its newline, and for undoing behind it. It is the same for each line.
+abbrev pub change_room : ℕ
+change_room = undo_room + (MAX_LINE + 1)
+
 -- whether a request undoes sessions, where some are open
 abbrev pub undoes_some : ℕ → Request → Bool
 undoes_some depth (request.Session session.Undo) = nat_le 1 depth

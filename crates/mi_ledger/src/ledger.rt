@@ -9,12 +9,12 @@ ghost use Rattle.mi_replay.specs.Acts.{leaves};
 ghost use Rattle.mi_ledger.specs.HeldReplies.{bytes_of};
 ghost use Rattle.mi_ledger.specs.Ledger.{is_conn, holder_conn};
 ghost use Rattle.mi_ledger.specs.Journals.{IsWholeLine, Journals, Asks};
-ghost use Rattle.mi_ledger.specs.Room.{NeedsNoRoom, IsTurnedAway, undo_room};
+ghost use Rattle.mi_ledger.specs.Room.{NeedsNoRoom, IsTurnedAway, undo_room, change_room};
 ghost use Rattle.mi_model.specs.Database.{depth};
 
 use crate::fault::LedgerFault;
 use crate::replies::HeldReplies;
-use crate::room::{KEPT_ROOM, waits_for_room};
+use crate::room::{CHANGE_ROOM, waits_for_room};
 use mi_hub::{Hub, HubFault};
 use mi_log::Log;
 use mi_sessions::Sessions;
@@ -153,8 +153,10 @@ impl<D: Sessions + Drop, L: Log + Drop> Ledger<D, L> {
         }
     }
 
-    /// The same where the journal has room for the line, and for undoing all sessions behind it. Where it has none a change is turned away,
+    /// The same where the journal has room for the longest line, and for undoing all sessions behind it. Where it has none a change is turned away,
     /// but for a short undo of a session that is open, for which room is kept; what is no change is asked. Its reply goes to those that are held.
+    ///
+    /// Each line asks for that room, whatever it is. So behind a line the log lacks room just where a change of any length would be turned away.
     ///
     /// `Memory` where a reply has no room, and then nothing was appended; `Journal` where the line isn't appended whole.
     pub fn ask_in_room(
@@ -171,6 +173,7 @@ impl<D: Sessions + Drop, L: Log + Drop> Ledger<D, L> {
         ensures room { result ≡ Ok Admitted.Asked
             → ((L.lacks_room (log_of self.new) ≡ false) × (undo_room ≤ L.room_left (log_of self.new)))
             ⊎ NeedsNoRoom (depth (hub_of self.old).held.database) line.now }
+        ensures full { OnOk result (L.lacks_room (log_of self.new) ≡ false → change_room ≤ L.room_left (log_of self.new) + length line.now) }
         ensures turned_away { result ≡ Ok Admitted.TurnedAway → (out : List ℕ) × (bytes_of replies.new ≡ bytes_of replies.old ++ out)
             × IsTurnedAway (depth (hub_of self.old).held.database) line.now out × (L.lacks_room (log_of self.new) ≡ true)
             × (hub_of self.new ≡ hub_of self.old) × (L.appended (log_of self.new) ≡ L.appended (log_of self.old)) }
@@ -179,17 +182,18 @@ impl<D: Sessions + Drop, L: Log + Drop> Ledger<D, L> {
         ensures makes_stay { L.makes_stay (log_of self.new) ≡ L.makes_stay (log_of self.old) }
         ensures settled { IsSettled L.appended L.synced self.old → IsSettled L.appended L.synced self.new }
     {
-        let wanted = (line.len() as u64).saturating_add(KEPT_ROOM);
-        if !self.log.make_room(wanted) {
-            if let Some(reply) = self.turned_away(alloc, line) {
-                return match replies.add(reply) {
-                    Ok(()) => Ok(Admitted::TurnedAway),
-                    Err(_error) => Err(LedgerFault::Memory),
-                };
-            }
+        if self.log.make_room(CHANGE_ROOM) {
+            self.ask(conn, line, replies)?;
+            return Ok(Admitted::Asked);
         }
-        self.ask(conn, line, replies)?;
-        Ok(Admitted::Asked)
+        let Some(reply) = self.turned_away(alloc, line) else {
+            self.ask(conn, line, replies)?;
+            return Ok(Admitted::Asked);
+        };
+        match replies.add(reply) {
+            Ok(()) => Ok(Admitted::TurnedAway),
+            Err(_error) => Err(LedgerFault::Memory),
+        }
     }
 
     /// The reply to a line that there is no room for, where it is to be turned away.

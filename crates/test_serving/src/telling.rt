@@ -5,7 +5,7 @@ ghost use Rattle.mi_ledger.specs.Ledger.{hub_of, log_of, IsSettled};
 ghost use Rattle.mi_clients.specs.Row.{ids, Attends};
 
 use crate::tests::hub;
-use mi_clients::{Client, Duplex, SchemaLine, admit, end_asked, serve_all};
+use mi_clients::{Beside, Client, Duplex, SchemaLine, admit, end_asked, end_beside, serve_all};
 use mi_ledger::Ledger;
 use mi_log::{DeviceLog, Log, MemoryDevice};
 use mi_plain::Plain;
@@ -139,9 +139,26 @@ fn the_status_of_two(rt: HostRuntime) -> Result<(), Fail> {
         b"{\"service\":\"status\"}\n",
     )?;
     let want =
-        b"{\"connections\":[{\"holds\":true,\"lines\":1,\"number\":2,\"unsent\":25},{\"holds\":false,\"lines\":0,\"number\":3,\"unsent\":0}],\
+        b"{\"connections\":[{\"holds\":true,\"lines\":1,\"number\":2,\"since\":1,\"unsent\":25},{\"holds\":false,\"lines\":0,\"number\":3,\"since\":null,\"unsent\":0}],\
 \"depth\":1,\"holder\":2,\"journal\":{\"bytes\":16,\"full\":false},\"ok\":true,\"tables\":[{\"name\":\"accounts\",\"size\":0}],\"uptime\":7,\"version\":\"0.1.0\"}\n";
     assert!(rt; out.as_slice() == want.as_slice());
+    Ok(())
+}
+
+/// A connection that holds a session, undoes it, and starts two: it holds since the line that started the first of these.
+#[test]
+fn a_holder_is_told_with_its_line(rt: HostRuntime) -> Result<(), Fail> {
+    let out = replied(
+        rt.alloc(),
+        b"",
+        b"{\"cmd\":\"size\"}\n{\"cmd\":\"start\"}\n{\"cmd\":\"undo\"}\n{\"cmd\":\"size\"}\n{\"cmd\":\"start\"}\n{\"cmd\":\"start\"}\n\
+{\"service\":\"status\"}\n",
+    )?;
+    let want =
+        b"{\"connections\":[{\"holds\":false,\"lines\":0,\"number\":2,\"since\":null,\"unsent\":0},\
+{\"holds\":true,\"lines\":6,\"number\":3,\"since\":5,\"unsent\":142}],\
+\"depth\":2,\"holder\":3,\"journal\":{\"bytes\":63,\"full\":false},\"ok\":true,\"tables\":[{\"name\":\"accounts\",\"size\":0}],\"uptime\":7,\"version\":\"0.1.0\"}\n";
+    assert!(rt; out.ends_with(want));
     Ok(())
 }
 
@@ -159,12 +176,15 @@ fn lines_keep_their_turns(rt: HostRuntime) -> Result<(), Fail> {
     Ok(())
 }
 
-/// Behind a start there is room for four bytes more than for undoing all sessions: a change waits, look-ups and the undo don't.
+/// Bytes of room that a change asks for: the longest line, its newline, and 64 bytes for each of 1,024 sessions.
+const ASKED_ROOM: usize = 65_536 + 1 + 65_536;
+
+/// Behind a start there is a byte of room less than a change asks for: each waits, look-ups and the undo don't.
 #[test]
 fn a_full_journal_turns_changes_away(rt: HostRuntime) -> Result<(), Fail> {
     let out = replied_in(
         rt.alloc(),
-        65_536 + 20,
+        ASKED_ROOM + 15,
         b"",
         b"{\"cmd\":\"start\"}\n{\"cmd\":\"insert\",\"row\":{\"owner\":\"ann\",\"balance\":50,\"vip\":false}}\n{\"cmd\":\"size\"}\n\
 {\"cmd\":\"undo\"}\n{\"cmd\":\"start\"}\n{\"cmd\":\"revision\"}\n",
@@ -172,6 +192,24 @@ fn a_full_journal_turns_changes_away(rt: HostRuntime) -> Result<(), Fail> {
     let want =
         b"{\"ok\":true,\"revision\":1}\n{\"error\":\"journal\",\"ok\":false}\n{\"ok\":true,\"size\":0}\n{\"ok\":true,\"revision\":0}\n\
 {\"error\":\"journal\",\"ok\":false}\n{\"depth\":0,\"held\":0,\"ok\":true,\"revision\":0}\n";
+    assert!(rt; out.as_slice() == want.as_slice());
+    Ok(())
+}
+
+/// A journal that was full for a change is full behind a look-up too, whose line is shorter.
+#[test]
+fn a_look_up_leaves_a_journal_full(rt: HostRuntime) -> Result<(), Fail> {
+    let out = replied_in(
+        rt.alloc(),
+        ASKED_ROOM + 15,
+        b"",
+        b"{\"cmd\":\"start\"}\n{\"cmd\":\"insert\",\"row\":{\"owner\":\"ann\",\"balance\":50,\"vip\":false}}\n{\"cmd\":\"size\"}\n\
+{\"service\":\"status\"}\n",
+    )?;
+    let want =
+        b"{\"ok\":true,\"revision\":1}\n{\"error\":\"journal\",\"ok\":false}\n{\"ok\":true,\"size\":0}\n\
+{\"connections\":[{\"holds\":false,\"lines\":0,\"number\":2,\"since\":null,\"unsent\":0},{\"holds\":true,\"lines\":3,\"number\":3,\"since\":1,\"unsent\":77}],\
+\"depth\":1,\"holder\":3,\"journal\":{\"bytes\":16,\"full\":true},\"ok\":true,\"tables\":[{\"name\":\"accounts\",\"size\":0}],\"uptime\":7,\"version\":\"0.1.0\"}\n";
     assert!(rt; out.as_slice() == want.as_slice());
     Ok(())
 }
@@ -195,5 +233,50 @@ fn a_holder_is_ended(rt: HostRuntime) -> Result<(), Fail> {
     let refused =
         b"{\"ok\":true}\n{\"ok\":true,\"schema\":\"a \\\"t\\\"\\n\"}\n{\"error\":\"busy\",\"ok\":false}\n";
     assert!(rt; kept.as_slice() == refused.as_slice());
+    Ok(())
+}
+
+/// A connection beside connection 2 is served four times, and what it has asked to end is ended. Whether connection 2 is gone then, nobody holds
+/// sessions, and the other one is there.
+fn serve_beside<'a>(alloc: Global, first: Pipe<'a>, other: Pipe<'a>) -> Result<bool, Fail> {
+    let log = DeviceLog::new(MemoryDevice::new(alloc, 100, 100));
+    let mut ledger = Ledger::<Plain, DeviceLog<MemoryDevice>>::new(hub(alloc)?, log);
+    let mut row = Vec::new(alloc);
+    come(alloc, &mut ledger, &mut row, 2, first)?;
+    turn(alloc, &mut ledger, &mut row)?;
+    let schema = SchemaLine::of(alloc, "a \"t\"\n")?;
+    let mut buffer = [0u8; 4096];
+    let mut beside = Beside::new();
+    beside.seat(alloc, 3, other);
+    for _line in 0..4u64 {
+        beside.serve(alloc, &ledger, row.as_slice(), &mut buffer, &schema, 7);
+    }
+    end_beside(&mut beside, &mut row);
+    turn(alloc, &mut ledger, &mut row)?;
+    Ok(row.is_empty() && ledger.hub().holder().is_none() && !beside.is_free())
+}
+
+/// Beside the others a line of the tables is refused and changes nothing, a status is told, and a holder is ended.
+#[test]
+fn one_is_served_beside_the_others(rt: HostRuntime) -> Result<(), Fail> {
+    let alloc = rt.alloc();
+    let (unheard, out) = (Cell::new(Vec::new(alloc)), Cell::new(Vec::new(alloc)));
+    let first = Pipe {
+        alloc,
+        bytes: b"{\"cmd\":\"start\"}\n",
+        out: &unheard,
+    };
+    let other = Pipe {
+        alloc,
+        bytes: b"{\"cmd\":\"undo\"}\n{\"service\":\"status\"}\n{\"service\":\"end\",\"connection\":2}\n",
+        out: &out,
+    };
+    assert!(rt; serve_beside(alloc, first, other)?);
+    let want =
+        b"{\"error\":\"places\",\"ok\":false}\n{\"connections\":[{\"holds\":true,\"lines\":1,\"number\":2,\"since\":1,\"unsent\":0}],\
+\"depth\":1,\"holder\":2,\"journal\":{\"bytes\":16,\"full\":false},\"ok\":true,\"tables\":[{\"name\":\"accounts\",\"size\":0}],\"uptime\":7,\"version\":\"0.1.0\"}\n\
+{\"ok\":true}\n";
+    let out = out.replace(Vec::new(alloc));
+    assert!(rt; out.as_slice() == want.as_slice());
     Ok(())
 }

@@ -10,7 +10,8 @@ use Rattle.mi_clients.specs.declared.input.Input.{Input}
 use Rattle.mi_clients.specs.declared.client.Phase.TheVariants.{Broken}
 use Rattle.mi_clients.proofs.InputLemmas.{count_join}
 use Rattle.mi_clients.proofs.StepLemmas.{makes_none, makes_then, makes_kept, asks_of, asks_more, waits_more}
-use Rattle.mi_clients.proofs.ServedLemmas.{owes_none, owes_more, owes_reply, far_then, room_left}
+use Rattle.mi_clients.proofs.SinceLemmas.{since_more}
+use Rattle.mi_clients.proofs.ServedLemmas.{asks_taken, owes_none, owes_more, owes_reply, far_then, room_left}
 use Rattle.mi_clients.proofs.asking.ask_lines.Goals as goal
 
 pub lines-init : goal.lines-init
@@ -27,6 +28,7 @@ lines-init g c = record {
   within = inl refl;
   first = refl;
   lines = refl;
+  since = refl;
   idle = λ no. refl;
   makes = makes_none _ _ _ (Keeps-refl _);
 }
@@ -66,6 +68,10 @@ lines-preserved g c =
       first = ap (λ (i : Input). i.is_first) c.in_ok-release_each-in-Asked.ensures.input ∙ c.in_ok-ask_line.ensures.first ∙ before.first;
       lines = ap (λ (i : Input). i.lines) c.in_ok-release_each-in-Asked.ensures.input ∙ one.9 ∙ ap (λ n. count_on n one.0) before.lines
           ∙ sym (count_join c.args.client.now.input.lines before.taken one.0);
+      since = ap (λ (i : Input). i.since) c.in_ok-release_each-in-Asked.ensures.input
+          ∙ since_more c.lines.client.conn conn c.args.client.now.input.lines c.args.client.now.input.since c.lines.client.input.lines
+          c.lines.client.input.since c.ask_line.new.client.input.since before.steps step before.taken before.owes.conn before.lines before.since
+          (asks_taken conn before.steps before.taken before.given before.own) one.10;
       idle = λ no. absurd (no (subst (λ (x : Client _). MayAsk x) (before.idle no) (c.may_ask.ensures.may.0 c.lines-test.true)));
       makes = makes_kept (before.steps ++ step ∷ []) _ (hub_of c.ask_line.new.ledger) _ _ _ _
           (makes_then before.steps (step ∷ []) _ (hub_of c.lines.ledger) _ _ _ _ before.makes one.7)

@@ -1,6 +1,6 @@
 use Rattle.std.proofs.Common.{◌≡◌, ◌++◌, ℕ, List, length}
 use Rattle.mi_ledger.specs.Ledger.{hub_of, log_of, IsSettled}
-use Rattle.mi_clients.specs.Steps.{Step, Makes, AreAsks}
+use Rattle.mi_clients.specs.Steps.{Step, Makes, AreAsks, since_after}
 use Rattle.mi_clients.specs.Input.{waiting, count_on}
 use Rattle.mi_clients.specs.Client.{Owes, IsAsFar, AsksWithin, MayAsk}
 use Rattle.mi_clients.proofs.asking.ask_lines.Given as goal
@@ -20,6 +20,7 @@ invariant-lines g l = record {
   within : AsksWithin l.fn.client steps;
   first : l.client.input.is_first ≡ l.fn.client.input.is_first;
   lines : l.client.input.lines ≡ count_on l.fn.client.input.lines taken;
+  since : l.client.input.since ≡ since_after l.fn.client.conn l.fn.client.input.lines l.fn.client.input.since steps;
   idle : ¬ MayAsk l.fn.client → l.client ≡ l.fn.client;
   makes : Makes steps (hub_of l.fn.ledger) (hub_of l.ledger) (g.L.Log.appended (log_of l.fn.ledger)) (g.L.Log.appended (log_of l.ledger));
 }

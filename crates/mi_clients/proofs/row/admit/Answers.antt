@@ -20,7 +20,7 @@ returns-in-Ok-clause-comes g c =
     on_ok_weaker c.seat.result (λ items. (
       comes c.args.conn ∷ [],
       comes_none_given c.args.conn,
-      subst (Joins row) (sym items) (joins_one row c.new.result (c.new.ensures.open, c.new.ensures.none.0, c.new.ensures.none.1, new, c.new.ensures.first, c.new.ensures.lines)),
+      subst (Joins row) (sym items) (joins_one row c.new.result (c.new.ensures.open, c.new.ensures.none.0, c.new.ensures.none.1, new, c.new.ensures.first, c.new.ensures.lines, c.new.ensures.since)),
       comes_makes c.args.conn (hub_of c.args.ledger.now) (hub_of c.attach.new.self) _ _ c.in-Ok.ensures.ok kept,
       only_others c.args.conn (comes c.args.conn ∷ []) (ids row) (λ k other. (other, tt)) none,
       λ k. refl,
@@ -33,7 +33,7 @@ returns-in-Ok-clause-admits g c =
     (none_of_attended c.args.conn (ids row) (hub_of c.args.ledger.now) (hub_of c.attach.new.self) c.requires.attends c.in-Ok.ensures.ok) in
     if_ok_with c.seat.result (λ admission is items.
     subst (Admits c.args.conn c.args.stream (hub_of c.args.ledger.now) (hub_of c.attach.new.self) row c.seat.new.row.items) (sym is)
-    (c.new.result, items, c.new.ensures.conn, c.new.ensures.stream, (c.new.ensures.open, c.new.ensures.none.0, c.new.ensures.none.1, new, c.new.ensures.first, c.new.ensures.lines)))
+    (c.new.result, items, c.new.ensures.conn, c.new.ensures.stream, (c.new.ensures.open, c.new.ensures.none.0, c.new.ensures.none.1, new, c.new.ensures.first, c.new.ensures.lines, c.new.ensures.since)))
     c.seat.ensures.says c.seat.ensures.seated
 
 pub returns-in-Ok-clause-attends : goal.returns-in-Ok-clause-attends

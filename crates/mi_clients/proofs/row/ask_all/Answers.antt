@@ -4,12 +4,12 @@ use Rattle.std.specs.List.{All}
 use Rattle.std.proofs.KnownBytes.{Keeps-refl}
 use Rattle.std.specs.Prelude.{slice_set}
 use Rattle.mi_ledger.specs.Ledger.{hub_of}
-use Rattle.mi_clients.specs.Client.{IsAsked, IsIdle, AsksWhatCame}
+use Rattle.mi_clients.specs.Client.{IsAsked, IsIdle}
 use Rattle.mi_clients.specs.declared.client.Client.{Client}
 use Rattle.mi_clients.specs.Row.{ids, Attends, EachServed, EachAsked, OpenOnlyAsk}
 use Rattle.mi_clients.proofs.StepLemmas.{makes_none, makes_then}
 use Rattle.mi_clients.proofs.RowLemmas.{ids_set, attends_at, holds_none, holds_set, holds_all, done_set, done_next, whole_row, true_false}
-use Rattle.mi_clients.proofs.ServedLemmas.{nothing_given, each_none, each_set, each_then, opens_none, opens_set, AskedTo, asked_to_none, asked_to_set, asked_to_all}
+use Rattle.mi_clients.proofs.ServedLemmas.{nothing_given, each_none, each_set, each_then, opens_none, opens_set, AskedTo, CameKnown, known_front, known_behind, asked_to_none, asked_to_set, asked_to_all}
 use Rattle.mi_clients.proofs.StreamLemmas.{Attended, attended_all}
 use Rattle.mi_clients.proofs.TellLemmas.{quiet_join}
 use Rattle.mi_clients.proofs.row.ask_all.Goals as goal
@@ -23,8 +23,8 @@ loop-client-init g c = record {
   each = subst (EachServed g.S.Duplex.contents [] c.args.row.now.items) (sym c.deref_mut-client-items.ensures.value)
       (each_none g.S.Duplex.contents [] c.args.row.now.items nothing_given);
   done = c.deref_mut-client-items.ensures.value;
-  came = subst (AskedTo (λ t o y. AsksWhatCame g.S.Duplex.remaining t o y) [] 0 c.args.row.now.items) (sym c.deref_mut-client-items.ensures.value)
-      (asked_to_none (λ t o y. AsksWhatCame g.S.Duplex.remaining t o y) c.args.row.now.items);
+  came = subst (AskedTo (λ zs o y. CameKnown g.S.Duplex.remaining zs o y) [] 0 c.args.row.now.items) (sym c.deref_mut-client-items.ensures.value)
+      (asked_to_none (λ zs o y. CameKnown g.S.Duplex.remaining zs o y) c.args.row.now.items);
   quiet = tt;
   opens = opens_none _;
   makes = makes_none _ _ _ (Keeps-refl _);
@@ -54,9 +54,9 @@ loop-client-preserved g c =
       done = done_set (λ x y. Attended g.S.Duplex.handle g.S.Duplex.reads g.S.Duplex.has_failed x y) c.args.row.now.items row at c.client-item.result
           c.serve.new.client within
           (c.in_ok-serve.ensures.same, c.in_ok-serve.ensures.read, c.in_ok-serve.ensures.broken, c.in_ok-serve.ensures.whole) before.done;
-      came = subst (λ n. AskedTo (λ t o y. AsksWhatCame g.S.Duplex.remaining t o y) (before.steps ++ one.0) n c.args.row.now.items (slice_set row at c.serve.new.client)) one_more
-          (asked_to_set (λ t o y. AsksWhatCame g.S.Duplex.remaining t o y) before.steps one.0 c.args.row.now.items row at c.client-item.result c.serve.new.client before.attends.differ
-          within one.7 one.2.conn one.4 before.came);
+      came = subst (λ n. AskedTo (λ zs o y. CameKnown g.S.Duplex.remaining zs o y) (before.steps ++ one.0) n c.args.row.now.items (slice_set row at c.serve.new.client)) one_more
+          (asked_to_set (λ zs o y. CameKnown g.S.Duplex.remaining zs o y) (known_front g.S.Duplex.remaining) (known_behind g.S.Duplex.remaining) before.steps one.0 c.args.row.now.items row at c.client-item.result c.serve.new.client before.attends.differ
+          within one.7 one.2.conn (one.4, one.9) before.came);
       quiet = quiet_join before.steps one.0 before.quiet one.8;
       opens = opens_set before.steps one.0 row at c.client-item.result c.serve.new.client before.attends.differ within one.5 one.2.conn
           c.in_ok-serve.ensures.goes_on one.6 before.opens;
@@ -77,7 +77,7 @@ returns-clause-serves g c =
       before.makes,
       subst (OpenOnlyAsk before.steps) (sym all) before.opens,
       subst (EachAsked g.S.Duplex.remaining before.steps old) (sym all)
-          (asked_to_all (λ t o y. AsksWhatCame g.S.Duplex.remaining t o y) before.steps old row c.loop-client.client-index before.came le),
+          (asked_to_all (λ zs o y. CameKnown g.S.Duplex.remaining zs o y) before.steps old row c.loop-client.client-index before.came le),
       before.quiet,
     )
 

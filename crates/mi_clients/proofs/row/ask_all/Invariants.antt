@@ -2,10 +2,10 @@ use Rattle.std.proofs.Common.{List}
 use Rattle.mi_ledger.specs.Ledger.{hub_of, log_of, IsSettled}
 use Rattle.mi_clients.specs.Steps.{Step, Makes, TellsNone}
 use Rattle.mi_clients.specs.Row.{ids, Attends, EachServed, OpenOnlyAsk}
-use Rattle.mi_clients.specs.Client.{IsAsked, AsksWhatCame}
+use Rattle.mi_clients.specs.Client.{IsAsked}
 use Rattle.mi_clients.proofs.RowLemmas.{HoldsTo, DoneTo}
 use Rattle.mi_clients.proofs.StreamLemmas.{Attended}
-use Rattle.mi_clients.proofs.ServedLemmas.{AskedTo}
+use Rattle.mi_clients.proofs.ServedLemmas.{AskedTo, CameKnown}
 use Rattle.mi_clients.proofs.row.ask_all.Given as goal
 
 -- the row stays what the hub has attached, the first are asked, each was given the replies to its own lines, and no session of an open one was
@@ -18,7 +18,7 @@ invariant-loop-client g l = record {
   asked : HoldsTo (λ c. IsAsked c) l.client-index l.client-items;
   each : EachServed g.S.Duplex.contents steps l.fn.row.items l.client-items;
   done : DoneTo (λ old new. Attended g.S.Duplex.handle g.S.Duplex.reads g.S.Duplex.has_failed old new) l.client-index l.fn.row.items l.client-items;
-  came : AskedTo (λ t o y. AsksWhatCame g.S.Duplex.remaining t o y) steps l.client-index l.fn.row.items l.client-items;
+  came : AskedTo (λ zs o y. CameKnown g.S.Duplex.remaining zs o y) steps l.client-index l.fn.row.items l.client-items;
   quiet : TellsNone steps;
   opens : OpenOnlyAsk steps l.client-items;
   makes : Makes steps (hub_of l.fn.ledger) (hub_of l.ledger) (g.L.Log.appended (log_of l.fn.ledger)) (g.L.Log.appended (log_of l.ledger));

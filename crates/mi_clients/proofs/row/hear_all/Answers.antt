@@ -2,11 +2,11 @@
 use Rattle.std.proofs.Common.{◌++◌, inl, refl}
 use Rattle.std.proofs.lemmas.Result.{on_ok_weaker}
 use Rattle.mi_ledger.specs.Ledger.{hub_of, log_of}
-use Rattle.mi_clients.specs.Client.{IsServed, AsksWhatCame}
+use Rattle.mi_clients.specs.Client.{IsServed}
 use Rattle.mi_clients.specs.ServiceLines.{line_of}
-use Rattle.mi_clients.specs.Steps.{given_to, asked_by}
+use Rattle.mi_clients.specs.Steps.{given_to}
 use Rattle.mi_clients.proofs.StepLemmas.{makes_then}
-use Rattle.mi_clients.proofs.ServedLemmas.{each_then, zip_from, zip_both, in_from, in_to}
+use Rattle.mi_clients.proofs.ServedLemmas.{CameKnown, each_then, zip_from, zip_both, in_from, in_to}
 use Rattle.mi_clients.proofs.TellLemmas.{each_heard, each_came_told, opens_told, whole_told, same_told, read_told, breaks_told, quiet_so, so_join}
 use Rattle.mi_clients.proofs.row.hear_all.Goals as goal
 
@@ -23,7 +23,7 @@ returns-clause-serves g c =
       each_then contents asked.0 told.0 a b m asked.1 told.5,
       makes_then asked.0 told.0 _ (hub_of c.ask_all.new.ledger) _ _ _ _ asked.2 told.7,
       opens_told asked.0 told.0 b m asked.3 told.6 told.3,
-      each_came_told contents g.S.Duplex.remaining asked.0 told.0 a b m asked.1 asked.4 told.6,
+      each_came_told contents g.S.Duplex.remaining asked.0 told.0 a b m asked.1 asked.4 told.6 told.3,
       each_heard asked.0 told.0 b m c.in_ok-ask_all.ensures.asked told.6 told.3,
       record {
         first = asked.0;
@@ -36,10 +36,10 @@ returns-clause-serves g c =
         attends = c.in_ok-ask_all.ensures.attends;
         from = λ x h.
             let r = zip_from (λ old new. IsServed contents (given_to old.conn asked.0) old new
-            × AsksWhatCame g.S.Duplex.remaining (asked_by old.conn asked.0) old new) a b x
+            × CameKnown g.S.Duplex.remaining asked.0 old new) a b x
             (zip_both (λ old new. IsServed contents (given_to old.conn asked.0) old new)
-            (λ old new. AsksWhatCame g.S.Duplex.remaining (asked_by old.conn asked.0) old new) a b asked.1 asked.4) (in_from b x h) in
-            (r.0, inl (in_to a r.0 r.1), r.2.0, r.2.1.4);
+            (λ old new. CameKnown g.S.Duplex.remaining asked.0 old new) a b asked.1 asked.4) (in_from b x h) in
+            (r.0, inl (in_to a r.0 r.1), r.2.0, r.2.1.0.4, r.2.1.1);
         status = told.1;
         «is» = told.2;
         told = so_join told.1 schema asked.0 told.0 (quiet_so told.1 schema asked.0 asked.5) told.4;

@@ -6,7 +6,9 @@ use Rattle.mi_clients.specs.Client.{MayAsk, IsWhole}
 use Rattle.mi_clients.specs.declared.client.Client.{Client}
 use Rattle.mi_clients.specs.Steps.{AreAsks, AreUndos, asked_by}
 use Rattle.mi_clients.proofs.StepLemmas.{makes_then}
-use Rattle.mi_clients.proofs.ServedLemmas.{on_ok_all, on_ok_both, asked_still, served_read, served_whole, taken_in, asks_others, asks_alone, came_whole, went_on, on_alone, serve_asks_only}
+use Rattle.mi_clients.specs.declared.input.Input.{Input}
+use Rattle.mi_clients.proofs.SinceLemmas.{since_served}
+use Rattle.mi_clients.proofs.ServedLemmas.{undos_taken, on_ok_all, on_ok_both, asked_still, served_read, served_whole, taken_in, asks_others, asks_alone, came_whole, went_on, on_alone, serve_asks_only}
 use Rattle.mi_clients.proofs.TellLemmas.{quiet_join, asks_quiet, undos_quiet}
 use Rattle.mi_clients.proofs.StreamLemmas.{same_owes, same_then, breaks_owes}
 use Rattle.mi_clients.proofs.row.serve.Goals as goal
@@ -37,6 +39,9 @@ returns-clause-serves g c =
       λ on. asks_alone old.conn asked.0 undone.0 asked.1 asked.2 own (on_alone mid last undone.0 settled undone.4 input on),
       serve_asks_only old.conn asked.0 undone.0 asked.1 asked.2 own gone,
       quiet_join asked.0 undone.0 (asks_quiet old.conn asked.0 asked.1 asked.2 own) (undos_quiet old.conn undone.0 gone),
+      since_served read.conn old.conn old.input.lines old.input.since read.input.lines read.input.since mid.input.since last.input.since asked.0 undone.0
+          c.read.ensures.same.0 c.read.ensures.lines c.read.ensures.since asked.9 (undos_taken old.conn old.conn undone.0 gone)
+          (ap (λ (i : Input). i.since) input),
     )) c.settle.ensures.undoes c.settle.ensures.none c.settle.ensures.input
 
 pub returns-clause-goes_on : goal.returns-clause-goes_on

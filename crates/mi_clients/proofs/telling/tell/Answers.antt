@@ -48,7 +48,8 @@ returns-clause-tells g c =
       subst (λ t. Takes t old new) (sym (tells_one_asked old.conn line text))
           (takes_line line old new may.0 (line_some line may.1) gave.owes.conn gave.owes.stream waits
           (ap (λ (i : Input). i.is_first) gave.input ∙ c.pass.ensures.first)
-          (ap (λ (i : Input). i.lines) gave.input ∙ c.pass.ensures.lines ∙ sym (count_line old.input.lines line may.1)) gave.far gave.has_lines (gave.ends ∙ c.ended_in-ends.ensures)),
+          (ap (λ (i : Input). i.lines) gave.input ∙ c.pass.ensures.lines ∙ sym (count_line old.input.lines line may.1))
+          (ap (λ (i : Input). i.since) gave.input ∙ c.pass.ensures.since) gave.far gave.has_lines (gave.ends ∙ c.ended_in-ends.ensures)),
       makes_kept (tells old.conn line text ∷ []) (hub_of c.args.ledger.now) (hub_of c.args.ledger.now) (hub_of c.give.new.ledger) _ _ _
           (tells_makes old.conn line text (hub_of c.args.ledger.now) _ _ may.2 some (Keeps-refl _)) c.give.ensures.hub c.give.ensures.appended,
     )

@@ -7,10 +7,10 @@ use Rattle.mi_ledger.specs.Ledger.{hub_of}
 use Rattle.mi_clients.specs.Client.{Takes}
 use Rattle.mi_clients.specs.Row.{ids, Attends, EachServed, EachTakes}
 use Rattle.mi_clients.specs.ServiceLines.{line_of}
-use Rattle.mi_clients.specs.Steps.{given_to}
+use Rattle.mi_clients.specs.Steps.{given_to, asked_by}
 use Rattle.mi_clients.proofs.StepLemmas.{makes_none, makes_then}
 use Rattle.mi_clients.proofs.RowLemmas.{ids_set, whole_row}
-use Rattle.mi_clients.proofs.ServedLemmas.{nothing_given, each_none, each_set, each_then, served_owes, AskedTo, asked_to_none, asked_to_set, asked_to_all}
+use Rattle.mi_clients.proofs.ServedLemmas.{nothing_given, each_none, each_set, each_then, served_owes, AskedTo, taken_front, taken_behind, asked_to_none, asked_to_set, asked_to_all}
 use Rattle.mi_clients.proofs.TellLemmas.{tells_only, tells_asked, tells_all, tell_join, so_join}
 use Rattle.mi_clients.proofs.telling.tell_each.Goals as goal
 
@@ -24,8 +24,8 @@ loop-client-init g c = record {
   so = tt;
   each = subst (EachServed g.S.Duplex.contents [] c.args.row.now.items) (sym c.deref_mut-client-items.ensures.value)
       (each_none g.S.Duplex.contents [] c.args.row.now.items nothing_given);
-  takes = subst (AskedTo (λ t o y. Takes t o y) [] 0 c.args.row.now.items) (sym c.deref_mut-client-items.ensures.value)
-      (asked_to_none (λ t o y. Takes t o y) c.args.row.now.items);
+  takes = subst (AskedTo (λ zs o y. Takes (asked_by o.conn zs) o y) [] 0 c.args.row.now.items) (sym c.deref_mut-client-items.ensures.value)
+      (asked_to_none (λ zs o y. Takes (asked_by o.conn zs) o y) c.args.row.now.items);
   makes = makes_none _ _ _ (Keeps-refl _);
 }
 
@@ -50,8 +50,8 @@ loop-client-preserved g c =
       all = tell_join before.steps one.0 before.all (tells_all old.conn one.0 one.1);
       so = so_join c.args.status.now (line_of c.args.schema.now) before.steps one.0 before.so one.2;
       each = each_then contents before.steps one.0 c.args.row.now.items row (slice_set row at c.tell.new.client) before.each set;
-      takes = subst (λ n. AskedTo (λ t o y. Takes t o y) (before.steps ++ one.0) n c.args.row.now.items (slice_set row at c.tell.new.client)) one_more
-          (asked_to_set (λ t o y. Takes t o y) before.steps one.0 c.args.row.now.items row at c.client-item.result c.tell.new.client before.attends.differ
+      takes = subst (λ n. AskedTo (λ zs o y. Takes (asked_by o.conn zs) o y) (before.steps ++ one.0) n c.args.row.now.items (slice_set row at c.tell.new.client)) one_more
+          (asked_to_set (λ zs o y. Takes (asked_by o.conn zs) o y) (taken_front (λ t o y. Takes t o y)) (taken_behind (λ t o y. Takes t o y)) before.steps one.0 c.args.row.now.items row at c.client-item.result c.tell.new.client before.attends.differ
           within (tells_asked old.conn one.0 one.1) one.4.conn one.4 before.takes);
       makes = makes_then before.steps one.0 _ (hub_of c.loop-client.ledger) _ _ _ _ before.makes one.5;
     }
@@ -69,6 +69,6 @@ returns-clause-tells g c =
       before.all,
       before.so,
       subst (EachServed g.S.Duplex.contents before.steps old) (sym all) before.each,
-      subst (EachTakes before.steps old) (sym all) (asked_to_all (λ t o y. Takes t o y) before.steps old row c.loop-client.client-index before.takes le),
+      subst (EachTakes before.steps old) (sym all) (asked_to_all (λ zs o y. Takes (asked_by o.conn zs) o y) before.steps old row c.loop-client.client-index before.takes le),
       before.makes,
     )

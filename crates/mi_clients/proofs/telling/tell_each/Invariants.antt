@@ -3,7 +3,7 @@ use Rattle.mi_ledger.specs.Ledger.{hub_of, log_of, IsSettled}
 use Rattle.mi_clients.specs.Client.{Takes}
 use Rattle.mi_clients.specs.Row.{ids, Attends, EachServed}
 use Rattle.mi_clients.specs.ServiceLines.{line_of}
-use Rattle.mi_clients.specs.Steps.{Step, Makes, AllTell, TellsSo}
+use Rattle.mi_clients.specs.Steps.{Step, Makes, AllTell, TellsSo, asked_by}
 use Rattle.mi_clients.proofs.ServedLemmas.{AskedTo}
 use Rattle.mi_clients.proofs.telling.tell_each.Given as goal
 
@@ -17,6 +17,6 @@ invariant-loop-client g l = record {
   all : AllTell steps;
   so : TellsSo l.fn.status (line_of l.fn.schema) steps;
   each : EachServed g.S.Duplex.contents steps l.fn.row.items l.client-items;
-  takes : AskedTo (λ t o y. Takes t o y) steps l.client-index l.fn.row.items l.client-items;
+  takes : AskedTo (λ zs o y. Takes (asked_by o.conn zs) o y) steps l.client-index l.fn.row.items l.client-items;
   makes : Makes steps (hub_of l.fn.ledger) (hub_of l.ledger) (g.L.Log.appended (log_of l.fn.ledger)) (g.L.Log.appended (log_of l.ledger));
 }

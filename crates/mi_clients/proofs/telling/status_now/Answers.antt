@@ -6,7 +6,7 @@ use Rattle.mi_ledger.specs.Ledger.{hub_of, log_of}
 use Rattle.mi_log.specs.declared.log.LogState.{LogState}
 use Rattle.mi_clients.specs.Status.{IsStateOf, status_line}
 use Rattle.mi_clients.proofs.TellLemmas.{told_some_of}
-use Rattle.mi_clients.proofs.telling.status_if_asked.Goals as goal
+use Rattle.mi_clients.proofs.telling.status_now.Goals as goal
 
 pub returns : goal.returns
 returns g c =
