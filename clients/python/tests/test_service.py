@@ -201,8 +201,8 @@ class Services(unittest.TestCase):
             self.started()
 
     def test_a_journal_without_room(self):
-        """A change is refused then, and nothing else, and the status says so behind a look-up. Where the file may not even keep what it has, the service says so: it isn't killed by the
-        signal of a file that may grow no further, which programs of Python ignore."""
+        """A change is refused then, and nothing else, and the status says so behind a look-up. Where the file may not even keep what it has, the
+        service says so: it isn't killed by the signal of a file that may grow no further, which programs of Python ignore."""
         words = (f"import sys; from resource import *; setrlimit(RLIMIT_FSIZE, (135_500, 1_000_000)); sys.path.insert(0, {kit.CLIENT!r})\n"
                  "from mi_client import Ended, Refused, Server\nfrom mi_client.service_lines import status\n"
                  "full = lambda: (status(db)['journal'] or {}).get('full')\n"
@@ -211,13 +211,15 @@ class Services(unittest.TestCase):
                  "db.begin(); n = 0\n"
                  "try:\n    while n < 1000: n += db.insert({'owner': str(n), 'balance': 1, 'vip': False}) == n\n"
                  "except Refused as refused: print(n, refused, db.size() - n, full(), db.undo(), db.size())\n"
-                 "prlimit(server.process.pid, RLIMIT_FSIZE, (900_000, 1_000_000)); print(db.begin(), db.insert({'owner': 'z', 'balance': 1, 'vip': True}), full())\n"
+                 "prlimit(server.process.pid, RLIMIT_FSIZE, (900_000, 1_000_000))\n"
+                 "print(db.begin(), db.insert({'owner': 'z', 'balance': 1, 'vip': True}), full())\n"
                  "prlimit(server.process.pid, RLIMIT_FSIZE, (100, 1_000_000))\n"
                  "try: db.undo()\n"
                  "except Ended: print(server.ended(60), server.process.stderr.read().decode())\n")
         ran = subprocess.run([sys.executable, "-c", words], capture_output=True, text=True, timeout=120)
         full = "journal: the service's journal has no room for the line, and nothing has changed"
-        self.assertRegex(ran.stdout, f"^\\d\\d {full} 0 (True|None) 0 0\n1 0 (False|None)\n4 fault: journal: {self.journal}: File too large \\(27\\)\n", ran.stderr)
+        ends = f"4 fault: journal: {self.journal}: File too large \\(27\\)\n"
+        self.assertRegex(ran.stdout, f"^\\d\\d {full} 0 (True|None) 0 0\n1 0 (False|None)\n{ends}", ran.stderr)
         with self.started() as server, server.connect(20) as db:
             self.assertEqual((db.size(), db.revision().depth), (0, 0))
 
