@@ -113,7 +113,7 @@ bench:
 install:
 	@$(if $(PROGRAM),,$(PYTHON) scripts/program.py proved)
 	@install -d '$(ROOT)/bin' '$(ROOT)/share/man/man1' '$(ROOT)/share/bash-completion/completions' '$(ROOT)/share/zsh/site-functions'
-	@install -d '$(SHARE)/docs/bench' '$(SHARE)/docs/pictures' '$(SHARE)/docs/img' '$(SHARE)/bench' '$(SHARE)/examples' '$(SHARE)/scripts' '$(SHARE)/clients/python/mi_client' '$(SHARE)/clients/node'
+	@install -d '$(SHARE)/docs/bench' '$(SHARE)/docs/pictures' '$(SHARE)/docs/img' '$(SHARE)/bench' '$(SHARE)/examples' '$(SHARE)/scripts' '$(SHARE)/clients/python/mi_client' '$(SHARE)/clients/python/mi_tools' '$(SHARE)/clients/node'
 	@install -m 755 '$(or $(PROGRAM),crates/mi_server/out/mi_server)' '$(ROOT)/bin/mi_server'
 	@if $(PYTHON) scripts/program.py fresh mi_service; then install -m 755 crates/mi_service/out/mi_service '$(ROOT)/bin/'; \
 		else echo "without mi_service, which isn't there or isn't up to date: \`make service\` makes it"; fi
@@ -133,6 +133,7 @@ install:
 	@install -m 644 scripts/journal.py scripts/reference.py '$(SHARE)/scripts/'
 	@install -m 644 $(filter-out %/tests,$(wildcard clients/python/*.*)) '$(SHARE)/clients/python/'
 	@install -m 644 $(wildcard clients/python/mi_client/*.*) '$(SHARE)/clients/python/mi_client/'
+	@install -m 644 $(wildcard clients/python/mi_tools/*.*) '$(SHARE)/clients/python/mi_tools/'
 	@install -d '$(SHARE)/clients/python/mi_replica'
 	@install -m 644 $(wildcard clients/python/mi_replica/*.*) '$(SHARE)/clients/python/mi_replica/'
 	@install -m 644 $(wildcard clients/node/*.*) '$(SHARE)/clients/node/'

@@ -302,7 +302,7 @@ class Documents:
         """The tests of a folder, one at least; those that are skipped are told by why."""
         env = {**os.environ, "MI_SERVER": self.path}
         ran = subprocess.run(
-            [sys.executable, "-m", "unittest", "discover", "-v", "-s", folder], env=env, capture_output=True, text=True, timeout=600
+            [sys.executable, "-m", "unittest", "discover", "-v", "-s", folder], env=env, capture_output=True, text=True, timeout=1200
         )
         count = RAN.search(ran.stderr)
         if ran.returncode:

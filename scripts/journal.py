@@ -41,7 +41,7 @@ from reference import CHANGES, LONGEST_LINE, MOST_SESSIONS, STEPS, Refusal, form
 
 sys.path.insert(0, f"{os.path.dirname(os.path.dirname(os.path.realpath(__file__)))}/clients/python")
 
-from mi_client.journals import end_before, end_of, lost_behind, text_of  # noqa: E402, F401
+from mi_tools.journals import end_before, end_of, lost_behind, text_of  # noqa: E402, F401
 
 FORMAT = 1
 DIGITS = re.compile("[0-9a-f]+")
@@ -251,9 +251,9 @@ def check(path, replay, schema):
 
 def check_schema(path, digest, schema):
     """Whether a header's hash is that of a schema's file, or of the built-in table."""
-    from mi_client.journals import bytes_hash
-    from mi_client.meaning import hash_of
-    from mi_client.schema import Schema
+    from mi_client import Schema
+    from mi_tools.journals import bytes_hash
+    from mi_tools.meaning import hash_of
 
     named = Schema.read(schema) if schema else Schema.built_in()
     if digest not in (hash_of(named), bytes_hash(schema)):

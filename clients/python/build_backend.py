@@ -13,7 +13,7 @@ from typing import Any, Dict, Iterable, List, Optional, Tuple
 from mi_client import __version__, toml_places
 
 HERE = os.path.dirname(os.path.realpath(__file__))
-PACKAGES = ["mi_client", "mi_replica"]
+PACKAGES = ["mi_client", "mi_tools", "mi_replica"]
 LONG_AGO = (1980, 1, 1, 0, 0, 0)
 """The time of every file, so that the same sources make the same archive."""
 Settings = Optional[Dict[str, Any]]

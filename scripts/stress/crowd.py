@@ -1,6 +1,6 @@
 """A service with all its places taken by clients that come and go, most of which say nothing or don't read.
 
-    stress crowd [--part comers|full|deaf|slow|sated|place] [--connections N] [--short] [--seed N] [--program FILE]
+    stress crowd [--part comers|full|deaf|slow|sated|place|beside] [--connections N] [--short] [--seed N] [--program FILE]
 
 Without --part all run, one behind another.
 
@@ -14,12 +14,16 @@ Without --part all run, one behind another.
     slow     one client asks ahead over a slow line (root makes it: a network of its own, whose sockets keep little) and reads bit by bit, so
              that something is always unsent: each reply comes whole, and the server's memory rises by no more than that, however much was sent
     sated    64 clients read a page of a megabyte each, and then say nothing: behind the last the server's memory is back
-    place    64 silent clients are attached; the 65th and others wait, and are served as places become free
+    place    64 silent clients are attached; those that come then and ask of the tables are told that there is no place, and who comes behind one
+             that has left is served
+    beside   64 clients ask all the time; one more is told status and schema, and ends one of them. One that asks of the tables, or says nothing
+             for some 2 seconds, is told that there is no place and let go, and the next one is told the status again
 
 Where nobody asks, the server takes no processor time, in `deaf` and `place`."""
 import contextlib
 import ctypes
 import fcntl
+import json
 import random
 import socket
 import statistics
@@ -317,44 +321,149 @@ def sated(path, options, folder):
 # Places
 
 
-def is_answered(stream, seconds):
-    """Whether a connection that has asked is answered in so many seconds."""
-    stream.settimeout(seconds)
-    try:
-        return stream.recv(1 << 16) == b'{"ok":true,"size":0}\n'
-    except socket.timeout:
-        return False
-    finally:
-        stream.settimeout(service.WAIT)
+SIZE = b'{"cmd":"size"}\n'
+STATUS, SCHEMA = b'{"service":"status"}\n', b'{"service":"schema"}\n'
+NO_PLACE = b'{"error":"places","ok":false}\n'
+
+
+def check_away(stream):
+    """A connection is told that there is no place for it, perhaps by a line for each of its own, and nothing else, and is let go."""
+    got = b""
+    with contextlib.suppress(ConnectionResetError):
+        while more := stream.recv(1 << 16):
+            got += more
+            if got.endswith(b"\n") and got.replace(NO_PLACE, b""):
+                break
+    if not got or got.replace(NO_PLACE, b""):
+        raise Differs(f"connection {MOST + 1} is served while {MOST} are: it is told {got!r}")
+
+
+def turned_away(running, text=b""):
+    """How long it takes until one that sends this is told that there is no place for it, and is let go."""
+    began = time.perf_counter()
+    with running.connect() as stream:
+        stream.sendall(text)
+        check_away(stream)
+    return time.perf_counter() - began
 
 
 def place(path, options, folder):
-    size = b'{"cmd":"size"}\n'
     with Service(path) as running, contextlib.ExitStack() as opened:
         attached = [opened.enter_context(running.connect()) for _ in range(MOST)]
         for it in attached:
-            service.asked(it, size)
-        waiting = [opened.enter_context(running.connect()) for _ in range(8)]
-        for it in waiting:
-            it.sendall(size)
-        if any(is_answered(it, 0.3) for it in waiting[:3]):
-            raise Differs(f"connection {MOST + 1} is served while {MOST} are")
-        idles(running, f"with {MOST} silent clients and {len(waiting)} that wait")
+            service.asked(it, SIZE)
+        crowd = [opened.enter_context(running.connect()) for _ in range(8)]
+        for it in crowd:
+            it.sendall(SIZE)
+        for it in crowd:
+            check_away(it)
+        idles(running, f"with {MOST} silent clients")
         pick = random.Random(options.seed)
-        for n, it in enumerate(waiting):
+        for n in range(40 if options.short else 400):
             gone = attached.pop(pick.randrange(len(attached)))
             gone.shutdown(socket.SHUT_WR) if n % 2 else gone.close()
-            if not is_answered(it, 10):
-                raise Differs(f"a place is free, and the connection that waits isn't served ({n} were before it)")
+            comer = opened.enter_context(running.connect())
+            if service.asked(comer, SIZE) != b'{"ok":true,"size":0}\n':
+                raise Differs(f"one has left, and who comes behind it isn't served ({n} were before it)")
+            attached.append(comer)
         for it in attached:
-            service.asked(it, size)
+            service.asked(it, SIZE)
+        turned_away(running, SIZE)
         opened.close()
         with running.connect() as late:
-            service.asked(late, size)
-    return f"{MOST} silent clients are attached, {len(waiting)} wait, and each is served as a place becomes free"
+            service.asked(late, SIZE)
+    return f"{MOST} silent clients are attached, {len(crowd)} more are turned away, and {n + 1} that come behind one that has left are served"
 
 
-PARTS = {"comers": comers, "full": full, "deaf": deaf, "slow": slow, "sated": sated, "place": place}
+class Busy(threading.Thread):
+    """Clients that ask all the time until it is stopped. Those that are let go are left out."""
+
+    AHEAD = 20
+
+    def __init__(self, streams):
+        super().__init__(daemon=True)
+        self.streams, self.stops, self.ended, self.lines = list(streams), threading.Event(), [], 0
+
+    def each(self, act):
+        for it in list(self.streams):
+            try:
+                act(it)
+            except (EOFError, OSError):
+                self.ended.append(it)
+                self.streams.remove(it)
+
+    def take(self, stream):
+        service.asked(stream, b"", self.AHEAD)
+        self.lines += self.AHEAD
+
+    def run(self):
+        while not self.stops.is_set():
+            self.each(lambda it: it.sendall(SIZE * self.AHEAD))
+            self.each(self.take)
+
+    def stop(self):
+        self.stops.set()
+        self.join()
+
+
+def status_beside(running):
+    """What one more is told of those that are attached, and how long that takes."""
+    began = time.perf_counter()
+    with running.connect() as stream:
+        told = json.loads(service.asked(stream, STATUS))
+        took = time.perf_counter() - began
+        if not told["ok"] or len(told["connections"]) != MOST:
+            raise Differs(f"{MOST} connections are attached, and one more is told {told}")
+        if not json.loads(service.asked(stream, SCHEMA))["ok"]:
+            raise Differs("one more isn't told the schema")
+    return took
+
+
+def ended_beside(running, busy):
+    """One of those that are attached is ended by one more, and its place is free then."""
+    with running.connect() as stream:
+        number = json.loads(service.asked(stream, STATUS))["connections"][-1]["number"]
+        done = service.asked(stream, b'{"service":"end","connection":%d}\n' % number)
+        began = time.monotonic()
+        while len(busy.ended) < 1 and time.monotonic() < began + STILL:
+            time.sleep(0.01)
+        left = json.loads(service.asked(stream, STATUS))["connections"]
+    if done != b'{"ok":true}\n' or len(busy.ended) != 1 or number in [it["number"] for it in left]:
+        raise Differs(f"connection {number} was to be ended: {done!r}, {len(busy.ended)} were let go, {len(left)} are attached")
+    comer = running.connect()
+    if service.asked(comer, SIZE) != b'{"ok":true,"size":0}\n':
+        raise Differs("one was ended, and who comes behind it isn't served")
+    return comer
+
+
+def beside(path, options, folder):
+    rounds = 3 if options.short else 50
+    with Service(path) as running, contextlib.ExitStack() as opened:
+        streams = [opened.enter_context(running.connect()) for _ in range(MOST)]
+        for it in streams:
+            service.asked(it, SIZE)
+        busy = Busy(streams)
+        busy.start()
+        try:
+            looks = [(status_beside(running), turned_away(running, SIZE)) for _ in range(rounds)]
+            silent = [turned_away(running, it) for it in (b"", b'{"cmd":"si')]
+            status_beside(running)
+            opened.enter_context(ended_beside(running, busy))
+            turned_away(running, SIZE * 1000)
+            took = status_beside(running)
+        finally:
+            busy.stop()
+        if not 1 <= min(silent) or max(silent) > 30:
+            raise Differs(f"one that says nothing is let go behind {min(silent):.1f} to {max(silent):.1f} s")
+    told, away = (1e3 * statistics.median(it) for it in zip(*looks))
+    return (
+        f"beside {MOST} clients that ask {busy.lines} lines one more is told the status in {told:.1f} ms (median of {rounds}, at most "
+        f"{1e3 * max(it for it, _ in looks):.1f}), turned away in {away:.1f} ms, and if it says nothing in {max(silent):.1f} s; it ends one, whose "
+        f"place is free then; at last {1e3 * took:.1f} ms"
+    )
+
+
+PARTS = {"comers": comers, "full": full, "deaf": deaf, "slow": slow, "sated": sated, "place": place, "beside": beside}
 
 
 def main(given=None):

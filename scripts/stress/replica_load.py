@@ -13,7 +13,7 @@ from reference import Reference
 from stress.replica_kit import Stuck, asked
 
 from mi_client import Ended, connect_leader
-from mi_replica.lines import belongs
+from mi_client.commands import belongs_in_journal
 
 TAG = re.compile(rb'^\{"cmd":"(T\d+-\d+)"')
 MOST_ROWS = 25
@@ -67,7 +67,7 @@ class Talker(threading.Thread):
         self.sent.append(it)
         it.reply = self._db.ask_line(it.line.decode()).encode()
         it.at = time.monotonic()
-        if belongs(it.reply):
+        if belongs_in_journal(it.reply):
             self.last_done = it.at
         return json.loads(it.reply)
 
@@ -186,7 +186,7 @@ def replayed(entries):
     for number, value in enumerate(entries, 1):
         for line in value.split(b"\n")[:-1]:
             reply = reference.feed(1, line + b"\n")[:-1]
-            if not belongs(reply):
+            if not belongs_in_journal(reply):
                 raise Differs(f"entry {number}: the reference answers {reply} to {line}")
             tag = TAG.match(line)
             if tag:
@@ -208,7 +208,7 @@ def check_talker(talker, replies, places):
             last = place
         if it.reply is None:
             unknown += 1
-        elif belongs(it.reply):
+        elif belongs_in_journal(it.reply):
             acknowledged += 1
             if place is None:
                 raise Differs(f"{it.line} was acknowledged with {it.reply} and is lost")
@@ -255,6 +255,6 @@ def look_for_errors(clients):
 
 def first_done(talkers, since):
     """When a change was acknowledged first behind this moment, or None; those that were acknowledged before aren't looked at again."""
-    found = [it.at for talker in talkers for it in talker.sent[-50:] if it.reply and it.at > since and belongs(it.reply)]
+    found = [it.at for talker in talkers for it in talker.sent[-50:] if it.reply and it.at > since and belongs_in_journal(it.reply)]
     look_for_errors(talkers)
     return min(found) if found else None

@@ -32,8 +32,8 @@ from stress.journal_walk import Differs
 
 sys.path.insert(0, f"{program.TOP}/clients/python")
 from mi_client import Refused, Server  # noqa: E402
-from mi_client.plot import line_as_svg  # noqa: E402
-from mi_client.sampling import Line  # noqa: E402
+from mi_tools.plot import line_as_svg  # noqa: E402
+from mi_tools.sampling import Line  # noqa: E402
 
 ACCOUNTS = 20
 BALANCE = 1_000

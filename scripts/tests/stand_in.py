@@ -15,6 +15,7 @@ import argparse
 import fcntl
 import json
 import os
+import re
 import selectors
 import socket
 import sys
@@ -23,8 +24,8 @@ import time
 TOP = os.path.dirname(os.path.dirname(os.path.dirname(os.path.realpath(__file__))))
 sys.path[:0] = [f"{TOP}/scripts", f"{TOP}/clients/python"]
 
-import mi_client.meaning  # noqa: E402
 import mi_client.schema  # noqa: E402
+from mi_tools.meaning import hash_of  # noqa: E402
 from reference import CHANGES, LONGEST_LINE, STEPS, Index, Reference, Refusal, Schema, form, is_foreign, read  # noqa: E402
 
 PLANT = os.environ.get("PLANT", "")
@@ -33,6 +34,8 @@ MOST = 64
 UNDO = b'{"cmd":"undo"}\n'
 ROOM, PIECE, ASKED_ROOM = 1 << 20, 16_384, LONGEST_LINE + 1 + 65_536
 NO_ROOM = b'{"error":"journal","ok":false}\n'
+NO_PLACE = b'{"error":"places","ok":false}\n'
+END = re.compile(rb'\{"service":"end","connection":(\d+)\}')
 MEMORY = b'{"error":"memory","ok":false}\n'
 DONE = b'{"ok":true}\n'
 CHANGED = (b'{"id":', b'{"ok":true}', b'{"erased":', b'{"ok":true,"revision":', b'{"committed":', b'{"ok":true,"undone":', b'{"ok":true,"pushed":')
@@ -185,29 +188,66 @@ class Service:
         if options.schema:
             with open(options.schema, encoding="utf-8") as file:
                 self.text = file.read()
-        wanted = f'{{"journal":1,"revision":{schema.first_revision},"schema":"{mi_client.meaning.hash_of(schema)}"}}'.encode()
+        wanted = f'{{"journal":1,"revision":{schema.first_revision},"schema":"{hash_of(schema)}"}}'.encode()
         self.journal = Journal(options.journal, self.reference, wanted, options.sync)
         self.listener = socket.create_server(("127.0.0.1", options.listen), backlog=128)
         self.listener.setblocking(False)
         self.selector, self.clients, self.next, self.asked = selectors.DefaultSelector(), {}, 2, 0
+        self.comer, self.waited, self.beside, self.heard, self.ends = None, 0, None, 0, []
         self.selector.register(self.listener, selectors.EVENT_READ, None)
         print(f"listening 127.0.0.1:{self.listener.getsockname()[1]}", flush=True)
 
+    def has_place(self):
+        return len(self.clients) < MOST or PLANT == "beyond"
+
+    def accepted(self):
+        """One that has come, or None."""
+        try:
+            stream, _ = self.listener.accept()
+        except BlockingIOError:
+            return None
+        stream.setsockopt(socket.IPPROTO_TCP, socket.TCP_NODELAY, 1)
+        stream.setblocking(False)
+        self.next += 1
+        return Client(self.next - 1, stream)
+
     def accept(self):
-        while len(self.clients) < MOST or PLANT == "beyond":
-            try:
-                stream, _ = self.listener.accept()
-            except BlockingIOError:
+        """Those that have come, while there are places. One that comes to no place waits for some turns, and stands beside the others then."""
+        while self.has_place():
+            client, self.comer = self.comer or self.accepted(), None
+            if client is None:
                 return
-            stream.setsockopt(socket.IPPROTO_TCP, socket.TCP_NODELAY, 1)
-            stream.setblocking(False)
-            self.clients[self.next] = Client(self.next, stream)
-            self.selector.register(stream, selectors.EVENT_READ | selectors.EVENT_WRITE, self.clients[self.next])
-            self.next += 1
+            self.clients[client.number] = client
+            self.selector.register(client.stream, selectors.EVENT_READ | selectors.EVENT_WRITE, client)
+        if self.beside is None and self.comer is None:
+            self.comer, self.waited = self.accepted(), 0
+        elif self.beside is None and self.waited == 4:
+            self.beside, self.comer, self.heard = self.comer, None, time.monotonic()
+        self.waited += 1
+
+    def attend(self):
+        """The one beside the others is answered lines of the service alone."""
+        client = self.beside
+        self.read(client)
+        if client.lines:
+            self.heard = time.monotonic()
+        is_silent = time.monotonic() > self.heard + 1.5
+        if is_silent and not client.asked and not client.has_ended:
+            client.has_ended, client.held = True, NO_PLACE
+        while client.lines:
+            text = client.lines.pop(0)
+            own = text.startswith(b'{"service":"')
+            client.held += self.told(text) if own else NO_PLACE
+            client.asked, client.has_ended = client.asked + 1, client.has_ended or not own
+        more, client.held = client.held, b""
+        self.send(client, more)
+        if client.has_ended and not client.out or is_silent:
+            client.stream.close()
+            self.beside = None
 
     def watch(self):
         """Those that come are told while there is a place, so that it doesn't wake for one that waits."""
-        has_place = len(self.clients) < MOST or PLANT == "beyond"
+        has_place = self.has_place() or self.beside is None and self.comer is None
         is_told = self.listener in self.selector.get_map()
         if has_place and not is_told:
             self.selector.register(self.listener, selectors.EVENT_READ, None)
@@ -226,6 +266,10 @@ class Service:
         asked = text[:-1] if text.endswith(b"\r") else text
         if asked == b'{"service":"schema"}':
             return compact({"ok": True, "schema": self.text})
+        ended = END.fullmatch(asked)
+        if ended:
+            self.ends.append(int(ended[1]))
+            return DONE
         if asked != b'{"service":"status"}':
             return compact({"error": "form", "ok": False})
         holder = self.reference.holder
@@ -303,10 +347,8 @@ class Service:
         for it in self.clients.values():
             wants = selectors.EVENT_READ * (not it.has_ended and len(it.lines) <= 100 or PLANT == "hoards") | selectors.EVENT_WRITE * bool(it.out)
             self.selector.modify(it.stream, wants or selectors.EVENT_WRITE, it)
-        for key, events in self.selector.select(0 if busy else 0.1):
-            if key.data is None:
-                self.accept()
-            elif events & selectors.EVENT_READ:
+        for key, events in self.selector.select(0 if busy or self.comer else 0.01 if self.beside else 0.1):
+            if key.data is not None and events & selectors.EVENT_READ:
                 self.read(key.data)
         for client in list(self.clients.values()):
             self.ask(client)
@@ -314,9 +356,12 @@ class Service:
             self.flush()
         self.journal.stay()
         self.flush()
-        for client in [it for it in self.clients.values() if it.has_ended and not it.lines and not it.out]:
+        for client in [it for it in self.clients.values() if it.number in self.ends or it.has_ended and not it.lines and not it.out]:
             self.gone(client)
-            self.accept()
+        self.ends.clear()
+        self.accept()
+        if self.beside:
+            self.attend()
         self.journal.stay()
 
     def flush(self):

@@ -10,8 +10,8 @@ import unittest
 TOP = os.path.dirname(os.path.dirname(os.path.dirname(os.path.realpath(__file__))))
 sys.path.insert(0, f"{TOP}/clients/python")
 
-from mi_client import top  # noqa: E402
-from mi_client.process import Usage  # noqa: E402
+from mi_tools import top  # noqa: E402
+from mi_tools.process import Usage  # noqa: E402
 
 RULES, BOARD = f"{TOP}/examples/weltiyo.rules.yml", f"{TOP}/examples/weltiyo-dashboard.json"
 

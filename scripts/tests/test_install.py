@@ -71,7 +71,7 @@ class Installed(unittest.TestCase):
         """In one whose modules have the names of those that the programs import, and would end them."""
         folder = f"{self.top}/here"
         os.mkdir(folder)
-        for name in ("json", "csv", "argparse", "subprocess", "typing", "socket", "re", "runpy", "program", "mi_client"):
+        for name in ("json", "csv", "argparse", "subprocess", "typing", "socket", "re", "runpy", "program", "mi_client", "mi_tools"):
             with open(f"{folder}/{name}.py", "w", encoding="utf-8") as file:
                 file.write("raise SystemExit('the current folder was looked at')\n")
         said = self.ran(f"{self.root}/bin/weltiyo", asked='{"cmd":"size"}\n', cwd=folder)

@@ -7,7 +7,7 @@
         with db.session():                  # undone where the block raises, else squashed
             db.modify(ann, add={"balance": -20})
 
-It needs Python 3.9 and nothing else.
+It needs Python 3.9 and nothing else. The tools over it are the package `mi_tools`.
 """
 from mi_client.calls import Page, Revision
 from mi_client.database import Database

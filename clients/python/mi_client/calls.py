@@ -7,6 +7,7 @@ from typing import Any, Callable, Dict, Generic, Iterable, List, Mapping, NamedT
 
 T = TypeVar("T")
 Row = Dict[str, Any]
+"""The values of a record by the names of columns; of one that a server tells, with its `id`."""
 Key = Union[str, int, Iterable[Any], Mapping[str, Any]]
 """A value alone, which is the key of one part; the values of a key in the order of the index's parts; or, where the schema is known, by the
 names of columns."""

@@ -1,4 +1,4 @@
-"""The commands and refusals as the prompt knows them: their members, their replies, and a line on each."""
+"""The commands and refusals: their members, their replies, and a line on each; and which replies are those of a change."""
 from __future__ import annotations
 
 from typing import List, NamedTuple
@@ -60,11 +60,19 @@ COMMANDS = {
                 "the revision, the open sessions, and those that this connection holds", "revision"),
     ]
 }
+"""Each command by its name."""
 
 CHANGES = frozenset({"insert", "replace", "modify", "erase", "erase_key", "relocate"})
+"""Commands that change records."""
 SESSION_STEPS = frozenset({"start", "undo", "squash", "commit", "undo_all", "push"})
+"""Commands that begin sessions, end them or let go of them."""
 LOOK_UPS = frozenset({"get", "find", "nth", "count", "range", "list", "rank", "lower_rank", "upper_rank", "size", "revision"})
 """Commands that change nothing and that nobody's sessions keep out. `reserve` is none of the three: it changes nothing, and is kept out."""
+
+MAY_CHANGE = tuple(
+    b'{"id": {"ok":true} {"erased": {"ok":true,"revision": {"committed": {"ok":true,"undone": {"ok":true,"pushed":'.split(b" ")
+)
+"""How replies begin to lines that changed the database, or who holds its sessions."""
 
 REFUSALS = {
     "line": ("the line is longer than 65,536 bytes", "send less at once"),
@@ -92,3 +100,11 @@ REFUSALS = {
                "ask that one; `connect_leader` of the Python client finds it"),
 }
 """Each word of a refusal of a command: when it comes, and what to do. (A member of a ledger refuses a line of its own by another one.)"""
+
+
+def belongs_in_journal(reply: bytes) -> bool:
+    """Whether a line that was answered so stands in a journal: it changed the database, or who holds its sessions; or it may have, and
+    changes nothing where it is asked again. The replies alone tell."""
+    if reply.startswith(MAY_CHANGE):
+        return True
+    return reply.startswith(b'{"error":"unique"') and reply.endswith(b'","lost":true,"ok":false}')

@@ -22,6 +22,8 @@ from mi_client.schema import Schema
 from mi_client.walks import Walks
 
 T = TypeVar("T")
+NO_PLACE = b'{"error":"places"'
+"""How the reply begins by which a service ends a connection that has no place: it stands beside those that it serves."""
 AnySchema = Union[None, str, "os.PathLike[str]", Schema]
 """A schema's file, or a schema that was read."""
 
@@ -214,7 +216,10 @@ class Database(Walks):
     def _exchange_alone(self, line: bytes) -> bytes:
         """Where nothing else is on its way, and no other thread asks."""
         with self._unbroken:
-            return self._channel.exchange(line)
+            reply = self._channel.exchange(line)
+            if reply.startswith(NO_PLACE):
+                raise ConnectionError("all its places are taken: the service ends this connection")
+            return reply
 
     def _step(self, made: Union[Pipeline, LinesAhead], wait: bool) -> None:
         """Writes what is handed and reads, and gives the lines that have come."""

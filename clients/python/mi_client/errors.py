@@ -5,10 +5,6 @@ import errno
 from typing import Any, Dict, Optional, Tuple
 
 
-NO_COLUMNS = "the columns come from the schema: name it by --schema, or connect to a service, which tells it"
-"""What a tool says that needs columns, where a server tells no schema."""
-
-
 class Refused(Exception):
     """The server refused a command. `word` is the reason; where it is `unique`, `id` and `index` say which record stands in
     the way, and of a modify `lost` says whether the modified record was erased; where it is `leader`, `leader` is the address of

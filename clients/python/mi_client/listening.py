@@ -21,11 +21,6 @@ def path_of(where: Where) -> Optional[str]:
     return where if isinstance(where, str) and "/" in where else None
 
 
-def called(where: Where) -> str:
-    """How it is called in a sentence."""
-    return path_of(where) or f"port {where}"
-
-
 def nobody(host: str, where: Where) -> ConnectionRefusedError:
     """What is raised where nobody listens."""
     path = path_of(where)

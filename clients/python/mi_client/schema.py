@@ -28,6 +28,8 @@ index = [
 
 @dataclass(frozen=True)
 class Column:
+    """A column, and the type of its values."""
+
     name: str
     type: str
     """`int`, `text` or `flag`."""
@@ -46,6 +48,8 @@ class Part:
 
 @dataclass(frozen=True)
 class Index:
+    """An index: its kind, and the parts of its key in their order."""
+
     name: str
     kind: str
     """`ordered`, `ranked`, `hashed` or `sequenced`."""
@@ -71,6 +75,8 @@ class Index:
 
 @dataclass(frozen=True)
 class Table:
+    """A table: its columns and indexes, its most rows, and where its counters begin."""
+
     name: str
     columns: Tuple[Column, ...]
     indexes: Tuple[Index, ...]
@@ -93,6 +99,8 @@ class Table:
 
 @dataclass(frozen=True)
 class Schema:
+    """The tables of a server."""
+
     tables: Tuple[Table, ...]
     first_revision: int = 0
     """The revision before the first session."""

@@ -9,6 +9,7 @@ from mi_client.schema import SCHEMA_LINE
 
 __all__ = ["SCHEMA_LINE", "STATUS_LINE", "schema_text", "status"]
 STATUS_LINE = '{"service":"status"}'
+"""The line that a service answers with its status."""
 
 
 def status(db: Database) -> Optional[Dict[str, Any]]:

@@ -14,6 +14,8 @@ ESCAPES = {"b": "\b", "t": "\t", "n": "\n", "f": "\f", "r": "\r", '"': '"', "\\"
 
 
 class Fault(Exception):
+    """Why a text is no TOML document, and the line where that shows, from 1."""
+
     def __init__(self, line: int, why: str) -> None:
         super().__init__(why)
         self.line, self.why = line, why

@@ -11,7 +11,7 @@ import signal
 import sys
 from typing import Any, Dict, List, Optional, Tuple
 
-from mi_client.cli import broken_pipe
+from mi_tools.cli import broken_pipe
 from mi_replica.etcd import Rejected, Unreachable, place
 from mi_replica.log import Leader, Log, OtherLedger, Snapshot
 from mi_replica.member import Member, OtherSchema, Settings

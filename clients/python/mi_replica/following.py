@@ -5,6 +5,7 @@ from __future__ import annotations
 import asyncio
 from typing import Any, Callable, Coroutine, Iterator, List, Optional, Tuple, TypeVar
 
+from mi_client.commands import belongs_in_journal
 from mi_replica import lines as known
 from mi_replica.clients import Client, Clients
 from mi_replica.etcd import Unreachable
@@ -44,7 +45,7 @@ def lines_of(lines: bytes) -> List[bytes]:
 async def replay(own: Own, lines: List[bytes], place: str) -> None:
     """Asks lines of a journal. Raises Diverged where one isn't done."""
     for line, reply in zip(lines, await own.ask(lines)):
-        if not known.belongs(reply):
+        if not belongs_in_journal(reply):
             raise Diverged(place, reply, line)
 
 

@@ -8,8 +8,9 @@ import collections
 import re
 from typing import Callable, Deque, List, NamedTuple, Optional, Tuple
 
+from mi_client.commands import belongs_in_journal
 from mi_replica.clients import Client, Clients
-from mi_replica.lines import REVISION, UNDO, belongs, is_of_member, may_start
+from mi_replica.lines import REVISION, UNDO, is_of_member, may_start
 from mi_replica.etcd import Unreachable
 from mi_replica.front import Front
 from mi_replica.log import AGAIN_SECONDS, MOST_BYTES, Log, Term
@@ -111,7 +112,7 @@ class Leading:
 
     def _take(self, client: Client, line: bytes, reply: bytes, is_look: bool) -> None:
         """A line that was executed, with its reply."""
-        is_mine = not is_look and belongs(reply)
+        is_mine = not is_look and belongs_in_journal(reply)
         if is_mine:
             self._pending.append(line)
             self._pending_bytes += len(line)
@@ -132,7 +133,7 @@ class Leading:
 
     async def _undo(self, count: int) -> None:
         for reply in await self._own.ask([UNDO] * count) if count else []:
-            if not belongs(reply):
+            if not belongs_in_journal(reply):
                 raise Gone(f"the server answers {reply[:80]!r} to an undo")
             self._pending.append(UNDO)
             self._pending_bytes += len(UNDO)

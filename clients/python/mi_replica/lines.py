@@ -1,5 +1,5 @@
-"""Lines of commands and their replies, as a member has to know them: which lines are a journal's, which are look-ups, which may begin
-a session, and what a member says itself in the place of its server. Which lines are a journal's is told by their replies alone."""
+"""Lines of commands and their replies, as a member has to know them: which lines are look-ups, which may begin a session, and what a member
+says itself in the place of its server."""
 from __future__ import annotations
 
 import json
@@ -13,22 +13,11 @@ LOOK_UPS = frozenset("get find nth count range list rank lower_rank upper_rank s
 CHANGES = frozenset("insert replace modify erase erase_key relocate start undo squash commit undo_all push reserve".split())
 """What a server answers `busy` to while another connection holds sessions."""
 
-MAY_CHANGE = tuple(
-    b'{"id": {"ok":true} {"erased": {"ok":true,"revision": {"committed": {"ok":true,"undone": {"ok":true,"pushed":'.split(b" ")
-)
 JSON = b'{"error":"json","ok":false}'
 FORM = b'{"error":"form","ok":false}'
 BUSY = b'{"error":"busy","ok":false}'
 MEMORY = b'{"error":"memory","ok":false}'
 HELD = re.compile(rb'"held":(\d+)')
-
-
-def belongs(reply: bytes) -> bool:
-    """Whether a line that was answered so stands in a journal: it changed the database, or who holds its sessions; or it may have, and
-    changes nothing where it is asked again."""
-    if reply.startswith(MAY_CHANGE):
-        return True
-    return reply.startswith(b'{"error":"unique"') and reply.endswith(b'","lost":true,"ok":false}')
 
 
 def may_start(line: bytes) -> bool:

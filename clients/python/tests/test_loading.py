@@ -7,9 +7,10 @@ from typing import Any, List, Tuple
 
 import kit
 
-from mi_client import Database, transfer
-from mi_client.loading import Reference, References, Stopped, load_rows
-from mi_client.rowfiles import Item
+from mi_client import Database
+from mi_tools import transfer
+from mi_tools.loading import Reference, References, Stopped, load_rows
+from mi_tools.rowfiles import Item
 
 BANK = """format = 2
 [[table]]

@@ -14,10 +14,11 @@ import kit
 from kit import ANN
 from test_service import SERVICE
 
-from mi_client import Database, Server, process, sockets
-from mi_client.plot import bars_as_svg, bars_as_text, drawn, line_as_svg, line_as_text
-from mi_client.sampling import Bars, Line, along, distribution, edges_of, spread
-from mi_client.top import Sample, Usage, Watcher, amount, prometheus, screen
+from mi_client import Database, Server
+from mi_tools import process, sockets
+from mi_tools.plot import bars_as_svg, bars_as_text, drawn, line_as_svg, line_as_text
+from mi_tools.sampling import Bars, Line, along, distribution, edges_of, spread
+from mi_tools.top import Sample, Usage, Watcher, amount, prometheus, screen
 
 PLAYERS = """table = "player"
 column = [{ name = "name", type = "text" }, { name = "score", type = "int" }, { name = "vip", type = "flag" }]

@@ -13,8 +13,9 @@ from unittest import mock
 
 import kit
 
-from mi_client import Database, Ended, NeedsSchema, Server, TooManyEqual, rowfiles, transfer
+from mi_client import Database, Ended, NeedsSchema, Server, TooManyEqual
 from mi_client.aio import AsyncDatabase
+from mi_tools import rowfiles, transfer
 
 TWO = """format = 2
 [[table]]

@@ -11,15 +11,16 @@ import sys
 import typing
 import unittest
 import venv
+from typing import Set
 
 import kit
 
 import mi_client
-from mi_client import web_http
+from mi_tools import web_http
 
-PACKAGES = ["mi_client", "mi_replica"]
+PACKAGES = ["mi_client", "mi_tools", "mi_replica"]
 MODULES = sorted(it for package in PACKAGES for it in glob.glob(f"{kit.CLIENT}/{package}/*.py"))
-LINTER = f"{kit.CLIENT}/mi_client/lint.py"
+LINTER = f"{kit.CLIENT}/mi_tools/lint.py"
 """It has no hints."""
 INSTALLED = ["README.md", "pyproject.toml", "build_backend.py"]
 """What `make install` copies beside the modules and py.typed."""
@@ -50,7 +51,7 @@ class Pip(unittest.TestCase):
                 self.assertIn("--etcd URL,..", self.run_in(folder, "weltiyo-replica", "--help"))
                 code = "import mi_client, os; print(os.path.exists(os.path.dirname(mi_client.__file__) + '/py.typed'), mi_client.__version__)"
                 self.assertEqual(self.run_in(folder, "python", "-c", code), f"True {mi_client.__version__}\n")
-                code = "from mi_client import web_http; print(open(web_http.PAGE).read().startswith('<!DOCTYPE html>'))"
+                code = "from mi_tools import web_http; print(open(web_http.PAGE).read().startswith('<!DOCTYPE html>'))"
                 self.assertEqual(self.run_in(folder, "python", "-c", code), "True\n")
         self.pip(folder, "uninstall", "--yes", "weltiyo")
         self.assertFalse(os.path.exists(f"{folder}/venv/bin/weltiyo"))
@@ -72,6 +73,41 @@ class Pip(unittest.TestCase):
     def test_one_version(self) -> None:
         with open(f"{kit.CLIENT}/pyproject.toml", encoding="utf-8") as file:
             self.assertIn(f'version = "{mi_client.__version__}"\n', file.read())
+
+
+class Layers(unittest.TestCase):
+    """The client knows no tool, and the tools no member of a ledger, so who embeds the client reads its modules alone."""
+
+    ABOVE = {"mi_client": {"mi_tools", "mi_replica"}, "mi_tools": {"mi_replica"}}
+    HANDS_ON = f"{kit.CLIENT}/mi_client/__main__.py"
+    """The command `python3 -m mi_client`, which no module may import."""
+
+    def imported(self, text: str) -> Set[str]:
+        """The modules that a module imports anywhere, by their whole names."""
+        found: Set[str] = set()
+        for it in ast.walk(ast.parse(text)):
+            if isinstance(it, ast.Import):
+                found.update(name.name for name in it.names)
+            elif isinstance(it, ast.ImportFrom):
+                self.assertEqual(it.level, 0, text)
+                found.update([str(it.module), *(f"{it.module}.{name.name}" for name in it.names)])
+        return found
+
+    def test_the_reading_of_imports(self) -> None:
+        text = "import os\nif os:\n    import mi_tools.show as s, re\ndef f():\n    from mi_client import calls, __main__\n"
+        self.assertEqual(self.imported(text), {"os", "re", "mi_tools.show", "mi_client", "mi_client.calls", "mi_client.__main__"})
+
+    def test_none_imports_what_stands_above_it(self) -> None:
+        for path in (it for it in MODULES if it != self.HANDS_ON):
+            package = os.path.basename(os.path.dirname(path))
+            with open(path, encoding="utf-8") as file:
+                text = file.read()
+            found = self.imported(text)
+            self.assertEqual({it for it in found if it.split(".")[0] in self.ABOVE.get(package, ())}, set(), path)
+            self.assertNotIn("mi_client.__main__", found, path)
+            if package == "mi_client":  # (nor by a text)
+                self.assertEqual(found & {"importlib", "runpy"}, set(), path)
+                self.assertNotIn("__import__", text, path)
 
 
 class Sources(unittest.TestCase):

@@ -6,11 +6,12 @@ import unittest
 import kit
 from kit import ANN, program
 
-from mi_client import Database, Refused, Schema, show
+from mi_client import Database, Refused, Schema
 from mi_client.commands import COMMANDS, REFUSALS
-from mi_client.completion import completions
-from mi_client.prompt import Prompt, help_of
-from mi_client.shorthand import line_of
+from mi_tools import show
+from mi_tools.completion import completions
+from mi_tools.prompt import Prompt, help_of
+from mi_tools.shorthand import line_of
 
 SHOP = Schema.read(f"{kit.TOP}/examples/shop.toml")
 

@@ -12,6 +12,7 @@ from typing import Any, Awaitable, Callable, List, Tuple
 import kit
 
 from mi_client import Ended, Server, connect_leader
+from mi_client.commands import belongs_in_journal
 from mi_replica import lines as known
 from mi_replica.clients import Clients
 from mi_replica.etcd import behind, place
@@ -41,7 +42,7 @@ class Lines(unittest.TestCase):
         db = kit.start(self)
         for line, wanted in asked:
             reply = db.ask_line(line)
-            self.assertEqual(known.belongs(reply.encode()), wanted, (line, reply))
+            self.assertEqual(belongs_in_journal(reply.encode()), wanted, (line, reply))
 
     def test_pieces_of_any_size_give_the_same_lines(self) -> None:
         data = b'{"a":1}\n\n\r\n{"b"\r\n' + b"x" * 70_000 + b"\nrest"

@@ -10,10 +10,11 @@ import kit
 from kit import ANN, BOB
 from test_service import SERVICE
 
-from mi_client import Schema, Server, explain, rowfiles
-from mi_client.meaning import hash_of
-from mi_client.opening import add_server
+from mi_client import Schema, Server, explain
 from mi_client.schema import BUILT_IN
+from mi_tools import rowfiles
+from mi_tools.meaning import hash_of
+from mi_tools.opening import add_server
 from mi_replica import checkpoint, member
 
 HEADER = '{"journal":1,"revision":0,"schema":"4a97872940a86388d00bd4dd133ac68c2bb50dead4fefa2fb1b161a892770f4b"}'

@@ -16,7 +16,7 @@ import kit
 from test_service import SERVICE
 
 from mi_client import Database, Server
-from mi_client.prompt import Prompt
+from mi_tools.prompt import Prompt
 
 PLAIN = re.compile(rb"\x1b\[[0-9;?]*[a-zA-Z]|\r")
 LONGEST = 20.0

@@ -11,12 +11,13 @@ from typing import Any, Iterator, List
 
 import kit
 
-from mi_client import Database, transfer
+from mi_client import Database
 from mi_client.aio import AsyncDatabase
-from mi_client.opening import opened
-from mi_client.progress import Progress, clock_time
-from mi_client.rowfiles import Item
-from mi_client.transfer import Stopped, load_rows
+from mi_tools import transfer
+from mi_tools.opening import opened
+from mi_tools.progress import Progress, clock_time
+from mi_tools.rowfiles import Item
+from mi_tools.transfer import Stopped, load_rows
 
 SHOP = f"{kit.TOP}/examples/shop.toml"
 

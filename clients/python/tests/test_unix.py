@@ -11,8 +11,9 @@ import unittest
 import kit
 from kit import ANN, TOP
 
-from mi_client import Database, Ended, process
+from mi_client import Database, Ended
 from mi_client.aio import AsyncDatabase
+from mi_tools import process
 
 sys.path.insert(0, f"{TOP}/scripts")
 

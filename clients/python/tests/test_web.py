@@ -15,10 +15,10 @@ from kit import ANN
 
 from mi_client import Database, Schema, Server
 from mi_client.commands import CHANGES, COMMANDS, LOOK_UPS, SESSION_STEPS
-from mi_client.fitting import misfit
-from mi_client.web_desk import WRITES, Forbidden, Stack, judged
-from mi_client.web_http import PAGE, Window, policy_of
-from mi_client.web_source import Gone, Source, line_of
+from mi_tools.fitting import misfit
+from mi_tools.web_desk import WRITES, Forbidden, Stack, judged
+from mi_tools.web_http import PAGE, Window, policy_of
+from mi_tools.web_source import Gone, Source, line_of
 
 SHOP = Schema.read(f"{kit.TOP}/examples/shop.toml")
 

@@ -14,7 +14,7 @@ import kit
 from kit import ANN
 
 from mi_client.schema import BUILT_IN
-from mi_client.whole_files import replacing
+from mi_tools.whole_files import replacing
 
 HEADER = '{"journal":1,"revision":0,"schema":"4a97872940a86388d00bd4dd133ac68c2bb50dead4fefa2fb1b161a892770f4b"}'
 COUNT = 40
@@ -67,7 +67,7 @@ class WholeFiles(unittest.TestCase):
 
     def test_a_dump_that_is_killed(self) -> None:
         self.write(self.file, "an old one\n")
-        words = [sys.executable, "-c", "import os, sys; from mi_client import transfer, rowfiles; from mi_client.cli import main\n"
+        words = [sys.executable, "-c", "import os, sys; from mi_tools import transfer, rowfiles; from mi_tools.cli import main\n"
                  "made, line = [], transfer.json_line\n"
                  "def dies(*it):\n    made.append(it)\n    if len(made) == 30: os.kill(os.getpid(), 9)\n    return line(*it)\n"
                  "transfer.json_line = dies\nmain(sys.argv[1:])", "dump", self.file, "--journal", self.journal]

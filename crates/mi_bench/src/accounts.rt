@@ -7,7 +7,7 @@ ghost use Rattle.mi_container.specs.Asked.{RecordFits, IsSorted};
 use mi_catalog::built_in;
 use mi_multi::MultiIndex;
 use mi_value::limits::MAX_TEXT;
-use mi_value::{Edit, Lower, Record, Steps, Text, Value, ValueRef};
+use mi_value::{Edit, Lower, Record, Steps, Text, Upper, Value, ValueRef};
 use std::alloc::{AllocError, Global};
 
 /// The columns.
@@ -127,9 +127,17 @@ impl Accounts {
     fn digest_of(&self, alloc: Global, index: usize) -> Result<u64, AllocError>
         requires { IsSorted accounts index }
     {
-        let rows = self
-            .rows
-            .walk_up(alloc, index, &Lower::All, usize::MAX, &mut Steps::new())?;
+        let (lower, upper) = (Lower::All, Upper::All);
+        let mut steps = Steps::new();
+        let rows = self.rows.walk_range(
+            alloc,
+            index,
+            &lower,
+            &upper,
+            false,
+            usize::MAX,
+            &mut steps,
+        )?;
         Ok(digest_rows(rows.as_slice()))
     }
 

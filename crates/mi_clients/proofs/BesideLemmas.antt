@@ -1,12 +1,12 @@
 -- The connection beside those of a row: it is read, a line of it is answered, and what it is owed is sent.
-use Rattle.std.proofs.Common.{◌≡◌, ◌⊎◌, inl, inr, ◌<◌, ◌≤◌, ℕ, List, [], ◌∷◌, ◌++◌, length, Option, Some, None, refl, sym, ap, subst, ◌∙◌, append-nil, arith}
+use Rattle.std.proofs.Common.{◌≡◌, ◌⊎◌, inl, inr, ◌<◌, ◌≤◌, ℕ, Bool, true, false, not, cond, List, [], ◌∷◌, ◌++◌, length, Option, Some, None, refl, sym, ap, subst, ◌∙◌, append-nil, arith}
 use Rattle.std.specs.Io.KnownBytes.{Consumes, Keeps, IsAtEnd}
 use Rattle.mi_hub.specs.Ended.{ended}
 use Rattle.mi_hub.specs.OneLine.{IsWholeLine}
 use Rattle.mi_ledger.specs.HeldReplies.{bytes_of}
 use Rattle.mi_clients.specs.Client.{owed, Owes, IsServed, HasRoom, HasNoLine, MayAsk, IsAsked, IsOver, IsWhole, IsAsFar, HasSent, Hears, AsksWhatCame, ends_after}
-use Rattle.mi_clients.specs.Beside.{Tells, Answers, Attended, InPlace, Stays, JudgedThere}
-use Rattle.mi_clients.specs.Silence.{IsJudged}
+use Rattle.mi_clients.specs.Beside.{is_other, shut, IsFarBehind, Tells, Answers, Attended, InPlace, Stays, IsJudgedBeside, JudgedThere}
+use Rattle.mi_clients.specs.ServiceLines.{is_service}
 use Rattle.mi_clients.specs.Input.{waiting, count_on}
 use Rattle.mi_clients.specs.Lines.{Ends}
 use Rattle.mi_clients.specs.Output.{unsent, Sends}
@@ -24,7 +24,67 @@ more_than m n above = omega (arith, above)
 broken_ended : (p : Phase) → p ≡ Broken → p ≡ Ended → ⊥
 broken_ended p is other = cc
 
+-- ---- how far it is behind a line
+
+shut_open : (p : Phase) → shut p ≡ Open → ⊥
+shut_open Open e = cc
+shut_open Ended e = cc
+shut_open Asked e = cc
+shut_open Broken e = cc
+
+pub other_some : (line : List ℕ) → ¬ (line ≡ []) → is_other line ≡ not (is_service line)
+other_some [] some = absurd (some refl)
+other_some (b ∷ bs) some = refl
+
+-- one that is broken stays so, and another one is shut behind another line
+pub shut_broken : (own : Bool) (p q : Phase) → q ≡ cond own p (shut p) → p ≡ Broken → q ≡ Broken
+shut_broken true p q is broken = is ∙ broken
+shut_broken false p q is broken = is ∙ ap shut broken
+
+pub shut_open_one : (p q : Phase) → q ≡ shut p → p ≡ Open → q ≡ Ended
+shut_open_one p q is was = is ∙ ap shut was
+
+pub open_sound : (p : Phase) → p ≡ Open → ¬ (p ≡ Broken)
+open_sound p was broken = cc
+
+pub shut_behind : (own other : Bool) (p q r : Phase) → other ≡ not own → r ≡ cond own q (shut q) → q ≡ p → r ≡ cond other (shut p) p
+shut_behind true other p q r not_own is same = is ∙ same ∙ sym (ap (λ t. cond t (shut p) p) not_own)
+shut_behind false other p q r not_own is same = is ∙ ap shut same ∙ sym (ap (λ t. cond t (shut p) p) not_own)
+
+module _ {S : Type 0} (line : List ℕ) (b c : Client S) where
+  behind_open : IsFarBehind line b c → c.phase ≡ Open → b.phase ≡ Open
+  behind_open (inl broken) is = absurd (broken_open c.phase broken is)
+  behind_open (inr same) is = go (is_other line) same
+    where
+      go : (t : Bool) → c.phase ≡ cond t (shut b.phase) b.phase → b.phase ≡ Open
+      go true shuts = absurd (shut_open b.phase (sym shuts ∙ is))
+      go false stays = sym stays ∙ is
+
+  behind_broken : IsFarBehind line b c → b.phase ≡ Broken → c.phase ≡ Broken
+  behind_broken (inl broken) is = broken
+  behind_broken (inr same) is = go (is_other line) same
+    where
+      go : (t : Bool) → c.phase ≡ cond t (shut b.phase) b.phase → c.phase ≡ Broken
+      go true shuts = shuts ∙ ap shut is
+      go false stays = stays ∙ is
+
+  behind_shut : IsFarBehind line b c → is_other line ≡ true → c.phase ≡ Open → ⊥
+  behind_shut (inl broken) other is = broken_open c.phase broken is
+  behind_shut (inr same) other is = shut_open b.phase (sym (same ∙ ap (λ t. cond t (shut b.phase) b.phase) other) ∙ is)
+
 module _ {S : Type 0} where
+  -- what a connection was given it is owed still, where it is only read no more
+  pub owes_then : (given : List ℕ) (a b c : Client S) → Owes given a b → c.conn ≡ b.conn → c.stream ≡ b.stream → owed c ≡ owed b
+      → (b.phase ≡ Broken → c.phase ≡ Broken) → Owes given a c
+  owes_then given a b c p conn stream same breaks = record {
+    conn = conn ∙ p.conn;
+    stream = stream ∙ p.stream;
+    lost = p.lost;
+    bytes = p.bytes ∙ ap (λ t. t ++ p.lost) (sym same);
+    whole = elim p.whole [ inl broken ↦ inl (breaks broken) | inr none ↦ inr none ];
+    broken = λ is. (breaks (p.broken is).0, (p.broken is).1);
+  }
+
   same_some : (c x : Client S) → ◌≡◌ {A = Option (Client S)} (Some x) (Some c) → c ≡ x
   same_some c x is = cc
 
@@ -56,10 +116,10 @@ module _ {S : Type 0} where
   goes_there P None q c d is none p over = none
   goes_there P (Some x) q c d is none p over = (d, subst (λ y. P y d) (same_some c x is) p, subst (Stays d) (sym none) over)
 
-  pub judged_there : (limit : Option ℕ) (now : ℕ) (o : Option (Client S)) (c d : Client S) → o ≡ Some c → IsJudged limit now c d
+  pub judged_there : (limit : Option ℕ) (now : ℕ) (o : Option (Client S)) (c d : Client S) → o ≡ Some c → IsJudgedBeside limit now c d
       → JudgedThere limit now o (Some d)
   judged_there limit now None c d is p = cc
-  judged_there limit now (Some x) c d is p = (d, refl, subst (λ y. IsJudged limit now y d) (same_some c x is) p)
+  judged_there limit now (Some x) c d is p = (d, refl, subst (λ y. IsJudgedBeside limit now y d) (same_some c x is) p)
 
   -- why no line is answered
   pub why_none : (c : Client S) {X : Type 0} → ¬ MayAsk c → IsAsked c → (c.phase ≡ Broken) ⊎ (HasNoLine c ⊎ (¬ HasRoom c ⊎ X))
@@ -111,12 +171,13 @@ module _ {S : Type 0} where
       asked = came_sent remaining p.line a d e
           (came_more remaining [] p.line a b d came (stream ∙ p.owes.stream) (p.waits ∙ ap (λ i. p.line ++ waiting i) (sym input))
           (ap (λ (i : Input). i.is_first) input ∙ p.first) (ap (λ (i : Input). i.lines) input ∙ p.counts) (was_open settled p.far)
-          (λ is. (settled_broken settled (answered_broken p.far is), p.sound is)))
+          (λ is. (settled_broken settled (behind_broken p.line b c p.far is), p.sound is)))
           keeps sent_input far;
       held = sent_held ∙ same_held ∙ p.held ∙ held;
       ends = sent_ends ∙ same_ends ∙ p.ends ∙ ap (λ o. ends_after o p.line) ends;
+      shuts = λ other is. stays_shut settled other (was_open_there far is);
       none = λ is. elim (p.none is) [
-        | inl broken ↦ inl (goes_broken (settled_broken settled (answered_broken p.far broken)))
+        | inl broken ↦ inl (goes_broken (settled_broken settled (behind_broken p.line b c p.far broken)))
         | inr (inl none) ↦ inr (inl (ap (λ i. ended (waiting i)) (sent_input ∙ input) ∙ none))
         | inr (inr (inl full)) ↦ inr (inr (inl (subst (λ t. MOST_UNSENT < length t) still (more_than MOST_UNSENT (length (owed b)) full))))
         | inr (inr (inr some)) ↦ inr (inr (inr (λ no. some (ap bytes_of held ∙ no))))
@@ -137,11 +198,14 @@ module _ {S : Type 0} where
         settled_broken (inl same) is = ap (λ (x : Client S). x.phase) same ∙ is
         settled_broken (inr all) is = absurd (broken_ended c.phase is all.1.0)
 
-        answered_broken : IsAsFar b c → b.phase ≡ Broken → c.phase ≡ Broken
-        answered_broken (inl broken) is = broken
-        answered_broken (inr same) is = same ∙ is
+        was_open_there : IsAsFar d e → e.phase ≡ Open → d.phase ≡ Open
+        was_open_there (inl broken) is = absurd (broken_open e.phase broken is)
+        was_open_there (inr same) is = sym same ∙ is
 
-        was_open : (d ≡ c) ⊎ ((d.phase ≡ Asked) × IsWhole c) → IsAsFar b c → d.phase ≡ Open → b.phase ≡ Open
+        stays_shut : (d ≡ c) ⊎ ((d.phase ≡ Asked) × IsWhole c) → is_other p.line ≡ true → d.phase ≡ Open → ⊥
+        stays_shut (inr all) other is = asked_open d.phase all.0 is
+        stays_shut (inl same) other is = behind_shut p.line b c p.far other (ap (λ (x : Client S). x.phase) (sym same) ∙ is)
+
+        was_open : (d ≡ c) ⊎ ((d.phase ≡ Asked) × IsWhole c) → IsFarBehind p.line b c → d.phase ≡ Open → b.phase ≡ Open
         was_open (inr all) q is = absurd (asked_open d.phase all.0 is)
-        was_open (inl same) (inl broken) is = absurd (broken_open c.phase broken (ap (λ (x : Client S). x.phase) (sym same) ∙ is))
-        was_open (inl same) (inr also) is = sym also ∙ ap (λ (x : Client S). x.phase) (sym same) ∙ is
+        was_open (inl same) q is = behind_open p.line b c q (ap (λ (x : Client S). x.phase) (sym same) ∙ is)

@@ -1,6 +1,6 @@
 //! The place beside those of a row. A connection there is attached to no hub, so none of its lines can reach the tables: it is served the
-//! service's own lines alone.
-ghost use Rattle.std.specs.Prelude.{◌≡◌, ◌<◌, ◌⊎◌, ◌↔◌, List, [], ℕ, Some, None, true, length, not, is_some, option_map, IsTrue, IsFalse, IfSome};
+//! service's own lines alone, and turned away behind any other.
+ghost use Rattle.std.specs.Prelude.{◌≡◌, ◌<◌, ◌⊎◌, ◌↔◌, List, [], ℕ, Some, None, true, length, not, is_some, option_map, IsTrue, IsFalse, IfSome, if◌then◌else◌};
 ghost use Rattle.mi_ledger.specs.HeldReplies.{bytes_of};
 ghost use Rattle.mi_ledger.specs.Ledger.{hub_of, log_of};
 ghost use Rattle.mi_clients.specs.Row.{ids, IsNew};
@@ -10,14 +10,14 @@ ghost use Rattle.std.specs.String.{string_bytes};
 ghost use Rattle.mi_clients.specs.ServiceLines.{line_of};
 ghost use Rattle.mi_clients.specs.Client.{IsBusy, IsWhole, woken};
 ghost use Rattle.mi_clients.specs.Ending.{forgotten};
-ghost use Rattle.mi_clients.specs.Beside.{Answers, Attended, InPlace, JudgedThere, EndedAs, end_there};
+ghost use Rattle.mi_clients.specs.Beside.{shut, Answers, Attended, InPlace, IsIdler, IsTurnedAway, IsJudgedBeside, JudgedThere, EndedAs, end_there};
 ghost use Rattle.mi_clients.specs.declared.client.Phase.TheVariants as phases;
 
 use crate::client::{Client, Phase};
 use crate::duplex::Duplex;
 use crate::ending::end_one;
 use crate::schema_line::SchemaLine;
-use crate::service_lines::{ended_in, told_beside};
+use crate::service_lines::{PLACES, ended_in, is_service, told_beside};
 use crate::telling::{MEMORY, put_behind, status_now};
 use mi_ledger::Ledger;
 use mi_log::Log;
@@ -30,7 +30,20 @@ pub struct Beside<S> {
     client: Option<Client<S>>,
 }
 
-/// Answers the first whole line of a connection beside the others, where its lines may be asked.
+/// No more of a connection is read, unless its line was the service's own.
+fn shut_unless<S>(client: &mut Client<S>, own: bool)
+    ensures phase { client.new.phase ≡ (if own then client.old.phase else shut client.old.phase) }
+    ensures input { client.new.input ≡ client.old.input }
+    ensures has_lines { client.new.has_lines ≡ client.old.has_lines }
+    ensures same { client.new ≡ record client.old { input = client.new.input; phase = client.new.phase; has_lines = client.new.has_lines; lines = client.new.lines; all_asked = client.new.all_asked } }
+{
+    if !own && client.phase == Phase::Open {
+        client.phase = Phase::Ended;
+    }
+}
+
+/// Answers the first whole line of a connection beside the others, where its lines may be asked. Behind one that is none of the service's no
+/// more is read.
 fn answer<S>(client: &mut Client<S>, status: &[u8], schema: &SchemaLine)
     ensures { Answers status.now (line_of schema.now) client.old client.new }
 {
@@ -43,10 +56,12 @@ fn answer<S>(client: &mut Client<S>, status: &[u8], schema: &SchemaLine)
     };
     let text = told_beside(line, status, schema.as_slice());
     let ends = ended_in(line);
+    let own = is_service(line);
     let count = line.len();
     client.input.pass(count, false);
     client.ends = ends;
     put_behind(client, Vec::new(client.alloc), text);
+    shut_unless(client, own);
 }
 
 /// The line of the status, where a connection beside the others asks the service something. None where memory for it is refused.
@@ -117,6 +132,37 @@ fn attend<D: Sessions + Drop, L: Log + Drop, S: Duplex>(
     client.send();
 }
 
+/// A connection is told that there is no place for it, and no more of it is read.
+fn turn_away<S>(client: &mut Client<S>)
+    requires more { client.old.phase ≡ phases.Open }
+    requires none { bytes_of client.old.held ≡ [] }
+    ensures { IsTurnedAway client.old client.new }
+{
+    put_behind(client, Vec::new(client.alloc), PLACES);
+    shut_unless(client, false);
+}
+
+/// Whether nothing was told to a connection yet, more of it may come, and it has been silent for too long.
+fn is_idler<S>(client: &Client<S>, now: u64, limit: Option<u64>) -> bool
+    ensures { IsTrue result ↔ IsIdler limit now client.now }
+{
+    client.phase == Phase::Open
+        && client.lines() == 0
+        && client.held.is_empty()
+        && client.gives_up(now, limit)
+}
+
+/// A second of the clock, for a connection beside the others.
+fn judge<S>(client: &mut Client<S>, now: u64, limit: Option<u64>)
+    ensures { IsJudgedBeside limit now client.old client.new }
+{
+    if is_idler(client, now, limit) {
+        turn_away(client);
+    } else {
+        client.judge(now, limit);
+    }
+}
+
 impl<S> Beside<S> {
     /// Nobody is there.
     pub fn new() -> Beside<S>
@@ -156,7 +202,8 @@ impl<S> Beside<S> {
         }
     }
 
-    /// It is given up where it has sent nothing for more seconds than its limit. What came is noted under this second.
+    /// It is given up where it has sent nothing for more seconds than its limit; where nothing was told to it yet, it is told that there is no
+    /// place for it first. What came is noted under this second.
     pub fn judge(&mut self, now: u64, limit: Option<u64>)
     where
         S: Drop,
@@ -164,7 +211,7 @@ impl<S> Beside<S> {
     {
         if let Some(client) = self.client.take() {
             let mut client = client;
-            client.judge(now, limit);
+            judge(&mut client, now, limit);
             self.client = Some(client);
         }
     }
@@ -198,8 +245,8 @@ impl<S> Beside<S> {
 }
 
 impl<S: Duplex + Drop> Beside<S> {
-    /// What is ready of the connection that is there is read, its first whole line is answered, and what it is owed is sent. It goes once it is
-    /// over. A status is that of this hub and journal, and of these connections, which it is none of, so many seconds after the start.
+    /// What is ready of the connection that is there is read, its first whole line is answered, and what it is owed is sent. Behind a line that is
+    /// none of the service's no more of it is read. It goes once it is over. A status is that of this hub and journal, and of these connections, which it is none of, so many seconds after the start.
     ///
     /// Neither hub nor journal nor row is lent to be changed.
     pub fn serve<D: Sessions + Drop, L: Log + Drop>(

@@ -218,6 +218,13 @@ impl<S> Client<S> {
         self.phase != Phase::Broken && !self.wants_bytes() && has_passed(limit, self.heard_at, now)
     }
 
+    /// Whether nothing has come since the clock was noted, and it is silent.
+    pub(crate) fn gives_up(&self, now: u64, limit: Option<u64>) -> bool
+        ensures { IsTrue result ↔ (IsFalse self.now.has_come × IsSilent limit now self.now) }
+    {
+        !self.has_come && self.is_silent(now, limit)
+    }
+
     /// A second of the clock: where a piece of it came, that is noted under this second; else it is given up where it is silent.
     pub(crate) fn judge(&mut self, now: u64, limit: Option<u64>)
         ensures { IsJudged limit now self.old self.new }

@@ -2,6 +2,9 @@
 ghost use Rattle.std.specs.Prelude.{◌≡◌};
 ghost use Rattle.mi_clients.specs.ServiceLines as spec;
 
+/// What is told to another line beside those that have a place.
+pub(crate) const PLACES: &[u8] = b"{\"error\":\"places\",\"ok\":false}\n";
+
 /// Whether a line is the service's own: it begins with `{"service":"`.
 #[inline]
 pub fn is_service(line: &[u8]) -> bool
@@ -59,7 +62,7 @@ pub(crate) fn told_beside<'a>(line: &[u8], status: &'a [u8], schema: &'a [u8]) -
     if is_service(line) {
         told_to(line, status, schema)
     } else {
-        b"{\"error\":\"places\",\"ok\":false}\n"
+        PLACES
     }
 }
 

@@ -27,7 +27,7 @@ use Rattle.mi_model.specs.OneTable as one
 use Rattle.mi_model.specs.OneTable.{OneTable, IsAsOneTable, in_catalog}
 use Rattle.mi_model.proofs.OneTableLaws.{one_table_as_before}
 use Rattle.mi_request.specs.Json.{has_only}
-use Rattle.mi_request.specs.Commands.{Asks, a_change, a_look_up, of_sessions, Form, with_table, member_names, asked, keeps_out, names_table}
+use Rattle.mi_request.specs.Commands.{Asks, a_change, a_number_look_up, a_key_look_up, of_sessions, Form, with_table, member_names, asked, keeps_out, names_table}
 use Rattle.mi_request.proofs.FormLemmas.{asked_names}
 use Rattle.mi_request.specs.Lines.{json_of, request_by, form_in, request_in, request_or_refusal, command_line}
 use Rattle.mi_request.specs.declared.request.Request.{Request}
@@ -39,15 +39,18 @@ use Rattle.mi_protocol.specs.Replies as say
 use Rattle.mi_protocol.specs.Replies.{Said, reply_text}
 use Rattle.mi_request.specs.declared.request.SessionCommand.{SessionCommand}
 use Rattle.mi_request.specs.declared.request.SessionCommand.TheVariants as session
-use Rattle.mi_protocol.specs.declared.command.Change.{Change}
-use Rattle.mi_protocol.specs.declared.command.Change.TheVariants as change
+use Rattle.mi_protocol.specs.declared.changes.Change.{Change}
+use Rattle.mi_protocol.specs.declared.changes.Change.TheVariants as change
 use Rattle.mi_protocol.specs.declared.command.Command.{Command}
 use Rattle.mi_protocol.specs.declared.command.Command.TheVariants as command
-use Rattle.mi_protocol.specs.declared.command.LookUp.{LookUp}
-use Rattle.mi_protocol.specs.declared.command.LookUp.TheVariants as look_up
+use Rattle.mi_protocol.specs.declared.look_ups.KeyLookUp.{KeyLookUp}
+use Rattle.mi_protocol.specs.declared.look_ups.KeyLookUp.TheVariants as by_key
+use Rattle.mi_protocol.specs.declared.look_ups.NumberLookUp.{NumberLookUp}
+use Rattle.mi_protocol.specs.declared.look_ups.NumberLookUp.TheVariants as by_number
 use Rattle.mi_commands.specs.Asked.{Asked, text, too_long}
 use Rattle.mi_commands.specs.Holder.{HeldDatabase, is_busy, one_more, one_less, at_most, held_by}
-use Rattle.mi_commands.specs.Performed.{performed, said_of, all_done, holder_after, or_session, found, show_found, show_page, look_up_said}
+use Rattle.mi_commands.specs.Performed.{performed, said_of, all_done, holder_after, or_session, found, show_found, show_page}
+use Rattle.mi_commands.specs.Performed.{number_look_up_said, key_look_up_said}
 use Rattle.mi_commands.specs.Answer.{answer, command_of, command_answer, MayGive}
 use Rattle.mi_commands.specs.Alone.{HeldTable, request_without, request_alone, read_alone, line_alone, bound_alone}
 use Rattle.mi_commands.specs.Alone.{change_alone, session_alone, performed_alone, command_alone, done_alone, answer_alone, refusal_alone, modify_refusal_alone, text_alone}
@@ -116,7 +119,8 @@ NoName o = IfSome o (λ r. names_table r ≡ false)
 -- the names of a form are those without `table`, and perhaps that
 less_table : (asks : Asks) (names : List (List ℕ)) → less (codes "cmd" ∷ with_table asks names) ≡ less (codes "cmd" ∷ names)
 less_table (a_change f) names = refl
-less_table (a_look_up f) names = refl
+less_table (a_number_look_up f) names = refl
+less_table (a_key_look_up f) names = refl
 less_table (of_sessions f) names = refl
 
 module _ (ms : Members) (none : get_member the_table ms ≡ None) where
@@ -168,7 +172,8 @@ module _ (first : ℕ) (s : Shape) where
 
   bound_same : (r : Request) → names_table r ≡ false → bound_command of_one r ≡ bound_alone s r
   bound_same (request.Change (Some name) r) none = absurd (cc)
-  bound_same (request.LookUp (Some name) r) none = absurd (cc)
+  bound_same (request.NumberLookUp (Some name) r) none = absurd (cc)
+  bound_same (request.KeyLookUp (Some name) r) none = absurd (cc)
   bound_same r none = refl
 
   -- ---- the text of a reply
@@ -259,14 +264,17 @@ module _ (first : ℕ) (s : Shape) where
   either_first true x y h k = h
   either_first false x y h k = k
 
-  looked_first : (t : Table) (x : LookUp) → IsFirst (look_up_said 0 s t x)
-  looked_first t (look_up.Get id) = found_first id _
-  looked_first t (look_up.Find x key) = shown_first t _
-  looked_first t (look_up.Nth x place) = shown_first t _
-  looked_first t (look_up.Range x low high reverse limit) = refl
-  looked_first t (look_up.List x after limit) = either_first (has_place t after) (show_page 0 t (list s t x after limit)) (say.refused 0 refusal.NoId) refl refl
-  looked_first t (look_up.Rank x id) = either_first (has t id) (say.ranked (rank s t x id)) (say.refused 0 refusal.NoId) tt refl
-  looked_first t other = tt
+  number_first : (t : Table) (x : NumberLookUp) → IsFirst (number_look_up_said 0 s t x)
+  number_first t (by_number.Get id) = found_first id _
+  number_first t (by_number.Nth x place) = shown_first t _
+  number_first t (by_number.List x after limit) = either_first (has_place t after) (show_page 0 t (list s t x after limit)) (say.refused 0 refusal.NoId) refl refl
+  number_first t (by_number.Rank x id) = either_first (has t id) (say.ranked (rank s t x id)) (say.refused 0 refusal.NoId) tt refl
+  number_first t other = tt
+
+  key_first : (t : Table) (x : KeyLookUp) → IsFirst (key_look_up_said 0 s t x)
+  key_first t (by_key.Find x key) = shown_first t _
+  key_first t (by_key.Range x low high reverse limit) = refl
+  key_first t other = tt
 
   module _ (d : HeldTable) (conn : ℕ) where
     change_first : (x : Change) → IsFirst (change_alone s d x).0
@@ -285,7 +293,8 @@ module _ (first : ℕ) (s : Shape) where
 
     performed_first : (c : Command) → IsFirst (performed_alone s d conn c).0
     performed_first (command.Change n x) = change_first x
-    performed_first (command.LookUp n x) = looked_first d.database.table x
+    performed_first (command.NumberLookUp n x) = number_first d.database.table x
+    performed_first (command.KeyLookUp n x) = key_first d.database.table x
     performed_first (command.Session x) = session_first x
 
     done_first : (c : Result Command Refusal) → IsFirst (done_alone s d conn c).0
@@ -337,8 +346,10 @@ module _ (first : ℕ) (s : Shape) where
     performed_same : (c : Command) → IsOverFirst c → performed here conn c ≡ and_here (performed_alone s d conn c)
     performed_same (command.Change zero x) h = change_same x
     performed_same (command.Change (suc n) x) h = absurd (cc)
-    performed_same (command.LookUp zero x) h = refl
-    performed_same (command.LookUp (suc n) x) h = absurd (cc)
+    performed_same (command.NumberLookUp zero x) h = refl
+    performed_same (command.NumberLookUp (suc n) x) h = absurd (cc)
+    performed_same (command.KeyLookUp zero x) h = refl
+    performed_same (command.KeyLookUp (suc n) x) h = absurd (cc)
     performed_same (command.Session x) h = session_same x
 
     done_same : (c : Result Command Refusal) → IfOk c IsOverFirst → command_answer here conn c ≡ and_here (done_alone s d conn c)

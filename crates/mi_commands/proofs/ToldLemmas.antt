@@ -24,20 +24,22 @@ use Rattle.mi_protocol.specs.Output.{PutOrMemory}
 use Rattle.mi_protocol.specs.Replies.{Said, is_short, reply_text, refused}
 use Rattle.mi_request.specs.declared.request.SessionCommand.{SessionCommand}
 use Rattle.mi_request.specs.declared.request.SessionCommand.TheVariants as session
-use Rattle.mi_protocol.specs.declared.command.Change.{Change}
-use Rattle.mi_protocol.specs.declared.command.Change.TheVariants as change
+use Rattle.mi_protocol.specs.declared.changes.Change.{Change}
+use Rattle.mi_protocol.specs.declared.changes.Change.TheVariants as change
 use Rattle.mi_protocol.specs.declared.command.Command.{Command}
 use Rattle.mi_protocol.specs.declared.command.Command.TheVariants as command
-use Rattle.mi_protocol.specs.declared.command.LookUp.{LookUp}
-use Rattle.mi_protocol.specs.declared.command.LookUp.TheVariants as look_up
+use Rattle.mi_protocol.specs.declared.look_ups.KeyLookUp.{KeyLookUp}
+use Rattle.mi_protocol.specs.declared.look_ups.KeyLookUp.TheVariants as by_key
+use Rattle.mi_protocol.specs.declared.look_ups.NumberLookUp.{NumberLookUp}
+use Rattle.mi_protocol.specs.declared.look_ups.NumberLookUp.TheVariants as by_number
 use Rattle.mi_request.specs.Lines.{command_line}
 use Rattle.mi_commands.specs.Asked as asking
 use Rattle.mi_commands.specs.Asked.{Asked}
-use Rattle.mi_commands.specs.Answer.{looked_without, done_without, command_answer, command_of, answer, command_changes, line_changes}
-use Rattle.mi_commands.specs.Answer.{IsAnswered, MayGive, MayAnswer}
+use Rattle.mi_commands.specs.Answer.{session_needs_none, Lacks, command_answer, command_of, answer, command_changes, line_changes}
+use Rattle.mi_commands.specs.Answer.{AnsweredOrMemory, IsAnswered, MayGive, MayAnswer}
 use Rattle.mi_commands.specs.Holder.{HeldDatabase}
 use Rattle.mi_commands.specs.Performed.{performed, altered, said_of, all_done, or_session, revised, Move, one_up, one_down, done_by}
-use Rattle.mi_commands.specs.Performed.{found, show_found, look_up_said, looked, changed, session_effect}
+use Rattle.mi_commands.specs.Performed.{found, show_found, number_look_up_said, key_look_up_said, changed, session_effect}
 use Rattle.mi_commands.specs.Told.{SaysMemory, SaidOrMemory, ToldOrMemory, loses, tells_change, may_change}
 use Rattle.mi_commands.proofs.UndoneLaws.{undone_catalog, squashed_catalog, undone_times_catalog}
 
@@ -173,7 +175,8 @@ over_sessions-keeps s conn x h = refl
 -- a command that can't have changed anything leaves all as it is
 pub command_keeps : (s : HeldDatabase) (conn : ℕ) (c : Command) → may_change c (performed s conn c).0 ≡ false → (performed s conn c).1 ≡ s
 command_keeps s conn (command.Change n x) h = ap (λ d. record s { database = d }) (change_keeps s.database n x h)
-command_keeps s conn (command.LookUp n x) h = refl
+command_keeps s conn (command.NumberLookUp n x) h = refl
+command_keeps s conn (command.KeyLookUp n x) h = refl
 command_keeps s conn (command.Session x) h = over_sessions-keeps s conn x h
 
 pub told_keeps : {A : Type 0} (s t : HeldDatabase) (conn : ℕ) (c : Command) (told : Said) → ToldOrMemory A (performed s conn c) s told t
@@ -194,13 +197,16 @@ either_quiet : (b : Bool) (x y : Said) → tells_change x ≡ false → tells_ch
 either_quiet true x y h k = h
 either_quiet false x y h k = k
 
-pub look_quiet : (n : ℕ) (s : Shape) (t : Table) (x : LookUp) → tells_change (look_up_said n s t x) ≡ false
-look_quiet n s t (look_up.Get id) = found_quiet n id (get t id)
-look_quiet n s t (look_up.Find index key) = shown_quiet n t (look.find s t index key)
-look_quiet n s t (look_up.Nth index place) = shown_quiet n t (look.nth s t index place)
-look_quiet n s t (look_up.List index after limit) = either_quiet (has_place t after) _ _ refl refl
-look_quiet n s t (look_up.Rank index id) = either_quiet (has t id) _ _ refl refl
-look_quiet n s t x = refl
+pub number_quiet : (n : ℕ) (s : Shape) (t : Table) (x : NumberLookUp) → tells_change (number_look_up_said n s t x) ≡ false
+number_quiet n s t (by_number.Get id) = found_quiet n id (get t id)
+number_quiet n s t (by_number.Nth index place) = shown_quiet n t (look.nth s t index place)
+number_quiet n s t (by_number.List index after limit) = either_quiet (has_place t after) _ _ refl refl
+number_quiet n s t (by_number.Rank index id) = either_quiet (has t id) _ _ refl refl
+number_quiet n s t x = refl
+
+pub key_quiet : (n : ℕ) (s : Shape) (t : Table) (x : KeyLookUp) → tells_change (key_look_up_said n s t x) ≡ false
+key_quiet n s t (by_key.Find index key) = shown_quiet n t (look.find s t index key)
+key_quiet n s t x = refl
 
 memory_quiet : (c : Command) (told : Said) → SaysMemory told → may_change c told ≡ false
 memory_quiet (command.Session (session.Reserve changes sessions)) told h = refl
@@ -241,10 +247,6 @@ said_short : {A : Type 0} (accepted : A → Said) (denied : Refusal → Said) (a
 said_short accepted denied (Ok v) h k = h v
 said_short accepted denied (Err e) h k = k e
 
-either_short : (b : Bool) (x y : Said) → is_short x ≡ true → is_short y ≡ true → is_short (cond b x y) ≡ true
-either_short true x y h k = h
-either_short false x y h k = k
-
 change_short : (d : Database) (n : ℕ) (x : Change) → is_short (changed d n x).0 ≡ true
 change_short d n (change.Insert values before) = said_short say.inserted (say.refused n) _ (λ v. refl) (λ e. refl)
 change_short d n (change.Replace id values) = said_short all_done (say.refused n) _ (λ v. refl) (λ e. refl)
@@ -258,11 +260,6 @@ over_sessions-short s conn session.Start = said_short say.revised (say.refused 0
 over_sessions-short s conn session.Undo = said_short say.revised (say.refused 0) (or_session (undo_step s.database).0) (λ v. refl) (λ e. refl)
 over_sessions-short s conn session.Squash = said_short say.revised (say.refused 0) (or_session (squash_step s.database).0) (λ v. refl) (λ e. refl)
 over_sessions-short s conn x = refl
-
-looked_short : (n : ℕ) (s : Shape) (t : Table) (x : LookUp) → looked_without x ≡ true → is_short (look_up_said n s t x) ≡ true
-looked_short n s t (look_up.Rank index id) h = either_short (has t id) _ _ refl refl
-looked_short n s t look_up.Size h = refl
-looked_short n s t x h = not_false (sym h)
 
 memory_short : (told : Said) → SaysMemory told → is_short told ≡ true
 memory_short (say.refused table e) h = refl
@@ -280,10 +277,6 @@ memory_text : (c : CatalogShape) (told : Said) → SaysMemory told → reply_tex
 memory_text c (say.refused table Memory) h = refl
 memory_text c (say.refused_modify table Memory) h = refl
 memory_text c told h = absurd h
-
-lacks : (n : ℕ) (s : Shape) (t : Table) (x : LookUp) (b : Bool) → looked_without x ≡ b → is_short (look_up_said n s t x) ≡ false → looked_without x ≡ false
-lacks n s t x false is h = is
-lacks n s t x true is h = not_false (sym (looked_short n s t x is) ∙ h)
 
 -- ---- the catalog
 
@@ -309,7 +302,8 @@ over_sessions-catalog d x = refl
 
 command_catalog : (s : HeldDatabase) (conn : ℕ) (c : Command) → (performed s conn c).1.database.catalog ≡ s.database.catalog
 command_catalog s conn (command.Change n x) = change_catalog s.database n x
-command_catalog s conn (command.LookUp n x) = refl
+command_catalog s conn (command.NumberLookUp n x) = refl
+command_catalog s conn (command.KeyLookUp n x) = refl
 command_catalog s conn (command.Session x) = over_sessions-catalog s.database x
 
 told_catalog : {A : Type 0} (s t : HeldDatabase) (conn : ℕ) (c : Command) (told : Said) → ToldOrMemory A (performed s conn c) s told t
@@ -320,14 +314,12 @@ told_catalog s t conn c told (inr p) = ap (λ (u : HeldDatabase). u.database.cat
 -- ---- what an output has
 
 -- rows that find no room are refused for want of memory, and a look-up has changed nothing
-pub look_put : (s : HeldDatabase) (n : ℕ) (x : LookUp) (told : Said) (text : List ℕ) → SaidOrMemory (looked_without x ≡ false) (looked s.database n x) told
-    → PutOrMemory s.database.catalog told text → IsAnswered s 0 (command.LookUp n x) text false s
-look_put s n x told text (inl p) (inl is) =
-    inl ((is ∙ ap (reply_text s.database.catalog) p, refl), sym (look_quiet n (schema_of s.database n) (table_of s.database n) x))
-look_put s n x told text (inr p) (inl is) = inr (p.0, (is ∙ memory_text s.database.catalog told p.1, refl), refl)
-look_put s n x told text (inl p) (inr q) =
-    inr (lacks n (schema_of s.database n) (table_of s.database n) x (looked_without x) refl (sym (ap is_short p) ∙ q.0), (q.1, refl), refl)
-look_put s n x told text (inr p) (inr q) = inr (p.0, (q.1, refl), refl)
+pub look_put : (s : HeldDatabase) (said told : Said) (text : List ℕ) → tells_change said ≡ false → SaidOrMemory (is_short said ≡ false) said told
+    → PutOrMemory s.database.catalog told text → AnsweredOrMemory (is_short said ≡ false) (said, s) (tells_change said) s text false s
+look_put s said told text quiet (inl p) (inl is) = inl ((is ∙ ap (reply_text s.database.catalog) p, refl), sym quiet)
+look_put s said told text quiet (inr p) (inl is) = inr (p.0, (is ∙ memory_text s.database.catalog told p.1, refl), refl)
+look_put s said told text quiet (inl p) (inr q) = inr (sym (ap is_short p) ∙ q.0, (q.1, refl), refl)
+look_put s said told text quiet (inr p) (inr q) = inr (p.0, (q.1, refl), refl)
 
 -- what any other command tells has no rows
 module _ (s t : HeldDatabase) (conn : ℕ) (c : Command) (told : Said) (text : List ℕ) (short : is_short (performed s conn c).0 ≡ true) where
@@ -335,13 +327,13 @@ module _ (s t : HeldDatabase) (conn : ℕ) (c : Command) (told : Said) (text : L
   told_text h (inl is) = is ∙ ap (λ (k : CatalogShape). reply_text k told) (told_catalog s t conn c told h)
   told_text h (inr q) = not_false (sym (told_short s t conn c told short h) ∙ q.0)
 
-  told_put : (changed : Bool) → ToldOrMemory (done_without c ≡ false) (performed s conn c) s told t → PutOrMemory t.database.catalog told text
+  told_put : (changed : Bool) → ToldOrMemory (Lacks c (performed s conn c).0) (performed s conn c) s told t → PutOrMemory t.database.catalog told text
       → changed ≡ may_change c told → IsAnswered s conn c text changed t
   told_put changed (inl p) made is =
-      let given = told_text {A = done_without c ≡ false} (inl p) made in
+      let given = told_text {A = Lacks c (performed s conn c).0} (inl p) made in
       inl ((given ∙ ap (reply_text s.database.catalog) p.0, p.1), is ∙ ap (may_change c) p.0)
   told_put changed (inr p) made is =
-      let given = told_text {A = done_without c ≡ false} (inr p) made in
+      let given = told_text {A = Lacks c (performed s conn c).0} (inr p) made in
       inr (p.0, (given ∙ memory_text s.database.catalog told p.1, p.2), is ∙ memory_quiet c told p.1)
 
 -- a change may lack memory
@@ -351,10 +343,10 @@ pub change_put : (s t : HeldDatabase) (n : ℕ) (x : Change) (told : Said) (text
 change_put s t n x told text changed (inl p) made is =
     told_put s t 0 (command.Change n x) told text (change_short s.database n x) changed (inl p) made is
 change_put s t n x told text changed (inr p) made is =
-    told_put s t 0 (command.Change n x) told text (change_short s.database n x) changed (inr (refl, p.1, p.2)) made is
+    told_put s t 0 (command.Change n x) told text (change_short s.database n x) changed (inr (tt, p.1, p.2)) made is
 
 pub session_put : (s t : HeldDatabase) (conn : ℕ) (x : SessionCommand) (told : Said) (text : List ℕ) (changed : Bool)
-    → ToldOrMemory (done_without (command.Session x) ≡ false) (performed s conn (command.Session x)) s told t → PutOrMemory t.database.catalog told text
+    → ToldOrMemory (session_needs_none x ≡ false) (performed s conn (command.Session x)) s told t → PutOrMemory t.database.catalog told text
     → changed ≡ may_change (command.Session x) told → IsAnswered s conn (command.Session x) text changed t
 session_put s t conn x told text changed h made is =
     told_put s t conn (command.Session x) told text (over_sessions-short s conn x) changed h made is

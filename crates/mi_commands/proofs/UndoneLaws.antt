@@ -23,8 +23,8 @@ use Rattle.mi_protocol.specs.Replies as say
 use Rattle.mi_protocol.specs.Replies.{Said, reply_text}
 use Rattle.mi_request.specs.declared.request.SessionCommand.{SessionCommand}
 use Rattle.mi_request.specs.declared.request.SessionCommand.TheVariants as session
-use Rattle.mi_protocol.specs.declared.command.Change.{Change as TableChange}
-use Rattle.mi_protocol.specs.declared.command.Change.TheVariants as change
+use Rattle.mi_protocol.specs.declared.changes.Change.{Change as TableChange}
+use Rattle.mi_protocol.specs.declared.changes.Change.TheVariants as change
 use Rattle.mi_protocol.specs.declared.command.Command.{Command}
 use Rattle.mi_protocol.specs.declared.command.Command.TheVariants as command
 use Rattle.mi_commands.specs.Asked.{Asked, text, too_long}
@@ -65,7 +65,8 @@ module _ (s : HeldDatabase) (conn : ℕ) where
 
   by_command : (c : Command) → Moves s.database (performed s conn c).1.database
   by_command (command.Change n x) = by_change n x
-  by_command (command.LookUp n x) = inl refl
+  by_command (command.NumberLookUp n x) = inl refl
+  by_command (command.KeyLookUp n x) = inl refl
   by_command (command.Session x) = by_session x
 
   by_bound : (c : Result Command Refusal) → Moves s.database (command_answer s conn c).1.database

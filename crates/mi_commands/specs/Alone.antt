@@ -23,19 +23,19 @@ use Rattle.mi_request.specs.Json.{has_only}
 use Rattle.mi_request.specs.Lines.{json_of, form_in}
 use Rattle.mi_request.specs.declared.request.Request.{Request}
 use Rattle.mi_request.specs.declared.request.Request.TheVariants as request
-use Rattle.mi_protocol.specs.Binding.{and_then, bound_change, bound_look_up}
+use Rattle.mi_protocol.specs.Binding.{and_then, bound_change, bound_number_look_up, bound_key_look_up}
 use Rattle.mi_protocol.specs.Replies as say
 use Rattle.mi_protocol.specs.Replies.{Said, reply_text}
 use Rattle.mi_protocol.specs.Rows.{row_data, rows_items}
 use Rattle.mi_request.specs.declared.request.SessionCommand.{SessionCommand}
 use Rattle.mi_request.specs.declared.request.SessionCommand.TheVariants as session
-use Rattle.mi_protocol.specs.declared.command.Change.{Change}
-use Rattle.mi_protocol.specs.declared.command.Change.TheVariants as change
+use Rattle.mi_protocol.specs.declared.changes.Change.{Change}
+use Rattle.mi_protocol.specs.declared.changes.Change.TheVariants as change
 use Rattle.mi_protocol.specs.declared.command.Command.{Command}
 use Rattle.mi_protocol.specs.declared.command.Command.TheVariants as command
 use Rattle.mi_commands.specs.Asked.{Asked, text, too_long}
 use Rattle.mi_commands.specs.Holder.{HeldDatabase, is_busy, one_more, one_less, at_most, held_by, without_holder}
-use Rattle.mi_commands.specs.Performed.{said_of, all_done, holder_after, or_session, look_up_said}
+use Rattle.mi_commands.specs.Performed.{said_of, all_done, holder_after, or_session, number_look_up_said, key_look_up_said}
 use Rattle.mi_commands.specs.Answer.{answer, MayLackMemory, MayGive}
 use Rattle.mi_commands.specs.declared.holder.Holder.{Holder}
 
@@ -64,7 +64,8 @@ line_alone bytes = read_alone (json_of bytes)
 -- the command that a request is over the one schema. Where commands have the number of a table stands 0
 abbrev pub bound_alone : Shape → Request → Result Command Refusal
 bound_alone s (request.Change table r) = and_then (λ x. Ok (command.Change 0 x)) (bound_change s r)
-bound_alone s (request.LookUp table r) = and_then (λ x. Ok (command.LookUp 0 x)) (bound_look_up s r)
+bound_alone s (request.NumberLookUp table r) = and_then (λ x. Ok (command.NumberLookUp 0 x)) (bound_number_look_up s r)
+bound_alone s (request.KeyLookUp table r) = and_then (λ x. Ok (command.KeyLookUp 0 x)) (bound_key_look_up s r)
 bound_alone s (request.Session x) = Ok (command.Session x)
 
 -- ---- what a command says and leaves
@@ -106,7 +107,8 @@ session_alone d conn session.Revision = (say.status (length d.database.old) (hel
 -- a command over the schema, done by a connection that nobody keeps out; the number of its table isn't looked at
 abbrev pub performed_alone : Shape → HeldTable → ℕ → Command → Said × HeldTable
 performed_alone s d conn (command.Change n x) = change_alone s d x
-performed_alone s d conn (command.LookUp n x) = (look_up_said 0 s d.database.table x, d)
+performed_alone s d conn (command.NumberLookUp n x) = (number_look_up_said 0 s d.database.table x, d)
+performed_alone s d conn (command.KeyLookUp n x) = (key_look_up_said 0 s d.database.table x, d)
 performed_alone s d conn (command.Session x) = session_alone d conn x
 
 -- ---- the answer

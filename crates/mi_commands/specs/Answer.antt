@@ -4,16 +4,16 @@ use Rattle.mi_value.specs.declared.refusal.Refusal.{Refusal}
 use Rattle.mi_value.specs.declared.refusal.Refusal.TheVariants.{Line, Busy, Memory}
 use Rattle.mi_protocol.specs.Lines.{command_line}
 use Rattle.mi_protocol.specs.Commands.{keeps_out}
-use Rattle.mi_protocol.specs.Binding.{bound_command, binds_without}
-use Rattle.mi_protocol.specs.Replies.{Said, refused, reply_text}
+use Rattle.mi_protocol.specs.Binding.{bound_command}
+use Rattle.mi_protocol.specs.Replies.{Said, refused, reply_text, is_short}
 use Rattle.mi_request.specs.Short.{short_line}
+use Rattle.mi_request.specs.declared.request.NumberLookUpRequest.TheVariants as by_number
 use Rattle.mi_request.specs.declared.request.Request.{Request}
 use Rattle.mi_request.specs.declared.request.Request.TheVariants as request
+use Rattle.mi_request.specs.declared.request.SessionCommand.{SessionCommand}
 use Rattle.mi_request.specs.declared.request.SessionCommand.TheVariants as session
 use Rattle.mi_protocol.specs.declared.command.Command.{Command}
 use Rattle.mi_protocol.specs.declared.command.Command.TheVariants as command
-use Rattle.mi_protocol.specs.declared.command.LookUp.{LookUp}
-use Rattle.mi_protocol.specs.declared.command.LookUp.TheVariants as look_up
 use Rattle.mi_commands.specs.Asked.{Asked, text, too_long}
 use Rattle.mi_commands.specs.Holder.{HeldDatabase, is_busy}
 use Rattle.mi_commands.specs.Performed.{performed}
@@ -42,25 +42,26 @@ answer s conn too_long = refusal s Line
 abbrev pub IsGiven : Said × HeldDatabase → HeldDatabase → List ℕ → HeldDatabase → Type 0
 IsGiven a s reply t = (reply ≡ reply_text s.database.catalog a.0) × (t ≡ a.1)
 
--- a request that is done and answered without memory: one of sessions, a size or a rank. A start, an erase and a reserve may need room,
--- and a record is shown in memory that is asked for
+-- a command over sessions that is done without memory. A start and a reserve may need room
+abbrev pub session_needs_none : SessionCommand → Bool
+session_needs_none session.Start = false
+session_needs_none (session.Reserve changes sessions) = false
+session_needs_none x = true
+
+-- a request that is done and answered without memory: one over sessions, or a look-up by numbers that shows no record. A record is shown in
+-- memory that is asked for; a key, a row and edits are made in such memory, and an erase may need room
 abbrev pub needs_none : Request → Bool
-needs_none (request.Session session.Start) = false
-needs_none (request.Session (session.Reserve changes sessions)) = false
-needs_none r = binds_without r
+needs_none (request.NumberLookUp table (by_number.Rank index id)) = true
+needs_none (request.NumberLookUp table by_number.Size) = true
+needs_none (request.Session x) = session_needs_none x
+needs_none r = false
 
--- the command that such a request is
-abbrev pub looked_without : LookUp → Bool
-looked_without (look_up.Rank x id) = true
-looked_without look_up.Size = true
-looked_without other = false
-
-abbrev pub done_without : Command → Bool
-done_without (command.Change n x) = false
-done_without (command.LookUp n x) = looked_without x
-done_without (command.Session session.Start) = false
-done_without (command.Session (session.Reserve changes sessions)) = false
-done_without (command.Session x) = true
+-- a command may lack memory in the place of this answer: a look-up where it shows records
+abbrev pub Lacks : Command → Said → Type 0
+Lacks (command.Change n x) said = Unit {0}
+Lacks (command.NumberLookUp n x) said = is_short said ≡ false
+Lacks (command.KeyLookUp n x) said = is_short said ≡ false
+Lacks (command.Session x) said = session_needs_none x ≡ false
 
 -- a line that takes no memory from its first byte to its reply: one of these, as it is written without spaces
 abbrev pub TakesNone : List ℕ → Type 0
@@ -97,7 +98,7 @@ AnsweredOrMemory MayLack a may s reply changed t =
 -- A command is done from s and answered: this reply is given, and t is left; and `changed` is said of it.
 abbrev pub IsAnswered : HeldDatabase → ℕ → Command → List ℕ → Bool → HeldDatabase → Type 0
 IsAnswered s conn c reply changed t =
-    let done = performed s conn c in AnsweredOrMemory (done_without c ≡ false) done (may_change c done.0) s reply changed t
+    let done = performed s conn c in AnsweredOrMemory (Lacks c done.0) done (may_change c done.0) s reply changed t
 
 -- The same of a request, which is kept out, refused or done.
 abbrev pub IsAsked : HeldDatabase → ℕ → Request → List ℕ → Bool → HeldDatabase → Type 0

@@ -17,12 +17,14 @@ use Rattle.mi_protocol.specs.Replies as say
 use Rattle.mi_protocol.specs.Replies.{Said}
 use Rattle.mi_request.specs.declared.request.SessionCommand.{SessionCommand}
 use Rattle.mi_request.specs.declared.request.SessionCommand.TheVariants as session
-use Rattle.mi_protocol.specs.declared.command.Change.{Change}
-use Rattle.mi_protocol.specs.declared.command.Change.TheVariants as change
+use Rattle.mi_protocol.specs.declared.changes.Change.{Change}
+use Rattle.mi_protocol.specs.declared.changes.Change.TheVariants as change
 use Rattle.mi_protocol.specs.declared.command.Command.{Command}
 use Rattle.mi_protocol.specs.declared.command.Command.TheVariants as command
-use Rattle.mi_protocol.specs.declared.command.LookUp.{LookUp}
-use Rattle.mi_protocol.specs.declared.command.LookUp.TheVariants as look_up
+use Rattle.mi_protocol.specs.declared.look_ups.KeyLookUp.{KeyLookUp}
+use Rattle.mi_protocol.specs.declared.look_ups.KeyLookUp.TheVariants as by_key
+use Rattle.mi_protocol.specs.declared.look_ups.NumberLookUp.{NumberLookUp}
+use Rattle.mi_protocol.specs.declared.look_ups.NumberLookUp.TheVariants as by_number
 use Rattle.mi_commands.specs.Holder.{HeldDatabase, one_more, one_less, at_most, held_by, without_holder}
 use Rattle.mi_commands.specs.declared.holder.Holder.{Holder}
 
@@ -104,23 +106,29 @@ show_page n t p = say.rows n (map (row t) p.ids) p.more
 
 -- ---- what each command does
 
--- what a look-up of a table of this schema says; n is the table's number
-abbrev pub look_up_said : ℕ → Shape → Table → LookUp → Said
-look_up_said n s t (look_up.Get id) = found n id (get t id)
-look_up_said n s t (look_up.Find x key) = show_found n t (look.find s t x key)
-look_up_said n s t (look_up.Nth x place) = show_found n t (look.nth s t x place)
-look_up_said n s t (look_up.Count x key) = say.counted (look.count s t x key)
-look_up_said n s t (look_up.Range x low high reverse limit) = show_page n t (page.range s t x low high reverse limit)
-look_up_said n s t (look_up.List x after limit) =
+-- what a look-up by numbers of a table of this schema says; n is the table's number
+abbrev pub number_look_up_said : ℕ → Shape → Table → NumberLookUp → Said
+number_look_up_said n s t (by_number.Get id) = found n id (get t id)
+number_look_up_said n s t (by_number.Nth x place) = show_found n t (look.nth s t x place)
+number_look_up_said n s t (by_number.List x after limit) =
     if has_place t after then show_page n t (page.list s t x after limit) else say.refused n NoId
-look_up_said n s t (look_up.Rank x id) = if has t id then say.ranked (look.rank s t x id) else say.refused n NoId
-look_up_said n s t (look_up.LowerRank x key) = say.ranked (look.lower_rank s t x key)
-look_up_said n s t (look_up.UpperRank x key) = say.ranked (look.upper_rank s t x key)
-look_up_said n s t look_up.Size = say.sized (size t)
+number_look_up_said n s t (by_number.Rank x id) = if has t id then say.ranked (look.rank s t x id) else say.refused n NoId
+number_look_up_said n s t by_number.Size = say.sized (size t)
 
--- what a look-up of table n of a database says
-abbrev pub looked : Database → ℕ → LookUp → Said
-looked d n x = look_up_said n (schema_of d n) (table_of d n) x
+-- what a look-up by keys says
+abbrev pub key_look_up_said : ℕ → Shape → Table → KeyLookUp → Said
+key_look_up_said n s t (by_key.Find x key) = show_found n t (look.find s t x key)
+key_look_up_said n s t (by_key.Count x key) = say.counted (look.count s t x key)
+key_look_up_said n s t (by_key.Range x low high reverse limit) = show_page n t (page.range s t x low high reverse limit)
+key_look_up_said n s t (by_key.LowerRank x key) = say.ranked (look.lower_rank s t x key)
+key_look_up_said n s t (by_key.UpperRank x key) = say.ranked (look.upper_rank s t x key)
+
+-- what look-ups of table n of a database say
+abbrev pub number_looked : Database → ℕ → NumberLookUp → Said
+number_looked d n x = number_look_up_said n (schema_of d n) (table_of d n) x
+
+abbrev pub key_looked : Database → ℕ → KeyLookUp → Said
+key_looked d n x = key_look_up_said n (schema_of d n) (table_of d n) x
 
 -- what a change of table n says and leaves
 abbrev pub changed : Database → ℕ → Change → Said × Database
@@ -147,7 +155,8 @@ session_effect d session.Revision = record { says = λ held. say.status (depth d
 -- what each command does
 abbrev pub effect : Database → Command → Effect
 effect d (command.Change n x) = let e = changed d n x in record { says = λ held. e.0; left = e.1; move = stays }
-effect d (command.LookUp n x) = shows d (looked d n x)
+effect d (command.NumberLookUp n x) = shows d (number_looked d n x)
+effect d (command.KeyLookUp n x) = shows d (key_looked d n x)
 effect d (command.Session x) = session_effect d x
 
 -- what is said and left of a command of a connection that nobody keeps out

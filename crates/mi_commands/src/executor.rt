@@ -1,17 +1,17 @@
 //! Commands, one line at a time, over the database: parsed, kept out where another connection holds sessions, bound, done, said.
 //! It reads and writes no stream, and knows of the database what `Sessions` says.
-ghost use Rattle.std.specs.Prelude.{◌≡◌, ◌≤◌, true, false, None, Err, IfOk, IfErr, option_map};
+ghost use Rattle.std.specs.Prelude.{◌≡◌, ◌≤◌, ℕ, true, false, None, Some, Err, IfOk, IfErr, option_map};
 ghost use Rattle.mi_model.specs.Database.{depth, undone_times};
 ghost use Rattle.mi_protocol.specs.Binding.{FitsCatalog};
 ghost use Rattle.mi_request.specs.Answers.{NamesNoIndex};
-ghost use Rattle.mi_request.specs.Commands.{keeps_out as spec_keeps_out};
 ghost use Rattle.mi_protocol.specs.Replies.{reply_text, refused};
 
 use crate::holder::{Holder, held_by, is_busy, without_holder};
 use crate::line::Line;
 use mi_protocol::{
-    Change, Command, LineReader, LookUp, Output, Reply, ReplyLabels, Request, SessionCommand,
-    bind_change, bind_look_up,
+    Change, Command, KeyLookUp, LineReader, Name, NumberLookUp, NumberLookUpRequest, Output, Reply,
+    ReplyLabels, Request, SessionCommand, ShortRequest, bind_change, bind_key_look_up,
+    bind_number_look_up,
 };
 use mi_sessions::Sessions;
 use mi_value::Refusal;
@@ -47,6 +47,8 @@ impl<D: Sessions + Drop> Executor<D> {
     ghost use Rattle.mi_commands.specs.Holder.{released};
     ghost use Rattle.mi_commands.specs.Answer.{IsAnswered, IsAsked, MayGive, MayAnswer};
     ghost use Rattle.mi_commands.specs.Asked.{text, asked_of};
+    ghost use Rattle.mi_request.specs.Short.{short_line, asked_short};
+    ghost use Rattle.mi_request.specs.declared.request.ShortRequest.{ShortRequest as Short};
 
     /// A database that nobody holds sessions of. It takes no memory; until `make_labels` has made labels, rows are written without.
     pub fn new(alloc: Global, database: D) -> Executor<D>
@@ -129,13 +131,23 @@ impl<D: Sessions + Drop> Executor<D> {
         }
     }
 
-    /// Answers a look-up, and says that nothing has changed. It is a call of its own, so that it clears no room that only a change needs.
-    #[inline(never)]
-    fn answer_look(&self, table: usize, look_up: &LookUp, out: &mut Output) -> bool
-        requires fits { FitsCatalog self.now.database.catalog (Command.LookUp table look_up.now) }
-        ensures { IsAnswered self.now 0 (Command.LookUp table look_up.now) out.new result self.now }
+    /// Answers a look-up by numbers, and says that nothing has changed.
+    fn answer_numbers(&self, table: usize, look_up: &NumberLookUp, out: &mut Output) -> bool
+        requires fits { FitsCatalog self.now.database.catalog (Command.NumberLookUp table look_up.now) }
+        ensures { IsAnswered self.now 0 (Command.NumberLookUp table look_up.now) out.new result self.now }
     {
-        let reply = self.look(table, look_up);
+        let reply = self.look_by_numbers(table, look_up);
+        out.put(self.alloc, &reply, self.database.catalog(), &self.labels);
+        false
+    }
+
+    /// Answers a look-up by keys, and says that nothing has changed. It is a call of its own, so that it clears no room that only a change needs.
+    #[inline(never)]
+    fn answer_keys(&self, table: usize, look_up: &KeyLookUp, out: &mut Output) -> bool
+        requires fits { FitsCatalog self.now.database.catalog (Command.KeyLookUp table look_up.now) }
+        ensures { IsAnswered self.now 0 (Command.KeyLookUp table look_up.now) out.new result self.now }
+    {
+        let reply = self.look_by_keys(table, look_up);
         out.put(self.alloc, &reply, self.database.catalog(), &self.labels);
         false
     }
@@ -173,10 +185,25 @@ impl<D: Sessions + Drop> Executor<D> {
     fn ask_session(&mut self, conn: u64, command: SessionCommand, out: &mut Output) -> bool
         ensures { IsAsked self.old conn (Request.Session command) out.new result self.new }
     {
-        if keeps_out(command) && is_busy(&self.holder, conn) {
+        if command.keeps_out() && is_busy(&self.holder, conn) {
             return self.refuse(Refusal::Busy, out);
         }
         self.answer_session(conn, command, out)
+    }
+
+    /// Answers a look-up by numbers that is asked, whoever asks it.
+    fn ask_numbers(
+        &self,
+        table: Option<Name<'_>>,
+        look_up: NumberLookUpRequest<'_>,
+        out: &mut Output,
+    ) -> bool
+        ensures { (conn : ℕ) → IsAsked self.now conn (Request.NumberLookUp table.entry look_up.entry) out.new result self.now }
+    {
+        match bind_number_look_up(table, look_up, self.database.catalog()) {
+            Ok((table, look_up)) => self.answer_numbers(table, &look_up, out),
+            Err(refusal) => self.refuse(refusal, out),
+        }
     }
 
     /// Answers a line that is not over-long, and says whether anything may have changed. Each kind of request goes its own way, so that none is
@@ -184,12 +211,26 @@ impl<D: Sessions + Drop> Executor<D> {
     fn answer_text(&mut self, conn: u64, bytes: &[u8], out: &mut Output) -> bool
         ensures { MayAnswer conn self.old (text bytes.now) out.new result self.new }
     {
-        match self.lines.parse(bytes) {
-            Ok(Request::Session(command)) => self.ask_session(conn, command, out),
-            Ok(Request::LookUp { table, look_up }) => {
+        match ShortRequest::of(bytes) {
+            Some(ShortRequest::Session(command)) => self.ask_session(conn, command, out),
+            Some(ShortRequest::NumberLookUp { table, look_up }) => {
+                self.ask_numbers(table, look_up, out)
+            }
+            None => self.answer_read(conn, bytes, out),
+        }
+    }
+
+    /// Answers a line that `ShortRequest::of` doesn't read. What is read of it is lent by the reader, so each kind is bound here.
+    #[inline(never)]
+    fn answer_read(&mut self, conn: u64, bytes: &[u8], out: &mut Output) -> bool
+        requires { (r : Short) → short_line (asked_short r) ≡ Some bytes.now → ⊥ }
+        ensures { MayAnswer conn self.old (text bytes.now) out.new result self.new }
+    {
+        match self.lines.read(bytes) {
+            Ok(Request::KeyLookUp { table, look_up }) => {
                 let catalog = self.database.catalog();
-                match bind_look_up(self.alloc, table, look_up, catalog) {
-                    Ok((table, look_up)) => self.answer_look(table, &look_up, out),
+                match bind_key_look_up(self.alloc, table, look_up, catalog) {
+                    Ok((table, look_up)) => self.answer_keys(table, &look_up, out),
                     Err(refusal) => self.refuse(refusal, out),
                 }
             }
@@ -203,6 +244,14 @@ impl<D: Sessions + Drop> Executor<D> {
                     Err(refusal) => self.refuse(refusal, out),
                 }
             }
+            Ok(Request::NumberLookUp { table, look_up }) => {
+                let catalog = self.database.catalog();
+                match bind_number_look_up(table, look_up, catalog) {
+                    Ok((table, look_up)) => self.answer_numbers(table, &look_up, out),
+                    Err(refusal) => self.refuse(refusal, out),
+                }
+            }
+            Ok(Request::Session(command)) => self.ask_session(conn, command, out),
             Err(refusal) => self.refuse(refusal, out),
         }
     }
@@ -221,13 +270,6 @@ impl<D: Sessions + Drop> Executor<D> {
         );
         false
     }
-}
-
-/// Whether a command over sessions waits while another connection holds some: any but the one that asks the revision.
-fn keeps_out(command: SessionCommand) -> bool
-    ensures { result ≡ spec_keeps_out (Request.Session command) }
-{
-    !matches!(command, SessionCommand::Revision)
 }
 
 /// Undoes the newest sessions, this many. It takes no memory.

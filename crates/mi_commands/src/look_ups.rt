@@ -1,10 +1,11 @@
-//! The look-ups. They change nothing; what they answer lends its rows of the database, and takes memory for pages alone.
+//! The look-ups, by numbers and by keys. They change nothing; what they answer lends its rows of the database, and takes memory for pages
+//! alone.
 ghost use Rattle.std.specs.Prelude.{◌≡◌, ◌<◌, length, false};
 ghost use Rattle.mi_protocol.specs.Binding.{FitsCatalog};
-ghost use Rattle.mi_protocol.specs.Replies.{said, IsSaidOf};
+ghost use Rattle.mi_protocol.specs.Replies.{said, is_short, IsSaidOf};
 
 use crate::executor::Executor;
-use mi_protocol::{Command, LookUp, Reply};
+use mi_protocol::{Command, KeyLookUp, NumberLookUp, Reply};
 use mi_query::{count, find, list, lower_rank, nth, range, rank, size, upper_rank};
 use mi_sessions::Sessions;
 use mi_value::{Lower, Refusal, Steps, Upper, Value};
@@ -12,44 +13,55 @@ use mi_value::{Lower, Refusal, Steps, Upper, Value};
 impl<D: Sessions + Drop> Executor<D> {
     ghost use Rattle.mi_model.specs.Database.{table_of};
     ghost use Rattle.mi_commands.specs.Performed as performed;
-    ghost use Rattle.mi_commands.specs.Performed.{looked};
-    ghost use Rattle.mi_commands.specs.Answer.{looked_without};
+    ghost use Rattle.mi_commands.specs.Performed.{number_looked, key_looked};
     ghost use Rattle.mi_commands.specs.Told.{SaidOrMemory};
 
-    /// Answers a look-up of a table. `Memory` may stand in the place of a range or a list alone.
-    pub fn look(&self, table: usize, look_up: &LookUp) -> Reply<'_>
-        requires fits { FitsCatalog self.now.database.catalog (Command.LookUp table look_up.now) }
-        ensures told { SaidOrMemory (looked_without look_up.now ≡ false) (looked self.now.database table look_up.now) (said result) }
+    /// Answers a look-up by numbers of a table. `Memory` may stand in the place of rows alone.
+    pub fn look_by_numbers(&self, table: usize, look_up: &NumberLookUp) -> Reply<'_>
+        requires fits { FitsCatalog self.now.database.catalog (Command.NumberLookUp table look_up.now) }
+        ensures told { SaidOrMemory (is_short (number_looked self.now.database table look_up.now) ≡ false)
+            (number_looked self.now.database table look_up.now) (said result) }
         ensures fits { IsSaidOf self.now.database.catalog (said result) }
     {
         match look_up {
-            LookUp::Get { id } => self.get(table, *id),
-            LookUp::Find { index, key } => self.find(table, *index, key.values()),
-            LookUp::Nth { index, n } => self.nth(table, *index, *n),
-            LookUp::Count { index, key } => self.count(table, *index, key.values()),
-            LookUp::Range {
+            NumberLookUp::Get { id } => self.get(table, *id),
+            NumberLookUp::Nth { index, n } => self.nth(table, *index, *n),
+            NumberLookUp::List {
+                index,
+                after,
+                limit,
+            } => self.list(table, *index, *after, *limit),
+            NumberLookUp::Rank { index, id } => self.rank(table, *index, *id),
+            NumberLookUp::Size => self.size(table),
+        }
+    }
+
+    /// Answers a look-up by keys of a table. `Memory` may stand in the place of rows alone.
+    pub fn look_by_keys(&self, table: usize, look_up: &KeyLookUp) -> Reply<'_>
+        requires fits { FitsCatalog self.now.database.catalog (Command.KeyLookUp table look_up.now) }
+        ensures told { SaidOrMemory (is_short (key_looked self.now.database table look_up.now) ≡ false)
+            (key_looked self.now.database table look_up.now) (said result) }
+        ensures fits { IsSaidOf self.now.database.catalog (said result) }
+    {
+        match look_up {
+            KeyLookUp::Find { index, key } => self.find(table, *index, key.values()),
+            KeyLookUp::Count { index, key } => self.count(table, *index, key.values()),
+            KeyLookUp::Range {
                 index,
                 lower,
                 upper,
                 reverse,
                 limit,
             } => self.range(table, *index, lower, upper, *reverse, *limit),
-            LookUp::List {
-                index,
-                after,
-                limit,
-            } => self.list(table, *index, *after, *limit),
-            LookUp::Rank { index, id } => self.rank(table, *index, *id),
-            LookUp::LowerRank { index, key } => self.lower_rank(table, *index, key.values()),
-            LookUp::UpperRank { index, key } => self.upper_rank(table, *index, key.values()),
-            LookUp::Size => self.size(table),
+            KeyLookUp::LowerRank { index, key } => self.lower_rank(table, *index, key.values()),
+            KeyLookUp::UpperRank { index, key } => self.upper_rank(table, *index, key.values()),
         }
     }
 
     /// A record.
     fn get(&self, table: usize, id: u64) -> Reply<'_>
         requires { table < length self.now.database.catalog.tables }
-        ensures said { said result ≡ looked self.now.database table (LookUp.Get id) }
+        ensures said { said result ≡ number_looked self.now.database table (NumberLookUp.Get id) }
         ensures fits { IsSaidOf self.now.database.catalog (said result) }
     {
         let mut steps = Steps::new();
@@ -79,8 +91,8 @@ impl<D: Sessions + Drop> Executor<D> {
 
     /// The first record of a key.
     fn find(&self, table: usize, index: usize, key: &[Value]) -> Reply<'_>
-        requires { FitsCatalog self.now.database.catalog (Command.LookUp table (LookUp.Find index key.now)) }
-        ensures said { said result ≡ looked self.now.database table (LookUp.Find index key.now) }
+        requires { FitsCatalog self.now.database.catalog (Command.KeyLookUp table (KeyLookUp.Find index key.now)) }
+        ensures said { said result ≡ key_looked self.now.database table (KeyLookUp.Find index key.now) }
         ensures fits { IsSaidOf self.now.database.catalog (said result) }
     {
         let mut steps = Steps::new();
@@ -90,8 +102,8 @@ impl<D: Sessions + Drop> Executor<D> {
 
     /// The record of a rank.
     fn nth(&self, table: usize, index: usize, n: u64) -> Reply<'_>
-        requires { FitsCatalog self.now.database.catalog (Command.LookUp table (LookUp.Nth index n)) }
-        ensures said { said result ≡ looked self.now.database table (LookUp.Nth index n) }
+        requires { FitsCatalog self.now.database.catalog (Command.NumberLookUp table (NumberLookUp.Nth index n)) }
+        ensures said { said result ≡ number_looked self.now.database table (NumberLookUp.Nth index n) }
         ensures fits { IsSaidOf self.now.database.catalog (said result) }
     {
         self.found(table, nth(&self.database, table, index, n))
@@ -99,8 +111,8 @@ impl<D: Sessions + Drop> Executor<D> {
 
     /// How many records have a key.
     fn count(&self, table: usize, index: usize, key: &[Value]) -> Reply<'_>
-        requires { FitsCatalog self.now.database.catalog (Command.LookUp table (LookUp.Count index key.now)) }
-        ensures said { said result ≡ looked self.now.database table (LookUp.Count index key.now) }
+        requires { FitsCatalog self.now.database.catalog (Command.KeyLookUp table (KeyLookUp.Count index key.now)) }
+        ensures said { said result ≡ key_looked self.now.database table (KeyLookUp.Count index key.now) }
         ensures fits { IsSaidOf self.now.database.catalog (said result) }
     {
         let mut steps = Steps::new();
@@ -117,8 +129,9 @@ impl<D: Sessions + Drop> Executor<D> {
         reverse: bool,
         limit: usize,
     ) -> Reply<'_>
-        requires { FitsCatalog self.now.database.catalog (Command.LookUp table (LookUp.Range index lower.now upper.now reverse limit)) }
-        ensures told { SaidOrMemory (Unit {0}) (looked self.now.database table (LookUp.Range index lower.now upper.now reverse limit)) (said result) }
+        requires { FitsCatalog self.now.database.catalog (Command.KeyLookUp table (KeyLookUp.Range index lower.now upper.now reverse limit)) }
+        ensures told { SaidOrMemory (is_short (key_looked self.now.database table (KeyLookUp.Range index lower.now upper.now reverse limit)) ≡ false)
+            (key_looked self.now.database table (KeyLookUp.Range index lower.now upper.now reverse limit)) (said result) }
         ensures fits { IsSaidOf self.now.database.catalog (said result) }
     {
         let mut steps = Steps::new();
@@ -144,8 +157,9 @@ impl<D: Sessions + Drop> Executor<D> {
 
     /// The records of a sequenced index.
     fn list(&self, table: usize, index: usize, after: Option<u64>, limit: usize) -> Reply<'_>
-        requires { FitsCatalog self.now.database.catalog (Command.LookUp table (LookUp.List index after limit)) }
-        ensures told { SaidOrMemory (Unit {0}) (looked self.now.database table (LookUp.List index after limit)) (said result) }
+        requires { FitsCatalog self.now.database.catalog (Command.NumberLookUp table (NumberLookUp.List index after limit)) }
+        ensures told { SaidOrMemory (is_short (number_looked self.now.database table (NumberLookUp.List index after limit)) ≡ false)
+            (number_looked self.now.database table (NumberLookUp.List index after limit)) (said result) }
         ensures fits { IsSaidOf self.now.database.catalog (said result) }
     {
         let mut steps = Steps::new();
@@ -169,8 +183,8 @@ impl<D: Sessions + Drop> Executor<D> {
 
     /// How many records stand before one.
     fn rank(&self, table: usize, index: usize, id: u64) -> Reply<'_>
-        requires { FitsCatalog self.now.database.catalog (Command.LookUp table (LookUp.Rank index id)) }
-        ensures said { said result ≡ looked self.now.database table (LookUp.Rank index id) }
+        requires { FitsCatalog self.now.database.catalog (Command.NumberLookUp table (NumberLookUp.Rank index id)) }
+        ensures said { said result ≡ number_looked self.now.database table (NumberLookUp.Rank index id) }
         ensures fits { IsSaidOf self.now.database.catalog (said result) }
     {
         let mut steps = Steps::new();
@@ -182,8 +196,8 @@ impl<D: Sessions + Drop> Executor<D> {
 
     /// How many keys are less than a key.
     fn lower_rank(&self, table: usize, index: usize, key: &[Value]) -> Reply<'_>
-        requires { FitsCatalog self.now.database.catalog (Command.LookUp table (LookUp.LowerRank index key.now)) }
-        ensures said { said result ≡ looked self.now.database table (LookUp.LowerRank index key.now) }
+        requires { FitsCatalog self.now.database.catalog (Command.KeyLookUp table (KeyLookUp.LowerRank index key.now)) }
+        ensures said { said result ≡ key_looked self.now.database table (KeyLookUp.LowerRank index key.now) }
         ensures fits { IsSaidOf self.now.database.catalog (said result) }
     {
         let mut steps = Steps::new();
@@ -192,8 +206,8 @@ impl<D: Sessions + Drop> Executor<D> {
 
     /// How many keys are not greater than a key.
     fn upper_rank(&self, table: usize, index: usize, key: &[Value]) -> Reply<'_>
-        requires { FitsCatalog self.now.database.catalog (Command.LookUp table (LookUp.UpperRank index key.now)) }
-        ensures said { said result ≡ looked self.now.database table (LookUp.UpperRank index key.now) }
+        requires { FitsCatalog self.now.database.catalog (Command.KeyLookUp table (KeyLookUp.UpperRank index key.now)) }
+        ensures said { said result ≡ key_looked self.now.database table (KeyLookUp.UpperRank index key.now) }
         ensures fits { IsSaidOf self.now.database.catalog (said result) }
     {
         let mut steps = Steps::new();
@@ -203,7 +217,7 @@ impl<D: Sessions + Drop> Executor<D> {
     /// How many records a table has.
     fn size(&self, table: usize) -> Reply<'_>
         requires { table < length self.now.database.catalog.tables }
-        ensures said { said result ≡ looked self.now.database table LookUp.Size }
+        ensures said { said result ≡ number_looked self.now.database table NumberLookUp.Size }
         ensures fits { IsSaidOf self.now.database.catalog (said result) }
     {
         Reply::Sized(size(&self.database, table))

@@ -11,13 +11,13 @@ use mi_value::Refusal;
 
 impl<D: Sessions + Drop> Executor<D> {
     ghost use Rattle.mi_commands.specs.Performed.{performed as done};
-    ghost use Rattle.mi_commands.specs.Answer.{done_without};
+    ghost use Rattle.mi_commands.specs.Answer.{session_needs_none};
     ghost use Rattle.mi_commands.specs.Told.{ToldOrMemory, may_change};
 
     /// Does a command over sessions. `Memory` may stand in the place of the answer to a start and to a reserve, and then nothing has changed.
     /// Where it isn't `changed`, tables, sessions and holder are as before.
     pub fn session(&mut self, conn: u64, command: SessionCommand) -> Outcome
-        ensures told { ToldOrMemory (done_without (Command.Session command) ≡ false) (done self.old conn (Command.Session command))
+        ensures told { ToldOrMemory (session_needs_none command ≡ false) (done self.old conn (Command.Session command))
             self.old (said result.reply) self.new }
         ensures fits { IsSaidOf self.new.database.catalog (said result.reply) }
         ensures changed { result.changed ≡ may_change (Command.Session command) (said result.reply) }
@@ -29,7 +29,7 @@ impl<D: Sessions + Drop> Executor<D> {
 
     /// Does a command over sessions.
     fn do_session(&mut self, conn: u64, command: SessionCommand) -> Reply<'static>
-        ensures told { ToldOrMemory (done_without (Command.Session command) ≡ false) (done self.old conn (Command.Session command))
+        ensures told { ToldOrMemory (session_needs_none command ≡ false) (done self.old conn (Command.Session command))
             self.old (said result) self.new }
         ensures fits { IsSaidOf self.new.database.catalog (said result) }
     {

@@ -1,14 +1,14 @@
 //! The calls of a container: the rows of one table, linked into its indexes, and changes with their inverses. It says what
 //! each call answers and leaves, by plain data and the definitions of tables, and nothing of how rows are linked. It knows
 //! no sessions.
-ghost use Rattle.std.specs.Prelude.{◌≡◌, ◌≢◌, ◌<◌, ◌≤◌, ◌+◌, ◌*◌, ◌^◌, ℕ, List, Option, [], map, IsTrue, IfOk, IfErr, IfSome};
+ghost use Rattle.std.specs.Prelude.{◌≡◌, ◌≢◌, ◌<◌, ◌≤◌, ◌+◌, ◌*◌, ◌^◌, ℕ, List, Option, [], length, map, IsTrue, IfOk, IfErr, IfSome};
 ghost use Rattle.std.specs.Option.{option_copied};
 ghost use Rattle.mi_value.specs.declared.refusal.Refusal.TheVariants.{Memory};
 ghost use Rattle.mi_catalog.specs.Shape.{Shape};
 ghost use Rattle.mi_model.specs.Table.{get as get_row, has as has_row, row as row_of, size as size_of};
 ghost use Rattle.mi_model.specs.LookUp as look;
 ghost use Rattle.mi_model.specs.Conflict as meaning;
-ghost use Rattle.mi_model.specs.Page.{ids_up, ids_down};
+ghost use Rattle.mi_model.specs.Page.{range as range_of};
 ghost use Rattle.mi_model.specs.Walk.{rows_from};
 ghost use Rattle.mi_model.specs.Verdict.{insert_outcome, replace_outcome, modify_outcome, erase_outcome, relocate_outcome};
 ghost use Rattle.mi_container.specs.Asked.{IsKeyed, IsHashed, IsSorted, IsSequenced, ShowsOneList, RecordFits, EditsFit, WholeKey, KeyPrefix};
@@ -229,36 +229,24 @@ pub trait Container: Drop {
         ensures { IfOk result (λ rows. map (λ r. (r.0, r.1.now)) rows.items ≡
             rows_from (shape self.now) (as_table (plain self.now)) index reverse first limit) };
 
-    /// The rows that an ordered or ranked index shows from a lower bound up, at most `limit` of them: their ids with their records,
-    /// lent. It is one look-up and one walk, and the vector is the one memory that it takes. Refusal: the vector's memory.
-    fn walk_up(
+    /// The first rows of those that an ordered or ranked index shows between two bounds, in its order or in the reverse of it, at most
+    /// `limit` of them: their ids with their records, lent. It is one look-up and one walk, with at most one comparison for each row
+    /// and no row past the bound where it ends; the vector is the one memory that it takes. Refusal: the vector's memory.
+    fn walk_range(
         &self,
         alloc: Global,
         index: usize,
         lower: &Lower,
-        limit: usize,
-        steps: &mut Steps,
-    ) -> Result<Vec<(u64, &Record)>, AllocError>
-        requires index { IsSorted (shape self.now) index }
-        ensures rows { IfOk result (λ rows. map (λ r. (r.0, r.1.now)) rows.items ≡
-            map (row_of (as_table (plain self.now))) (ids_up (shape self.now) (as_table (plain self.now)) index lower.now limit)) }
-        ensures steps { (b : ℕ) → size_of (as_table (plain self.now)) < 2 ^ b → steps.new.count ≤ steps.old.count + (2 * b + 1) };
-
-    /// The rows that an ordered or ranked index shows from an upper bound down, in the reverse of its order, at most `limit` of them:
-    /// their ids with their records, lent. It is one look-up and one walk, and the vector is the one memory that it takes. Refusal: the
-    /// vector's memory.
-    fn walk_down(
-        &self,
-        alloc: Global,
-        index: usize,
         upper: &Upper,
+        reverse: bool,
         limit: usize,
         steps: &mut Steps,
     ) -> Result<Vec<(u64, &Record)>, AllocError>
         requires index { IsSorted (shape self.now) index }
-        ensures rows { IfOk result (λ rows. map (λ r. (r.0, r.1.now)) rows.items ≡
-            map (row_of (as_table (plain self.now))) (ids_down (shape self.now) (as_table (plain self.now)) index upper.now limit)) }
-        ensures steps { (b : ℕ) → size_of (as_table (plain self.now)) < 2 ^ b → steps.new.count ≤ steps.old.count + (2 * b + 1) };
+        ensures rows { IfOk result (λ rows. map (λ r. (r.0, r.1.now)) rows.items ≡ map (row_of (as_table (plain self.now)))
+            (range_of (shape self.now) (as_table (plain self.now)) index lower.now upper.now reverse limit).ids) }
+        ensures steps { (b : ℕ) → size_of (as_table (plain self.now)) < 2 ^ b → steps.new.count ≤ steps.old.count + (2 * b + 1)
+            + length (range_of (shape self.now) (as_table (plain self.now)) index lower.now upper.now reverse limit).ids };
 
     /// The first id of an ordered or ranked index whose key isn't less than a key or the first values of one, or none. At
     /// most one look-up.

@@ -1,6 +1,7 @@
 -- A number is below the power of two of its binary digits.
-use Rattle.std.proofs.Common.{◌≡◌, ℕ, zero, suc, ◌+◌, ◌*◌, ◌/◌, ◌^◌, ◌<◌, ◌≤◌, ap, sym, subst, arith}
+use Rattle.std.proofs.Common.{◌≡◌, ℕ, zero, suc, ◌+◌, ◌*◌, ◌/◌, ◌^◌, ◌<◌, ◌≤◌, ap, sym, ◌∙◌, subst, arith}
 use Rattle.std.proofs.Math.Nat.{pow-suc}
+use Rattle.mi_catalog.specs.Shape.{Shape}
 use Rattle.mi_model.specs.Table.{Table, size}
 use Rattle.mi_database.specs.Bound.{halvings, binary_digits, look_up_bound, LookUpsAreBounded}
 
@@ -31,6 +32,13 @@ pub within_two : (t u : Table) (before after : ℕ) → t ≡ u
 within_two t u before after same steps =
     let most : after ≤ before + 2 * (2 * binary_digits (size u) + 1) = steps (binary_digits (size u)) (below_table t u same) in
     omega (arith, most)
+
+pub within_range : (s r : Shape) (t u : Table) (rows : Shape → Table → ℕ) (before after : ℕ) → s ≡ r → t ≡ u
+    → ((b : ℕ) → size t < 2 ^ b → after ≤ before + (2 * b + 1) + rows s t) → after ≤ before + look_up_bound (size u) + rows r u
+within_range s r t u rows before after shape same steps =
+    let most : after ≤ before + (2 * binary_digits (size u) + 1) + rows s t = steps (binary_digits (size u)) (below_table t u same) in
+    let long : rows s t ≡ rows r u = ap (λ k. rows k t) shape ∙ ap (rows r) same in
+    omega (arith, most, long)
 
 halvings_few : (most n b : ℕ) → n < 2 ^ b → halvings most n ≤ b
 halvings_few zero n b l = omega arith

@@ -255,30 +255,20 @@ impl<C: Container> Sessions for Linked<C> {
         Ok(rows)
     }
 
-    fn walk_up(
+    fn walk_range(
         &self,
         alloc: Global,
         table: usize,
         index: usize,
         lower: &Lower,
-        limit: usize,
-        steps: &mut Steps,
-    ) -> Result<Vec<(u64, &Record)>, Refusal> {
-        let rows = self.at(table).walk_up(alloc, index, lower, limit, steps)?;
-        Ok(rows)
-    }
-
-    fn walk_down(
-        &self,
-        alloc: Global,
-        table: usize,
-        index: usize,
         upper: &Upper,
+        reverse: bool,
         limit: usize,
         steps: &mut Steps,
     ) -> Result<Vec<(u64, &Record)>, Refusal> {
-        let rows = self.at(table).walk_down(alloc, index, upper, limit, steps)?;
-        Ok(rows)
+        let rows = self.at(table);
+        let shown = rows.walk_range(alloc, index, lower, upper, reverse, limit, steps)?;
+        Ok(shown)
     }
 
     fn lower(&self, table: usize, index: usize, key: &[Value], steps: &mut Steps) -> Option<u64> {

@@ -9,15 +9,17 @@ use Rattle.mi_catalog.specs.Kinds.{has_keys, is_sorted, is_sequenced, is_ranked}
 use Rattle.mi_catalog.specs.Shape.{Shape, CatalogShape, schema_at, index_at}
 use Rattle.mi_request.specs.Commands.{keeps_out}
 use Rattle.mi_request.specs.declared.request.ChangeRequest.TheVariants as change_request
-use Rattle.mi_request.specs.declared.request.LookUpRequest.TheVariants as look_up_request
+use Rattle.mi_request.specs.declared.request.KeyLookUpRequest.TheVariants as key_request
+use Rattle.mi_request.specs.declared.request.NumberLookUpRequest.TheVariants as number_request
 use Rattle.mi_request.specs.declared.request.Request.{Request}
 use Rattle.mi_request.specs.declared.request.Request.TheVariants as request
 use Rattle.mi_protocol.specs.Binding.{and_then, of_kind, table_number, index_number, bound_command}
 use Rattle.mi_request.specs.declared.request.SessionCommand.TheVariants as session
-use Rattle.mi_protocol.specs.declared.command.Change.TheVariants as change
+use Rattle.mi_protocol.specs.declared.changes.Change.TheVariants as change
 use Rattle.mi_protocol.specs.declared.command.Command.{Command}
 use Rattle.mi_protocol.specs.declared.command.Command.TheVariants as command
-use Rattle.mi_protocol.specs.declared.command.LookUp.TheVariants as look_up
+use Rattle.mi_protocol.specs.declared.look_ups.KeyLookUp.TheVariants as key_look_up
+use Rattle.mi_protocol.specs.declared.look_ups.NumberLookUp.TheVariants as number_look_up
 use Rattle.mi_commands.specs.Answer.{command_answer, command_of}
 use Rattle.mi_commands.specs.Holder.{is_busy}
 use Rattle.mi_embed.specs.Asked.{table_in, index_in, lower_in, upper_in}
@@ -78,30 +80,30 @@ module _ (c : CatalogShape) where
   bound_as (request.Session (session.Commit revision)) (call.commit number) h = ap (λ n. Ok (command.Session (session.Commit n))) h
   bound_as (request.Session session.UndoAll) call.undo_all h = refl
   bound_as (request.Session session.Push) call.push h = refl
-  bound_as (request.LookUp table (look_up_request.Get id)) (call.get n e) h =
-      by_table c table n _ _ h.0 (ap (of_table command.LookUp n) (ap (λ i. Ok (look_up.Get i)) h.1))
-  bound_as (request.LookUp table (look_up_request.Find index key)) (call.find n x cells bytes) h =
-      by_table c table n _ _ h.0 (ap (of_table command.LookUp n) (ap (and_then (λ k. Ok (look_up.Find k.0 k.1))) (by_index has_keys c n index x _ _ h.1 (ap (found_key x) h.2))))
-  bound_as (request.LookUp table (look_up_request.Nth index place)) (call.nth n x at) h =
-      by_table c table n _ _ h.0 (ap (of_table command.LookUp n) (by_index is_ranked c n index x _ _ h.1 (ap (λ i. Ok (look_up.Nth x i)) h.2)))
-  bound_as (request.LookUp table (look_up_request.Count index key)) (call.count n x cells bytes) h =
-      by_table c table n _ _ h.0 (ap (of_table command.LookUp n) (ap (and_then (λ k. Ok (look_up.Count k.0 k.1))) (by_index has_keys c n index x _ _ h.1 (ap (found_key x) h.2))))
-  bound_as (request.LookUp table (look_up_request.Range index low high reverse limit)) (call.range n x lower lower_key upper upper_key bytes backward most) h =
+  bound_as (request.NumberLookUp table (number_request.Get id)) (call.get n e) h =
+      by_table c table n _ _ h.0 (ap (of_table command.NumberLookUp n) (ap (λ i. Ok (number_look_up.Get i)) h.1))
+  bound_as (request.KeyLookUp table (key_request.Find index key)) (call.find n x cells bytes) h =
+      by_table c table n _ _ h.0 (ap (of_table command.KeyLookUp n) (ap (and_then (λ k. Ok (key_look_up.Find k.0 k.1))) (by_index has_keys c n index x _ _ h.1 (ap (found_key x) h.2))))
+  bound_as (request.NumberLookUp table (number_request.Nth index place)) (call.nth n x at) h =
+      by_table c table n _ _ h.0 (ap (of_table command.NumberLookUp n) (by_index is_ranked c n index x _ _ h.1 (ap (λ i. Ok (number_look_up.Nth x i)) h.2)))
+  bound_as (request.KeyLookUp table (key_request.Count index key)) (call.count n x cells bytes) h =
+      by_table c table n _ _ h.0 (ap (of_table command.KeyLookUp n) (ap (and_then (λ k. Ok (key_look_up.Count k.0 k.1))) (by_index has_keys c n index x _ _ h.1 (ap (found_key x) h.2))))
+  bound_as (request.KeyLookUp table (key_request.Range index low high reverse limit)) (call.range n x lower lower_key upper upper_key bytes backward most) h =
       let s = schema_at c n in
-      by_table c table n _ _ h.0 (ap (of_table command.LookUp n) (by_index is_sorted c n index x _ _ h.1
-      (ap₂ (λ l u. and_then (λ e. Ok (look_up.Range x e.0 e.1 reverse limit)) (ends_in l u)) h.2 h.3
-      ∙ ap₂ (λ b m. and_then (λ e. Ok (look_up.Range x e.0 e.1 b m)) (ends_in (lower_in s x lower bytes lower_key) (upper_in s x upper bytes upper_key))) h.4 h.5)))
-  bound_as (request.LookUp table (look_up_request.List index after limit)) (call.list n x behind most) h =
-      by_table c table n _ _ h.0 (ap (of_table command.LookUp n) (by_index is_sequenced c n index x _ _ h.1 (ap₂ (λ a m. Ok (look_up.List x a m)) h.2 h.3)))
-  bound_as (request.LookUp table (look_up_request.Rank index id)) (call.rank n x e) h =
-      by_table c table n _ _ h.0 (ap (of_table command.LookUp n) (by_index is_ranked c n index x _ _ h.1 (ap (λ i. Ok (look_up.Rank x i)) h.2)))
-  bound_as (request.LookUp table (look_up_request.LowerRank index key)) (call.lower_rank n x cells bytes) h =
+      by_table c table n _ _ h.0 (ap (of_table command.KeyLookUp n) (by_index is_sorted c n index x _ _ h.1
+      (ap₂ (λ l u. and_then (λ e. Ok (key_look_up.Range x e.0 e.1 reverse limit)) (ends_in l u)) h.2 h.3
+      ∙ ap₂ (λ b m. and_then (λ e. Ok (key_look_up.Range x e.0 e.1 b m)) (ends_in (lower_in s x lower bytes lower_key) (upper_in s x upper bytes upper_key))) h.4 h.5)))
+  bound_as (request.NumberLookUp table (number_request.List index after limit)) (call.list n x behind most) h =
+      by_table c table n _ _ h.0 (ap (of_table command.NumberLookUp n) (by_index is_sequenced c n index x _ _ h.1 (ap₂ (λ a m. Ok (number_look_up.List x a m)) h.2 h.3)))
+  bound_as (request.NumberLookUp table (number_request.Rank index id)) (call.rank n x e) h =
+      by_table c table n _ _ h.0 (ap (of_table command.NumberLookUp n) (by_index is_ranked c n index x _ _ h.1 (ap (λ i. Ok (number_look_up.Rank x i)) h.2)))
+  bound_as (request.KeyLookUp table (key_request.LowerRank index key)) (call.lower_rank n x cells bytes) h =
       by_table c table n _ _ h.0
-      (ap (of_table command.LookUp n) (ap (and_then (λ k. Ok (look_up.LowerRank k.0 k.1))) (by_index is_ranked c n index x _ _ h.1 (ap (found_key x) h.2))))
-  bound_as (request.LookUp table (look_up_request.UpperRank index key)) (call.upper_rank n x cells bytes) h =
+      (ap (of_table command.KeyLookUp n) (ap (and_then (λ k. Ok (key_look_up.LowerRank k.0 k.1))) (by_index is_ranked c n index x _ _ h.1 (ap (found_key x) h.2))))
+  bound_as (request.KeyLookUp table (key_request.UpperRank index key)) (call.upper_rank n x cells bytes) h =
       by_table c table n _ _ h.0
-      (ap (of_table command.LookUp n) (ap (and_then (λ k. Ok (look_up.UpperRank k.0 k.1))) (by_index is_ranked c n index x _ _ h.1 (ap (found_key x) h.2))))
-  bound_as (request.LookUp table look_up_request.Size) (call.size n) h = by_table c table n _ _ h refl
+      (ap (of_table command.KeyLookUp n) (ap (and_then (λ k. Ok (key_look_up.UpperRank k.0 k.1))) (by_index is_ranked c n index x _ _ h.1 (ap (found_key x) h.2))))
+  bound_as (request.NumberLookUp table number_request.Size) (call.size n) h = by_table c table n _ _ h refl
   bound_as r k h = absurd h
 
   -- both are kept out, or neither
@@ -120,16 +122,16 @@ module _ (c : CatalogShape) where
   kept_as (request.Session (session.Commit revision)) (call.commit number) h = refl
   kept_as (request.Session session.UndoAll) call.undo_all h = refl
   kept_as (request.Session session.Push) call.push h = refl
-  kept_as (request.LookUp table (look_up_request.Get id)) (call.get n e) h = refl
-  kept_as (request.LookUp table (look_up_request.Find index key)) (call.find n x cells bytes) h = refl
-  kept_as (request.LookUp table (look_up_request.Nth index place)) (call.nth n x at) h = refl
-  kept_as (request.LookUp table (look_up_request.Count index key)) (call.count n x cells bytes) h = refl
-  kept_as (request.LookUp table (look_up_request.Range index low high reverse limit)) (call.range n x lower lower_key upper upper_key bytes backward most) h = refl
-  kept_as (request.LookUp table (look_up_request.List index after limit)) (call.list n x behind most) h = refl
-  kept_as (request.LookUp table (look_up_request.Rank index id)) (call.rank n x e) h = refl
-  kept_as (request.LookUp table (look_up_request.LowerRank index key)) (call.lower_rank n x cells bytes) h = refl
-  kept_as (request.LookUp table (look_up_request.UpperRank index key)) (call.upper_rank n x cells bytes) h = refl
-  kept_as (request.LookUp table look_up_request.Size) (call.size n) h = refl
+  kept_as (request.NumberLookUp table (number_request.Get id)) (call.get n e) h = refl
+  kept_as (request.KeyLookUp table (key_request.Find index key)) (call.find n x cells bytes) h = refl
+  kept_as (request.NumberLookUp table (number_request.Nth index place)) (call.nth n x at) h = refl
+  kept_as (request.KeyLookUp table (key_request.Count index key)) (call.count n x cells bytes) h = refl
+  kept_as (request.KeyLookUp table (key_request.Range index low high reverse limit)) (call.range n x lower lower_key upper upper_key bytes backward most) h = refl
+  kept_as (request.NumberLookUp table (number_request.List index after limit)) (call.list n x behind most) h = refl
+  kept_as (request.NumberLookUp table (number_request.Rank index id)) (call.rank n x e) h = refl
+  kept_as (request.KeyLookUp table (key_request.LowerRank index key)) (call.lower_rank n x cells bytes) h = refl
+  kept_as (request.KeyLookUp table (key_request.UpperRank index key)) (call.upper_rank n x cells bytes) h = refl
+  kept_as (request.NumberLookUp table number_request.Size) (call.size n) h = refl
   kept_as r k h = absurd h
 
 -- the command of the one where it isn't kept out is that of the other

@@ -5,7 +5,7 @@ use Rattle.mi_value.specs.declared.refusal.Refusal.TheVariants.{Busy, Memory}
 use Rattle.mi_protocol.specs.Replies as say
 use Rattle.mi_protocol.specs.Replies.{Said}
 use Rattle.mi_request.specs.declared.request.SessionCommand.{SessionCommand}
-use Rattle.mi_protocol.specs.declared.command.Change.{Change}
+use Rattle.mi_protocol.specs.declared.changes.Change.{Change}
 use Rattle.mi_protocol.specs.declared.command.Command.TheVariants as command
 use Rattle.mi_request.specs.Answers.{IsAnswer}
 use Rattle.mi_commands.specs.Answer.{command_answer}

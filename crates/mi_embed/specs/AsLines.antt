@@ -7,7 +7,8 @@ use Rattle.mi_value.specs.declared.refusal.Refusal.TheVariants.{Index}
 use Rattle.mi_catalog.specs.Kinds.{is_hashed}
 use Rattle.mi_catalog.specs.Shape.{CatalogShape, schema_at, index_at, find_index}
 use Rattle.mi_request.specs.declared.request.ChangeRequest.TheVariants as change
-use Rattle.mi_request.specs.declared.request.LookUpRequest.TheVariants as look_up
+use Rattle.mi_request.specs.declared.request.KeyLookUpRequest.TheVariants as by_key
+use Rattle.mi_request.specs.declared.request.NumberLookUpRequest.TheVariants as by_number
 use Rattle.mi_request.specs.declared.request.Request.{Request}
 use Rattle.mi_request.specs.declared.request.Request.TheVariants as request
 use Rattle.mi_request.specs.declared.request.SessionCommand.TheVariants as session
@@ -54,25 +55,25 @@ AsksAs c (request.Session session.Squash) call.squash = Unit {0}
 AsksAs c (request.Session (session.Commit revision)) (call.commit number) = revision ≡ number
 AsksAs c (request.Session session.UndoAll) call.undo_all = Unit {0}
 AsksAs c (request.Session session.Push) call.push = Unit {0}
-AsksAs c (request.LookUp table (look_up.Get id)) (call.get n e) = IsTable c table n × (id ≡ e)
-AsksAs c (request.LookUp table (look_up.Find index key)) (call.find n x cells bytes) =
+AsksAs c (request.NumberLookUp table (by_number.Get id)) (call.get n e) = IsTable c table n × (id ≡ e)
+AsksAs c (request.KeyLookUp table (by_key.Find index key)) (call.find n x cells bytes) =
     IsTable c table n × IsIndex c n index x
     × (bound_key (schema_at c n) x (is_hashed (index_at (schema_at c n) x).kind) key ≡ key_in (schema_at c n) x (is_hashed (index_at (schema_at c n) x).kind) bytes cells)
-AsksAs c (request.LookUp table (look_up.Nth index place)) (call.nth n x at) = IsTable c table n × IsIndex c n index x × (place ≡ at)
-AsksAs c (request.LookUp table (look_up.Count index key)) (call.count n x cells bytes) =
+AsksAs c (request.NumberLookUp table (by_number.Nth index place)) (call.nth n x at) = IsTable c table n × IsIndex c n index x × (place ≡ at)
+AsksAs c (request.KeyLookUp table (by_key.Count index key)) (call.count n x cells bytes) =
     IsTable c table n × IsIndex c n index x
     × (bound_key (schema_at c n) x (is_hashed (index_at (schema_at c n) x).kind) key ≡ key_in (schema_at c n) x (is_hashed (index_at (schema_at c n) x).kind) bytes cells)
-AsksAs c (request.LookUp table (look_up.Range index low high reverse limit)) (call.range n x lower lower_key upper upper_key bytes backward most) =
+AsksAs c (request.KeyLookUp table (by_key.Range index low high reverse limit)) (call.range n x lower lower_key upper upper_key bytes backward most) =
     IsTable c table n × IsIndex c n index x × (bound_lower (schema_at c n) x low ≡ lower_in (schema_at c n) x lower bytes lower_key)
     × (bound_upper (schema_at c n) x high ≡ upper_in (schema_at c n) x upper bytes upper_key) × (reverse ≡ backward) × (limit ≡ most)
-AsksAs c (request.LookUp table (look_up.List index after limit)) (call.list n x behind most) =
+AsksAs c (request.NumberLookUp table (by_number.List index after limit)) (call.list n x behind most) =
     IsTable c table n × IsIndex c n index x × (after ≡ behind) × (limit ≡ most)
-AsksAs c (request.LookUp table (look_up.Rank index id)) (call.rank n x e) = IsTable c table n × IsIndex c n index x × (id ≡ e)
-AsksAs c (request.LookUp table (look_up.LowerRank index key)) (call.lower_rank n x cells bytes) =
+AsksAs c (request.NumberLookUp table (by_number.Rank index id)) (call.rank n x e) = IsTable c table n × IsIndex c n index x × (id ≡ e)
+AsksAs c (request.KeyLookUp table (by_key.LowerRank index key)) (call.lower_rank n x cells bytes) =
     IsTable c table n × IsIndex c n index x × (bound_key (schema_at c n) x false key ≡ key_in (schema_at c n) x false bytes cells)
-AsksAs c (request.LookUp table (look_up.UpperRank index key)) (call.upper_rank n x cells bytes) =
+AsksAs c (request.KeyLookUp table (by_key.UpperRank index key)) (call.upper_rank n x cells bytes) =
     IsTable c table n × IsIndex c n index x × (bound_key (schema_at c n) x false key ≡ key_in (schema_at c n) x false bytes cells)
-AsksAs c (request.LookUp table look_up.Size) (call.size n) = IsTable c table n
+AsksAs c (request.NumberLookUp table by_number.Size) (call.size n) = IsTable c table n
 AsksAs c r k = ⊥
 
 -- The answer to a line, and what it leaves, are those of each call that asks what the line asks.

@@ -18,12 +18,13 @@ use Rattle.mi_protocol.specs.Binding.{and_then}
 use Rattle.mi_protocol.specs.Replies.{Said}
 use Rattle.mi_request.specs.declared.request.SessionCommand.{SessionCommand}
 use Rattle.mi_request.specs.declared.request.SessionCommand.TheVariants as session
-use Rattle.mi_protocol.specs.declared.command.Change.{Change}
-use Rattle.mi_protocol.specs.declared.command.Change.TheVariants as change
+use Rattle.mi_protocol.specs.declared.changes.Change.{Change}
+use Rattle.mi_protocol.specs.declared.changes.Change.TheVariants as change
 use Rattle.mi_protocol.specs.declared.command.Command.{Command}
 use Rattle.mi_protocol.specs.declared.command.Command.TheVariants as command
-use Rattle.mi_protocol.specs.declared.command.LookUp.TheVariants as look_up
-use Rattle.mi_commands.specs.Answer.{command_answer, done_without}
+use Rattle.mi_protocol.specs.declared.look_ups.KeyLookUp.TheVariants as by_key
+use Rattle.mi_protocol.specs.declared.look_ups.NumberLookUp.TheVariants as by_number
+use Rattle.mi_commands.specs.Answer.{command_answer, session_needs_none}
 use Rattle.mi_commands.specs.Holder.{HeldDatabase, is_busy}
 use Rattle.mi_commands.specs.Performed.{performed}
 use Rattle.mi_commands.specs.Told.{ToldOrMemory}
@@ -121,18 +122,18 @@ command_in c squash = Ok (command.Session session.Squash)
 command_in c (commit number) = Ok (command.Session (session.Commit number))
 command_in c undo_all = Ok (command.Session session.UndoAll)
 command_in c push = Ok (command.Session session.Push)
-command_in c (get n id) = over command.LookUp (λ s. Ok (look_up.Get id)) c n
-command_in c (find n x cells bytes) = over command.LookUp (λ s. and_then (λ k. Ok (look_up.Find k.0 k.1)) (key_or_prefix s x cells bytes)) c n
-command_in c (nth n x place) = over command.LookUp (λ s. and_then (λ i. Ok (look_up.Nth i place)) (index_in is_ranked s x)) c n
-command_in c (count n x cells bytes) = over command.LookUp (λ s. and_then (λ k. Ok (look_up.Count k.0 k.1)) (key_or_prefix s x cells bytes)) c n
+command_in c (get n id) = over command.NumberLookUp (λ s. Ok (by_number.Get id)) c n
+command_in c (find n x cells bytes) = over command.KeyLookUp (λ s. and_then (λ k. Ok (by_key.Find k.0 k.1)) (key_or_prefix s x cells bytes)) c n
+command_in c (nth n x place) = over command.NumberLookUp (λ s. and_then (λ i. Ok (by_number.Nth i place)) (index_in is_ranked s x)) c n
+command_in c (count n x cells bytes) = over command.KeyLookUp (λ s. and_then (λ k. Ok (by_key.Count k.0 k.1)) (key_or_prefix s x cells bytes)) c n
 command_in c (range n x lower lower_key upper upper_key bytes reverse limit) =
-    over command.LookUp (λ s. and_then (λ i. and_then (λ e. Ok (look_up.Range i e.0 e.1 reverse limit))
+    over command.KeyLookUp (λ s. and_then (λ i. and_then (λ e. Ok (by_key.Range i e.0 e.1 reverse limit))
     (ends_in (lower_in s i lower bytes lower_key) (upper_in s i upper bytes upper_key))) (index_in is_sorted s x)) c n
-command_in c (list n x after limit) = over command.LookUp (λ s. and_then (λ i. Ok (look_up.List i after limit)) (index_in is_sequenced s x)) c n
-command_in c (rank n x id) = over command.LookUp (λ s. and_then (λ i. Ok (look_up.Rank i id)) (index_in is_ranked s x)) c n
-command_in c (lower_rank n x cells bytes) = over command.LookUp (λ s. and_then (λ k. Ok (look_up.LowerRank k.0 k.1)) (ranked_key s x cells bytes)) c n
-command_in c (upper_rank n x cells bytes) = over command.LookUp (λ s. and_then (λ k. Ok (look_up.UpperRank k.0 k.1)) (ranked_key s x cells bytes)) c n
-command_in c (size n) = over command.LookUp (λ s. Ok look_up.Size) c n
+command_in c (list n x after limit) = over command.NumberLookUp (λ s. and_then (λ i. Ok (by_number.List i after limit)) (index_in is_sequenced s x)) c n
+command_in c (rank n x id) = over command.NumberLookUp (λ s. and_then (λ i. Ok (by_number.Rank i id)) (index_in is_ranked s x)) c n
+command_in c (lower_rank n x cells bytes) = over command.KeyLookUp (λ s. and_then (λ k. Ok (by_key.LowerRank k.0 k.1)) (ranked_key s x cells bytes)) c n
+command_in c (upper_rank n x cells bytes) = over command.KeyLookUp (λ s. and_then (λ k. Ok (by_key.UpperRank k.0 k.1)) (ranked_key s x cells bytes)) c n
+command_in c (size n) = over command.NumberLookUp (λ s. Ok by_number.Size) c n
 
 -- a look-up, which is answered whoever holds sessions; any other call is kept out while another connection holds some
 abbrev pub looks : Call → Bool
@@ -191,12 +192,11 @@ TellsChange n asked told old new =
 -- what is told of a command over sessions
 abbrev pub TellsDone : ℕ → SessionCommand → Told → EngineState → EngineState → Type 0
 TellsDone conn x told old new =
-    let c = command.Session x in
-    (said : Said) × ToldOrMemory (done_without c ≡ false) (performed old.held conn c) old.held said new.held × (told ≡ told_of said) × (new.reply ≡ old.reply)
+    (said : Said) × ToldOrMemory (session_needs_none x ≡ false) (performed old.held conn (command.Session x)) old.held said new.held × (told ≡ told_of said) × (new.reply ≡ old.reply)
 
 -- the same, unless it is kept out
 abbrev pub TellsStep : ℕ → SessionCommand → Told → EngineState → EngineState → Type 0
 TellsStep conn x told old new =
     let c = command.Session x in
-    (said : Said) × ToldOrMemory (done_without c ≡ false) (command_answer old.held conn (unless_busy old.held conn (Ok c))) old.held said new.held
+    (said : Said) × ToldOrMemory (session_needs_none x ≡ false) (command_answer old.held conn (unless_busy old.held conn (Ok c))) old.held said new.held
     × (told ≡ told_of said) × (new.reply ≡ old.reply)

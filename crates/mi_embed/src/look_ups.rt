@@ -4,7 +4,7 @@ ghost use Rattle.mi_catalog.specs.Fitting.{HasTable};
 ghost use Rattle.mi_model.specs.Database.{table_of};
 ghost use Rattle.mi_protocol.specs.Binding.{FitsCatalog};
 ghost use Rattle.mi_protocol.specs.declared.command.Command.TheVariants as command;
-ghost use Rattle.mi_protocol.specs.declared.command.LookUp.TheVariants as look_up;
+ghost use Rattle.mi_protocol.specs.declared.look_ups.KeyLookUp.TheVariants as by_key;
 ghost use Rattle.mi_request.specs.Answers.{IsAnswer};
 ghost use Rattle.mi_embed.specs.Asked as asked;
 ghost use Rattle.mi_embed.specs.LookUps as meaning;
@@ -39,7 +39,7 @@ impl Engine {
         texts: &[u8],
     ) -> Result<Key, Refusal>
         ensures key { IsAnswer result (asked.key_or_prefix self.now.held table index key.now texts.now) }
-        ensures fits { IfOk result (λ key. FitsCatalog self.now.held.database.catalog (command.LookUp table (look_up.Find index key))) }
+        ensures fits { IfOk result (λ key. FitsCatalog self.now.held.database.catalog (command.KeyLookUp table (by_key.Find index key))) }
     {
         let schema = schema_of(self.executor.database().catalog(), table)?;
         let index = keyed_index(schema, index)?;
@@ -81,7 +81,7 @@ impl Engine {
         texts: &[u8],
     ) -> Result<Key, Refusal>
         ensures key { IsAnswer result (asked.ranked_key self.now.held table index key.now texts.now) }
-        ensures fits { IfOk result (λ key. FitsCatalog self.now.held.database.catalog (command.LookUp table (look_up.LowerRank index key))) }
+        ensures fits { IfOk result (λ key. FitsCatalog self.now.held.database.catalog (command.KeyLookUp table (by_key.LowerRank index key))) }
     {
         let schema = schema_of(self.executor.database().catalog(), table)?;
         let index = ranked_index(schema, index)?;

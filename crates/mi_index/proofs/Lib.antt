@@ -6,9 +6,10 @@ pub mod PassLemmas
 pub mod LoopLemmas
 pub mod OtherNodeLemmas
 pub mod InsertLemmas
+pub mod KeepingLemmas
 pub mod RoomLemmas
 pub mod RekeyLemmas
 pub mod OpeningLemmas
 pub mod LookUpLemmas
 pub mod WalkLemmas
-pub mod RestampLemmas
+pub mod RangeLemmas

@@ -23,14 +23,14 @@ pub record Passing (P : Asks) (Q : Gives) (r : Ref) (all : List Structure) (m : 
 pub begun : (P : Asks) (Q : Gives) (r : Ref) (xs : List Structure) (m : Pooled Stored) → AreReady P 0 xs m → Passing P Q r xs m 0 xs m
 begun P Q r xs m q = record { long = refl; ready = q; closes = λ ys o like pass. (like, pass) }
 
-first_ready : (P : Asks) (s : ℕ) (x : Structure) (xs : List Structure) (m : Pooled Stored) → AreReady P s (x ∷ xs) m → IsReady P s x m
+pub first_ready : (P : Asks) (s : ℕ) (x : Structure) (xs : List Structure) (m : Pooled Stored) → AreReady P s (x ∷ xs) m → IsReady P s x m
 first_ready P s x xs m q = of_first q.rss q.stand q.can
   where
     of_first : (rss : List (List Ref)) → AllStand (x ∷ xs) s m rss → AllCan P (x ∷ xs) s m rss → IsReady P s x m
     of_first [] h c = absurd h
     of_first (rs ∷ rss) h c = record { rs = rs; stands = h.1; can = c.0 }
 
-slot_there : (x : Structure) (m : Pooled Stored) (rs : List Ref) → Stands x m rs → slot_in x < m.slots
+pub slot_there : (x : Structure) (m : Pooled Stored) (rs : List Ref) → Stands x m rs → slot_in x < m.slots
 slot_there (Sorted t) m rs h = h.has_slot
 slot_there (Hashed c) m rs h = let b = h.0.buckets in b.slot
 slot_there (Sequenced l) m rs h = h.slot_fits

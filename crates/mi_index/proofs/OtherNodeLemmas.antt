@@ -62,6 +62,12 @@ but_value m k v = record {
   slots = slots-with_value m k v;
 }
 
+-- o is n with another value of the node r, and maybe other links of it
+pub record IsExchanged (r : Ref) (v : Stored) (n o : Pooled Stored) : Type 0 where
+  pub refs : (k : ℕ) → ref_of o k ≡ ref_of n k
+  pub own : value_of o r.name ≡ Some v
+  pub but : AgreeBut r.name n o
+
 alike_but : (x : Structure) (k : ℕ) (m n : Pooled Stored) (rs : List Ref) → AgreeBut k m n → IsOut k rs → AreAlike (swap_order x) m n (slot_in x) rs
 alike_but x k m n [] a o = tt
 alike_but x k m n (q ∷ rs) a o = (

@@ -1,9 +1,9 @@
 -- Where a node may come into an index, and what changes there as it comes, leaves or comes back.
---     is_moved, place_for      which indexes a pass changes, and the place that a node comes back to
+--     is_moved, stamp_for, place_for      which indexes a pass changes, the stamp that a node gets there, and the place that it comes back to
 --     CanJoin, IsJoined      a node may come in with a stamp; it has come in
 --     IsOneOf, IsLeft      a node stands there; it has left, and remembers its neighbours
 --     CanReturn, IsBack      a node may come back to a place; it has come back
-use Rattle.std.specs.Prelude.{◌≡◌, ℕ, ◌+◌, ◌<◌, ◌^◌, ◌==◌, Bool, true, false, cond, List, [], ◌∷◌, ◌++◌, length, Option, Some, None, slice_index_or}
+use Rattle.std.specs.Prelude.{◌≡◌, ℕ, ◌+◌, ◌<◌, ◌^◌, ◌==◌, Bool, true, false, cond, List, [], ◌∷◌, ◌++◌, length, Option, Some, None, option_map, slice_index_or}
 use Rattle.std.specs.List.{filter}
 use Rattle.std.specs.declared.cmp.Ordering.TheVariants.{Equal}
 use Rattle.mi_node.specs.Pool.{Pooled, IsHeld, link_of}
@@ -37,17 +37,30 @@ mark_at marks s = slice_index_or marks s false
 abbrev pub given_at : List (Option OldPlace) → ℕ → Option OldPlace
 given_at places s = slice_index_or places s None
 
+-- but for the slots that are kept
+abbrev pub still_marked : List Bool → List Bool → ℕ → Bool
+still_marked kept marks s = cond (mark_at kept s) false (mark_at marks s)
+
+abbrev pub still_given : List Bool → List (Option OldPlace) → ℕ → Option OldPlace
+still_given kept places s = cond (mark_at kept s) None (given_at places s)
+
 -- whether a pass changes the index of a slot
 abbrev pub is_moved : Moves → ℕ → Bool
 is_moved All s = true
-is_moved (Marked marks) s = mark_at marks.now s
-is_moved (Placed places) s = is_given (given_at places.now s)
+is_moved (Marked marks kept) s = still_marked kept.now marks.now s
+is_moved (Placed places kept) s = is_given (still_given kept.now places.now s)
+
+-- the stamp that a node gets in the index of a slot: this one, or that of the place that is given
+abbrev pub stamp_for : Moves → ℕ → ℕ → Option ℕ
+stamp_for All s stamp = Some stamp
+stamp_for (Marked marks kept) s stamp = cond (still_marked kept.now marks.now s) (Some stamp) None
+stamp_for (Placed places kept) s stamp = option_map (λ p. p.stamp) (still_given kept.now places.now s)
 
 -- where a node comes back to in the index of a slot: the place that is given, or else what its own link there remembers
 abbrev pub place_for : Moves → ℕ → Link → Option OldPlace
 place_for All s l = Some (own_place l)
-place_for (Marked marks) s l = cond (mark_at marks.now s) (Some (own_place l)) None
-place_for (Placed places) s l = given_at places.now s
+place_for (Marked marks kept) s l = cond (still_marked kept.now marks.now s) (Some (own_place l)) None
+place_for (Placed places kept) s l = still_given kept.now places.now s
 
 -- the node that is given, if it is for this slot
 abbrev pub before_at : ℕ → Option (ℕ × Ref) → Option Ref

@@ -1,17 +1,21 @@
 //! Passes over the structures of all indexes, one after another. A change in one leaves all others standing, since each
 //! sets links of its own slot alone. What a pass says of the node is lent to each step.
-ghost use Rattle.std.specs.Prelude.{◌≡◌, ◌+◌, ◌<◌, ◌^◌, List as Seq, ◌++◌, length, IfOk};
-ghost use Rattle.mi_node.specs.Pool.{IsHeld, link_of};
+ghost use Rattle.std.specs.Prelude.{◌≡◌, ℕ, ◌+◌, ◌<◌, ◌^◌, ◌==◌, ◌↔◌, IsTrue, false, Some, List as Seq, ◌++◌, length, IfOk};
+ghost use Rattle.mi_node.specs.Pool.{IsHeld, value_of, link_of};
 ghost use Rattle.mi_node.specs.Refs.{Ref};
-ghost use Rattle.mi_index.specs.Standing.{IsLike};
-ghost use Rattle.mi_index.specs.Places.{place_for};
-ghost use Rattle.mi_index.specs.Pass.{IsReady, IsStep, AreReady, IsPass, AllLike, AllRoomy};
+ghost use Rattle.mi_order.specs.declared.stored.Stored.{Stored as Value};
+ghost use Rattle.mi_index.specs.Standing.{slot_in, Stands, IsLike};
+ghost use Rattle.mi_index.specs.Places.{is_moved, mark_at, place_for, stamp_for};
+ghost use Rattle.mi_index.specs.Pass.{AllStand, AllCan, IsReady, IsStep, AreReady, IsPass, AllLike, AllRoomy};
 ghost use Rattle.mi_index.specs.Passes as pass;
+ghost use Rattle.mi_index.specs.Passes.{HasNodeIf};
+ghost use Rattle.mi_index.specs.Keeping as keep;
+ghost use Rattle.mi_index.specs.Keeping.{KeepsFor, KeepsButLinks};
 ghost use Rattle.mi_index.specs.Inserting as insert;
 ghost use Rattle.mi_index.specs.Opened as opened;
 ghost use Rattle.mi_index.specs.declared.structure.Structure.{Structure as One};
 
-use crate::moves::{Moves, before_in, place_at};
+use crate::moves::{Moves, before_in, is_marked, place_at};
 use crate::structure::Structure;
 use mi_catalog::{Column, Index};
 use mi_node::{NodeRef, OldPlace, Pool};
@@ -64,7 +68,7 @@ fn place_of(p: &Pool<Stored>, slot: usize, node: NodeRef, moves: &Moves<'_>) -> 
     ensures { result ≡ place_for moves.now slot (link_of p.now node.name slot) }
 {
     match moves {
-        Moves::Placed(all) => place_at(all, slot),
+        Moves::Placed(all, kept) => place_at(all, kept, slot),
         _ => moves.place_in(slot, p.link(node, slot)),
     }
 }
@@ -103,6 +107,101 @@ fn relocate_one(
 {
     if slot == index {
         structure.move_before(p, node, before);
+    }
+}
+
+/// Whether a node keeps its place in one structure, with the value that it gets, and the stamp that it gets there.
+fn keeps_one(
+    structure: &Structure,
+    slot: usize,
+    p: &Pool<Stored>,
+    node: NodeRef,
+    stored: &Stored,
+    moves: &Moves<'_>,
+    stamp: u64,
+) -> bool
+    requires { IsReady (pass.leaving moves.now node) slot structure.now p.now }
+    ensures { (rs : Seq Ref) → Stands structure.now p.now rs → HasNodeIf (is_moved moves.now slot) node rs
+        → (IsTrue result ↔ KeepsFor (stamp_for moves.now slot stamp) structure.now p.now node stored.now rs) }
+{
+    match moves.stamp_in(slot, stamp) {
+        None => false,
+        Some(stamp) => structure.keeps_place(p, node, stored, stamp),
+    }
+}
+
+/// Sets the flag of each structure in which a node moves: whether it keeps its place there.
+pub(crate) fn find_kept(
+    structures: &[Structure],
+    slot: usize,
+    p: &Pool<Stored>,
+    node: NodeRef,
+    stored: &Stored,
+    moves: &Moves<'_>,
+    stamp: u64,
+    kept: &mut [bool],
+)
+    requires fits { slot + length structures.now < 2 ^ 64 }
+    requires ready { AreReady (pass.leaving moves.now node) slot structures.now p.now }
+    ensures flagged { (rss : Seq (Seq Ref)) → AllStand structures.now slot p.now rss → AllCan (pass.leaving moves.now node) structures.now slot p.now rss
+        → AllCan (keep.flagged kept.new (λ s. stamp_for moves.now s stamp) node stored.now) structures.now slot p.now rss }
+    ensures earlier { (k : ℕ) → k < slot → mark_at kept.new k ≡ mark_at kept.old k }
+{
+    let Some((structure, rest)) = structures.split_first() else {
+        return;
+    };
+    if slot < kept.len() {
+        kept[slot] = keeps_one(structure, slot, p, node, stored, moves, stamp);
+    }
+    find_kept(rest, slot + 1, p, node, stored, moves, stamp, kept);
+}
+
+/// Sets the tag of a node in one structure, if it keeps its place there: to that of the value that it has now, with the
+/// stamp that it gets there.
+fn retag_one(
+    structure: &Structure,
+    slot: usize,
+    p: &mut Pool<Stored>,
+    node: NodeRef,
+    moves: &Moves<'_>,
+    stamp: u64,
+    kept: &[bool],
+)
+    requires held { IsHeld p.old node }
+    requires slot { (slot_in structure.now ≡ slot) × (slot < p.old.slots) }
+    ensures but { KeepsButLinks p.old p.new node }
+    ensures own { (v : Value) → value_of p.old node.name ≡ Some v → link_of p.new node.name slot
+        ≡ keep.own_link (keep.retags kept.now (λ s. stamp_for moves.now s stamp) slot) structure.now v (link_of p.old node.name slot) }
+    ensures slots { (t : ℕ) → (slot == t) ≡ false → link_of p.new node.name t ≡ link_of p.old node.name t }
+{
+    if is_marked(kept, slot) {
+        if let Some(stamp) = moves.stamp_in(slot, stamp) {
+            structure.retag(p, node, stamp);
+        }
+    }
+}
+
+/// Sets the tags of a node in the structures in which it keeps its place.
+pub(crate) fn retag_all(
+    structures: &[Structure],
+    slot: usize,
+    p: &mut Pool<Stored>,
+    node: NodeRef,
+    moves: &Moves<'_>,
+    stamp: u64,
+    kept: &[bool],
+)
+    requires fits { slot + length structures.now < 2 ^ 64 }
+    requires held { IsHeld p.old node }
+    requires placed { keep.ArePlaced structures.now slot p.old }
+    ensures but { KeepsButLinks p.old p.new node }
+    ensures own { (v : Value) → value_of p.old node.name ≡ Some v
+        → keep.AreRetagged (keep.retags kept.now (λ s. stamp_for moves.now s stamp)) node v structures.now slot p.old p.new }
+    ensures earlier { (t : ℕ) → t < slot → link_of p.new node.name t ≡ link_of p.old node.name t }
+{
+    if let Some((structure, rest)) = structures.split_first() {
+        retag_one(structure, slot, p, node, moves, stamp, kept);
+        retag_all(rest, slot + 1, p, node, moves, stamp, kept);
     }
 }
 

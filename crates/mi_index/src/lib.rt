@@ -17,3 +17,4 @@ pub use moves::Moves;
 pub use nodes::Nodes;
 pub use structure::Structure;
 pub use structures::Structures;
+pub use walk::KeyRange;

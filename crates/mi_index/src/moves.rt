@@ -6,16 +6,17 @@ use mi_node::{Link, MaybePlace, NodeRef, OldPlace};
 
 /// The indexes in which a node moves, by their numbers: all of them; those that are marked; or those that have a place
 /// to which the node comes back. The neighbours that a place names are in chains the nearest nodes of its key, in a list
-/// the nearest nodes; in a tree they say nothing.
+/// the nearest nodes; in a tree they say nothing. The flags behind the marks and the places are set for the indexes in
+/// which the node keeps its place: in those it doesn't move.
 #[derive(Clone, Copy)]
 pub enum Moves<'a> {
     All,
-    Marked(&'a [bool]),
-    Placed(&'a [MaybePlace]),
+    Marked(&'a [bool], &'a [bool]),
+    Placed(&'a [MaybePlace], &'a [bool]),
 }
 
 /// Whether the mark of a number is set. One past the last is not.
-fn is_marked(marks: &[bool], slot: usize) -> bool
+pub(crate) fn is_marked(marks: &[bool], slot: usize) -> bool
     ensures { result ≡ places.mark_at marks.now slot }
 {
     match marks.get(slot) {
@@ -24,10 +25,24 @@ fn is_marked(marks: &[bool], slot: usize) -> bool
     }
 }
 
-/// The place of a number, if there is one.
-pub(crate) fn place_at(all: &[MaybePlace], slot: usize) -> Option<OldPlace>
-    ensures { result ≡ places.given_at all.now slot }
+/// Whether the mark of a number is set, and the flag isn't.
+fn is_still_marked(marks: &[bool], kept: &[bool], slot: usize) -> bool
+    ensures { result ≡ places.still_marked kept.now marks.now slot }
 {
+    if is_marked(kept, slot) {
+        false
+    } else {
+        is_marked(marks, slot)
+    }
+}
+
+/// The place of a number, if there is one, and the flag isn't set.
+pub(crate) fn place_at(all: &[MaybePlace], kept: &[bool], slot: usize) -> Option<OldPlace>
+    ensures { result ≡ places.still_given kept.now all.now slot }
+{
+    if is_marked(kept, slot) {
+        return None;
+    }
     match all.get(slot) {
         Some(place) => place.place(),
         None => None,
@@ -41,8 +56,29 @@ impl Moves<'_> {
     {
         match self {
             Moves::All => true,
-            Moves::Marked(marks) => is_marked(marks, slot),
-            Moves::Placed(all) => place_at(all, slot).is_some(),
+            Moves::Marked(marks, kept) => is_still_marked(marks, kept, slot),
+            Moves::Placed(all, kept) => place_at(all, kept, slot).is_some(),
+        }
+    }
+
+    /// The stamp that the node gets in the index of this number, if it moves there: that of the place to which it comes
+    /// back, or else this one.
+    pub fn stamp_in(self, slot: usize, stamp: u64) -> Option<u64>
+        ensures { result ≡ places.stamp_for self.entry slot stamp }
+    {
+        match self {
+            Moves::All => Some(stamp),
+            Moves::Marked(marks, kept) => {
+                if is_still_marked(marks, kept, slot) {
+                    Some(stamp)
+                } else {
+                    None
+                }
+            }
+            Moves::Placed(all, kept) => match place_at(all, kept, slot) {
+                Some(place) => Some(place.stamp),
+                None => None,
+            },
         }
     }
 
@@ -53,14 +89,14 @@ impl Moves<'_> {
     {
         match self {
             Moves::All => Some(OldPlace::of(link)),
-            Moves::Marked(marks) => {
-                if is_marked(marks, slot) {
+            Moves::Marked(marks, kept) => {
+                if is_still_marked(marks, kept, slot) {
                     Some(OldPlace::of(link))
                 } else {
                     None
                 }
             }
-            Moves::Placed(all) => place_at(all, slot),
+            Moves::Placed(all, kept) => place_at(all, kept, slot),
         }
     }
 }

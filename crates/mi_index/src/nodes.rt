@@ -103,7 +103,8 @@ impl Nodes {
     }
 
     /// Gives a node another value, and the old one back. In each index that is marked the node moves, by its new key and
-    /// this stamp, and last in a list; in the others the key is the same. Takes no memory.
+    /// this stamp, and last in a list; in the others the key is the same. A tree in which it keeps its place gets a new tag
+    /// alone. Takes no memory.
     pub fn rekey(&mut self, node: NodeRef, stored: Stored, marks: &[bool], stamp: u64) -> Stored
         requires held { IsHeld self.old.pool node }
         requires places { AreReady (rekey.rekeying marks.now node stored stamp) 0 self.old.structures.items self.old.pool }
@@ -114,20 +115,27 @@ impl Nodes {
             self.old.structures.items self.new.structures.items self.old.pool self.new.pool rss }
         ensures like { AllLike self.old.structures.items self.new.structures.items }
     {
+        let asked = Moves::Marked(marks, &[]);
+        let kept = self
+            .structures
+            .find_kept(&self.pool, node, &stored, &asked, stamp);
         let joining = Joining {
             node,
-            moves: Moves::Marked(marks),
+            moves: Moves::Marked(marks, &kept),
             stamp,
             before: None,
         };
         self.structures.unlink(&mut self.pool, node, &joining.moves);
         let old = self.pool.swap_value(node, stored);
+        self.structures
+            .retag(&mut self.pool, node, &asked, stamp, &kept);
         self.structures.link(&mut self.pool, &joining);
         old
     }
 
     /// Gives a node an old value again, and the other one back. In each index that has a place for it the node moves
-    /// there, which is never a list; in the others the key is the same. Takes no memory.
+    /// there, which is never a list; in the others the key is the same. A tree in which it keeps its place gets a new tag
+    /// alone. Takes no memory.
     pub fn rekey_back(&mut self, node: NodeRef, stored: Stored, places: &[MaybePlace]) -> Stored
         requires held { IsHeld self.old.pool node }
         requires places { AreReady (rekey.returning_to places.now node stored) 0 self.old.structures.items self.old.pool }
@@ -138,9 +146,15 @@ impl Nodes {
             self.old.structures.items self.new.structures.items self.old.pool self.new.pool rss }
         ensures like { AllLike self.old.structures.items self.new.structures.items }
     {
-        let moves = Moves::Placed(places);
+        let asked = Moves::Placed(places, &[]);
+        let kept = self
+            .structures
+            .find_kept(&self.pool, node, &stored, &asked, 0);
+        let moves = Moves::Placed(places, &kept);
         self.structures.unlink(&mut self.pool, node, &moves);
         let old = self.pool.swap_value(node, stored);
+        self.structures
+            .retag(&mut self.pool, node, &asked, 0, &kept);
         self.structures.relink(&mut self.pool, node, &moves);
         old
     }
@@ -158,7 +172,7 @@ impl Nodes {
             self.old.structures.items self.new.structures.items self.old.pool self.new.pool rss }
         ensures like { AllLike self.old.structures.items self.new.structures.items }
     {
-        let moves = Moves::Marked(marks);
+        let moves = Moves::Marked(marks, &[]);
         self.structures.unlink(&mut self.pool, node, &moves);
         let joining = Joining {
             node,

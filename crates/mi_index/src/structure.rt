@@ -1,9 +1,12 @@
 //! The structure of one index over the pool's nodes: the only match on the kind of an index.
 //! It links nodes through its own slot, and never reads another; what it knows of values are their keys.
-ghost use Rattle.std.specs.Prelude.{◌≡◌, ℕ, IfOk, IfErr, IsOk};
+ghost use Rattle.std.specs.Prelude.{◌≡◌, ℕ, ◌<◌, ◌==◌, false, ◌∷◌, ◌++◌, ◌↔◌, IsTrue, Some, List as Seq, IfOk, IfErr, IsOk};
 ghost use Rattle.std.specs.Option.{option_copied};
+ghost use Rattle.mi_node.specs.Pool.{IsHeld, value_of, link_of};
 ghost use Rattle.mi_node.specs.Refs.{Ref};
-ghost use Rattle.mi_index.specs.Standing.{IsLike, IsRoomy};
+ghost use Rattle.mi_order.specs.declared.stored.Stored.{Stored as Value};
+ghost use Rattle.mi_index.specs.Standing.{slot_in, Stands, IsLike, IsRoomy};
+ghost use Rattle.mi_index.specs.Keeping.{KeepsPlaceAt, KeepsButLinks, own_link};
 ghost use Rattle.mi_index.specs.Pass.{IsReady, IsStep};
 ghost use Rattle.mi_index.specs.Passes as pass;
 ghost use Rattle.mi_index.specs.PassSteps as step;
@@ -94,6 +97,37 @@ impl Structure {
             Structure::Sorted(tree) => relink_tree(tree, p, node, place),
             Structure::Hashed(chains) => relink_chains(chains, p, node, place),
             Structure::Sequenced(list) => relink_list(list, p, node, place),
+        }
+    }
+
+    /// Whether a node keeps its place where it gets another value and that stamp. Only a tree tells; in chains and in a
+    /// list none does.
+    pub fn keeps_place(&self, p: &Pool<Stored>, node: NodeRef, stored: &Stored, stamp: u64) -> bool
+        requires { (xs : Seq Ref) × (ys : Seq Ref) × Stands self.now p.now (xs ++ node ∷ ys) }
+        ensures { (xs : Seq Ref) (ys : Seq Ref) → Stands self.now p.now (xs ++ node ∷ ys)
+            → (IsTrue result ↔ KeepsPlaceAt self.now p.now stored.now stamp xs ys) }
+    {
+        match self {
+            Structure::Sorted(tree) => {
+                tree.keeps_place(p, node, stored, stamp, &mut Steps::new())
+            }
+            Structure::Hashed(_) | Structure::Sequenced(_) => false,
+        }
+    }
+
+    /// Gives a node's link in a tree the tag of its value, with that stamp: it has another value now, with which it keeps
+    /// its place. Nothing changes in chains and in a list.
+    pub fn retag(&self, p: &mut Pool<Stored>, node: NodeRef, stamp: u64)
+        requires held { IsHeld p.old node }
+        requires slot { slot_in self.now < p.old.slots }
+        ensures but { KeepsButLinks p.old p.new node }
+        ensures own { (v : Value) → value_of p.old node.name ≡ Some v
+            → link_of p.new node.name (slot_in self.now) ≡ own_link (Some stamp) self.now v (link_of p.old node.name (slot_in self.now)) }
+        ensures slots { (t : ℕ) → (slot_in self.now == t) ≡ false → link_of p.new node.name t ≡ link_of p.old node.name t }
+    {
+        match self {
+            Structure::Sorted(tree) => tree.retag(p, node, stamp),
+            Structure::Hashed(_) | Structure::Sequenced(_) => {}
         }
     }
 

@@ -1,15 +1,19 @@
 //! The structures of all indexes of one table, and for how many nodes each of them has room: so where a node comes in and
 //! nothing has to grow, one comparison says so. It knows no values of nodes.
-ghost use Rattle.std.specs.Prelude.{◌≡◌, ◌<◌, ◌≤◌, ◌^◌, Some, length, IfOk, slice_get};
-ghost use Rattle.mi_node.specs.Pool.{IsHeld};
+ghost use Rattle.std.specs.Prelude.{◌≡◌, ◌<◌, ◌≤◌, ◌^◌, Some, List as Seq, length, IfOk, slice_get};
+ghost use Rattle.mi_node.specs.Pool.{IsHeld, value_of};
 ghost use Rattle.mi_node.specs.Refs.{Ref};
-ghost use Rattle.mi_index.specs.Pass.{AreReady, IsPass, AllLike, AllRoomy};
+ghost use Rattle.mi_order.specs.declared.stored.Stored.{Stored as Value};
+ghost use Rattle.mi_index.specs.Places.{stamp_for};
+ghost use Rattle.mi_index.specs.Pass.{AllStand, AllCan, AreReady, IsPass, AllLike, AllRoomy};
+ghost use Rattle.mi_index.specs.Keeping as keep;
 ghost use Rattle.mi_index.specs.Passes as pass;
 ghost use Rattle.mi_index.specs.Inserting as insert;
 ghost use Rattle.mi_index.specs.Opened as opened;
 
 use crate::all::{
-    Joining, add_structures, link_all, make_room_all, relink_all, relocate_all, unlink_all,
+    Joining, add_structures, find_kept, link_all, make_room_all, relink_all, relocate_all,
+    retag_all, unlink_all,
 };
 use crate::moves::Moves;
 use crate::structure::Structure;
@@ -36,6 +40,9 @@ impl Model for Structures {
 
     ghost invariant = { λ s. AllRoomy s.items.items s.room };
 }
+
+/// How many indexes a table has at most.
+const FLAGS: usize = 16;
 
 /// How many nodes there is to be room for, where there are to be n: as many as chains then have buckets, so that they aren't
 /// asked again before they are full.
@@ -90,6 +97,52 @@ impl Structures {
         ensures like { AllLike self.old.items self.new.items }
     {
         unlink_all(self.items.as_mut_slice(), p, node, moves);
+    }
+
+    /// Whether a node keeps its place in each structure in which it moves, with the value that it gets, and the stamp that
+    /// it gets there: a flag each. Past the flags, which are enough for a table's indexes, none keeps it.
+    pub(crate) fn find_kept(
+        &self,
+        p: &Pool<Stored>,
+        node: NodeRef,
+        stored: &Stored,
+        moves: &Moves<'_>,
+        stamp: u64,
+    ) -> [bool; FLAGS]
+        requires { AreReady (pass.leaving moves.now node) 0 self.now.items p.now }
+        ensures { (rss : Seq (Seq Ref)) → AllStand self.now.items 0 p.now rss → AllCan (pass.leaving moves.now node) self.now.items 0 p.now rss
+            → AllCan (keep.flagged result (λ s. stamp_for moves.now s stamp) node stored.now) self.now.items 0 p.now rss }
+    {
+        let mut kept = [false; FLAGS];
+        find_kept(
+            self.items.as_slice(),
+            0,
+            p,
+            node,
+            stored,
+            moves,
+            stamp,
+            &mut kept,
+        );
+        kept
+    }
+
+    /// Sets the tags of a node in the structures in which it keeps its place, by the value that it has now. Takes no memory.
+    pub(crate) fn retag(
+        &self,
+        p: &mut Pool<Stored>,
+        node: NodeRef,
+        moves: &Moves<'_>,
+        stamp: u64,
+        kept: &[bool],
+    )
+        requires held { IsHeld p.old node }
+        requires placed { keep.ArePlaced self.now.items 0 p.old }
+        ensures but { keep.KeepsButLinks p.old p.new node }
+        ensures own { (v : Value) → value_of p.old node.name ≡ Some v
+            → keep.AreRetagged (keep.retags kept.now (λ s. stamp_for moves.now s stamp)) node v self.now.items 0 p.old p.new }
+    {
+        retag_all(self.items.as_slice(), 0, p, node, moves, stamp, kept);
     }
 
     /// Puts a node back into each structure in which it moves. Takes no memory.

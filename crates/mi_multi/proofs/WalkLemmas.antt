@@ -1,37 +1,43 @@
 -- What a walk along an index lends, by what contracts see of the container.
-use Rattle.std.proofs.Common.{◌≡◌, ℕ, Bool, true, false, cond, List, [], ◌∷◌, ◌++◌, map, length, take, drop, reverse, refl, ap, sym, ◌∙◌, subst, arith}
-use Rattle.std.specs.Prelude.{slice_get, IsTrue}
-use Rattle.std.specs.List.{AllByRecursion}
+use Rattle.std.proofs.Common.{◌≡◌, ℕ, suc, ◌+◌, ◌*◌, ◌^◌, ◌<◌, ◌≤◌, Bool, true, false, cond, ◌&&◌, List, [], ◌∷◌, ◌++◌, map, length, take, reverse}
+use Rattle.std.proofs.Common.{refl, ap, sym, ◌∙◌, subst, arith}
+use Rattle.std.specs.Prelude.{slice_get}
+use Rattle.std.specs.List.{AllByRecursion, filter}
+use Rattle.std.specs.Ordering.{is_le, is_lt, is_ge, is_gt}
 use Rattle.std.specs.declared.option.Option.TheVariants.{Some}
-use Rattle.std.proofs.lemmas.List.{take_all, take-map, drop-map, take-append-drop, reverse-append}
+use Rattle.std.proofs.lemmas.List.{take-map, map-append, reverse-append}
 use Rattle.mi_value.specs.declared.bound.Lower.{Lower}
 use Rattle.mi_value.specs.declared.bound.Lower.TheVariants as lower
 use Rattle.mi_value.specs.declared.bound.Upper.{Upper}
 use Rattle.mi_value.specs.declared.bound.Upper.TheVariants as upper
-use Rattle.mi_catalog.specs.Kinds.{is_sorted}
+use Rattle.mi_catalog.specs.Key.{Row, compare_to_row}
 use Rattle.mi_catalog.specs.Shape.{Shape, index_at}
-use Rattle.mi_model.specs.Table.{Table, row}
-use Rattle.mi_model.specs.Page.{ids_up, ids_down}
+use Rattle.mi_model.specs.Table.{Table, row, size}
+use Rattle.mi_model.specs.Page as page
 use Rattle.mi_model.specs.View.{view}
 use Rattle.mi_model.specs.Walk.{turned, from_in, rows_from}
 use Rattle.mi_model.proofs.PlaceLaws.{IsOnce, once_of_each}
-use Rattle.mi_model.proofs.QueryLaws.{rank_from, rank_to, from_all, to_all, up_is, down_is}
 use Rattle.mi_model.proofs.WalkLaws.{turned_middle}
 use Rattle.mi_node.specs.Pool.{Pooled}
 use Rattle.mi_node.specs.Refs.{Ref}
-use Rattle.mi_tree.specs.Walking.{beyond, beyond_place}
+use Rattle.mi_tree.specs.Walking.{beyond}
 use Rattle.mi_index.specs.declared.structure.Structure.{Structure}
+use Rattle.mi_index.specs.declared.structure.Structure.TheVariants.{Sorted, Hashed, Sequenced}
+use Rattle.mi_index.specs.declared.walk.KeyRange.{KeyRange}
 use Rattle.mi_order.specs.declared.stored.Stored.{Stored}
+use Rattle.mi_index.specs.Looks as nodes
+use Rattle.mi_index.specs.Ranges.{parts_in, meets_lower, meets_upper, is_from, is_to, directed, rows_in}
 use Rattle.mi_index.specs.Standing.{slot_in, Stands}
 use Rattle.mi_index.specs.Walks.{row_if, shown_row}
+use Rattle.mi_container.specs.Asked.{IsSorted}
 use Rattle.mi_container.specs.Data.{as_table}
 use Rattle.mi_ids.specs.IdMap.{live_node}
-use Rattle.mi_multi.specs.Multi.{id_at, ids_at}
+use Rattle.mi_multi.specs.Multi.{id_at, ids_at, IsFor}
 use Rattle.mi_multi.specs.Seen.{Seen, seen_of, AreMulti}
-use Rattle.mi_multi.specs.Walks.{direction_of, beyond_ids, ids_past}
+use Rattle.mi_multi.specs.Walks.{direction_of}
 use Rattle.mi_multi.specs.declared.multi.MultiIndex.TheInside.{Inside}
+use Rattle.mi_multi.proofs.CallLemmas.{in_order, long}
 use Rattle.mi_multi.proofs.NeighbourLemmas.{ids_append}
-use Rattle.mi_multi.proofs.FoundIdLemmas.{length_ids}
 use Rattle.mi_multi.proofs.LiveNodeLemmas.{IsLiveRef}
 use Rattle.mi_multi.proofs.IndexNumberLemmas.{Numbered, numbered}
 use Rattle.mi_multi.proofs.LookUpLemmas as known
@@ -57,26 +63,30 @@ module _ (P : Ref → Type 0) where
   all_beyond true us r vs all = ((all_on us (r ∷ vs) all).0, all_back us (r ∷ vs) all)
   all_beyond false us r vs all = all_on us (r ∷ vs) all
 
-  all_place : (reversed : Bool) (n : ℕ) (us : List Ref) → AllByRecursion P us → AllByRecursion P (beyond_place (direction_of reversed) n us)
-  all_place true n us all = all_back (take n us) (drop n us) (subst (AllByRecursion P) (sym (take-append-drop n us)) all)
-  all_place false n us all = all_on (take n us) (drop n us) (subst (AllByRecursion P) (sym (take-append-drop n us)) all)
-
-ids_reverse : (f : Ref → ℕ) (us : List Ref) → map f (reverse us) ≡ reverse (map f us)
-ids_reverse f [] = refl
-ids_reverse f (u ∷ us) =
-    ap (map f) (reverse-append (u ∷ []) us) ∙ ids_append f (reverse us) (u ∷ [])
-    ∙ ap (λ q. q ++ f u ∷ []) (ids_reverse f us) ∙ sym (reverse-append (f u ∷ []) (map f us))
-
--- the ids of the nodes from a place on
-place_ids : (f : Ref → ℕ) (reversed : Bool) (n : ℕ) (us : List Ref) → map f (beyond_place (direction_of reversed) n us) ≡ beyond_ids reversed n (map f us)
-place_ids f true n us = ids_reverse f (take n us) ∙ ap reverse (sym (take-map f n us))
-place_ids f false n us = sym (drop-map f n us)
+map_reverse : {X Y : Type 0} (f : X → Y) (us : List X) → map f (reverse us) ≡ reverse (map f us)
+map_reverse f [] = refl
+map_reverse f (u ∷ us) =
+    ap (map f) (reverse-append (u ∷ []) us) ∙ map-append f (reverse us) (u ∷ [])
+    ∙ ap (λ q. q ++ f u ∷ []) (map_reverse f us) ∙ sym (reverse-append (f u ∷ []) (map f us))
 
 -- the ids of the nodes from one on
 
 ids_beyond : (f : Ref → ℕ) (reversed : Bool) (us vs : List Ref) → map f (beyond (direction_of reversed) us vs) ≡ cond reversed (reverse (map f us)) (map f vs)
-ids_beyond f true us vs = ids_reverse f us
+ids_beyond f true us vs = map_reverse f us
 ids_beyond f false us vs = refl
+
+-- the rows of live nodes are those of their ids
+module _ (i : Inside) (is : AreMulti i) (x : ℕ) {y : Structure} (at : slice_get i.nodes.structures.items x ≡ Some y) where
+  rows_live : (qs : List Ref) → AllByRecursion (IsLiveRef i.ids.entries i.nodes.pool) qs
+      → map (shown_row i.nodes.pool) qs ≡ map (row (as_table (seen_of i).plain)) (ids_at i.nodes.pool qs)
+  rows_live [] all = refl
+  rows_live (q ∷ qs) all =
+      let m = i.nodes.pool in let t = as_table (seen_of i).plain in
+      let n = numbered i.schema i.ids.entries m i.nodes.structures.items i.next i.arrivals is x y at in
+      let has = node_of_row i.schema i.ids.entries m i.nodes.structures.items i.next i.arrivals is x y n q all.0 in
+      let one : shown_row m q ≡ row t (id_at m q) =
+      ap row_if has.is ∙ sym (row_at i.schema i.ids.entries m i.nodes.structures.items i.next i.arrivals is q has.value all.0 has has.is) in
+      (λ j. one j ∷ rows_live qs all.1 j)
 
 module _ (i : Inside) (is : AreMulti i) (w : Seen) (seen : seen_of i ≡ w) (x : ℕ) (y : Structure)
     (at : slice_get i.nodes.structures.items x ≡ Some y) (e : ℕ) (r : Ref) (there : live_node i.ids.entries e ≡ Some r) where
@@ -92,14 +102,6 @@ module _ (i : Inside) (is : AreMulti i) (w : Seen) (seen : seen_of i ≡ w) (x :
 
   abbrev pub t : Table
   t = as_table (seen_of i).plain
-
-  rows_same : (qs : List Ref) → AllByRecursion (IsLiveRef i.ids.entries m) qs → map (shown_row m) qs ≡ map (row t) (ids_at m qs)
-  rows_same [] all = refl
-  rows_same (q ∷ qs) all =
-      let has = node_of_row i.schema i.ids.entries m i.nodes.structures.items i.next i.arrivals is x y n q all.0 in
-      let one : shown_row m q ≡ row t (id_at m q) =
-      ap row_if has.is ∙ sym (row_at i.schema i.ids.entries m i.nodes.structures.items i.next i.arrivals is q has.value all.0 has has.is) in
-      (λ j. one j ∷ rows_same qs all.1 j)
 
   -- the ids from one on are those that the index shows
   ids_on : (reversed : Bool) → ids_at m (r ∷ beyond (direction_of reversed) a.xs a.ys) ≡ from_in (turned reversed (view i.schema t x)) e
@@ -122,7 +124,7 @@ module _ (i : Inside) (is : AreMulti i) (w : Seen) (seen : seen_of i ≡ w) (x :
       let us : List Ref = r ∷ beyond (direction_of reversed) a.xs a.ys in
       let live = all_beyond (IsLiveRef i.ids.entries m) reversed a.xs r a.ys (subst (AllByRecursion (IsLiveRef i.ids.entries m)) a.parts n.stood.live.rows) in
       sym (take-map (shown_row m) limit us)
-      ∙ ap (take limit) (rows_same us live ∙ ap (map (row t)) (ids_on reversed))
+      ∙ ap (take limit) (rows_live i is x at us live ∙ ap (map (row t)) (ids_on reversed))
       ∙ take-map (row t) limit (from_in (turned reversed (view i.schema t x)) e)
       ∙ ap (λ (v : Seen). rows_from v.shape (as_table v.plain) x reversed e limit) seen
 
@@ -138,56 +140,78 @@ module _ (i : Inside) (is : AreMulti i) {w : Seen} (seen : seen_of i ≡ w) (x :
   abbrev pub of : Numbered i.schema i.ids.entries i.nodes.pool i.nodes.structures.items x y
   of = numbered i.schema i.ids.entries i.nodes.pool i.nodes.structures.items i.next i.arrivals is x y at
 
-  place_rows : (qs : List Ref) → AllByRecursion (IsLiveRef i.ids.entries i.nodes.pool) qs
-      → map (shown_row i.nodes.pool) qs ≡ map (row (as_table (seen_of i).plain)) (ids_at i.nodes.pool qs)
-  place_rows [] all = refl
-  place_rows (q ∷ qs) all =
-      let m = i.nodes.pool in let t = as_table (seen_of i).plain in
-      let has = node_of_row i.schema i.ids.entries m i.nodes.structures.items i.next i.arrivals is x y of q all.0 in
-      let one : shown_row m q ≡ row t (id_at m q) =
-      ap row_if has.is ∙ sym (row_at i.schema i.ids.entries m i.nodes.structures.items i.next i.arrivals is q has.value all.0 has has.is) in
-      (λ j. one j ∷ place_rows qs all.1 j)
+  -- the rows of the nodes are those that the index shows
+  pub rows_shown : map (shown_row i.nodes.pool) of.stood.rs ≡ map (row (as_table w.plain)) (view w.shape (as_table w.plain) x)
+  rows_shown =
+      rows_live i is x at of.stood.rs of.stood.live.rows
+      ∙ ap (map (row (as_table (seen_of i).plain))) (known.ids_shown i.schema i.ids.entries i.nodes.pool i.nodes.structures.items i.next i.arrivals is x y of)
+      ∙ ap (λ (v : Seen). map (row (as_table v.plain)) (view v.shape (as_table v.plain) x)) seen
 
-  -- the rows of the nodes from a place on are those of the ids that the index shows from there on
-  pub rows_place : (reversed : Bool) (n limit : ℕ) → map (shown_row i.nodes.pool) (take limit (beyond_place (direction_of reversed) n of.stood.rs))
-      ≡ map (row (as_table w.plain)) (ids_past w.shape (as_table w.plain) x reversed n limit)
-  rows_place reversed n limit =
-      let m = i.nodes.pool in let t = as_table (seen_of i).plain in let us = beyond_place (direction_of reversed) n of.stood.rs in
-      let live = all_place (IsLiveRef i.ids.entries m) reversed n of.stood.rs of.stood.live.rows in
-      let shown = known.ids_shown i.schema i.ids.entries m i.nodes.structures.items i.next i.arrivals is x y of in
-      sym (take-map (shown_row m) limit us)
-      ∙ ap (take limit) (place_rows us live ∙ ap (map (row t)) (place_ids (id_at m) reversed n of.stood.rs ∙ ap (beyond_ids reversed n) shown))
-      ∙ take-map (row t) limit (beyond_ids reversed n (view i.schema t x))
-      ∙ ap (λ (v : Seen). map (row (as_table v.plain)) (ids_past v.shape (as_table v.plain) x reversed n limit)) seen
+  pub stands_there : Stands y i.nodes.pool of.stood.rs
+  stands_there = of.stood.stands
 
-  -- as many nodes as the index shows ids
-  pub long_place : length of.stood.rs ≡ length (view w.shape (as_table w.plain) x)
-  long_place =
-      sym (length_ids (id_at i.nodes.pool) of.stood.rs)
-      ∙ ap length (known.ids_shown i.schema i.ids.entries i.nodes.pool i.nodes.structures.items i.next i.arrivals is x y of)
-      ∙ ap (λ (v : Seen). length (view v.shape (as_table v.plain) x)) seen
+  -- the structure goes by the parts of the index
+  pub parts_are : IsSorted w.shape x → parts_in y ≡ (index_at i.schema x).parts
+  parts_are sorted = by y of.stood.for_ (in_order i is seen x at sorted).2
+    where
+      by : (v : Structure) → IsFor (index_at i.schema x) v → nodes.IsSortedStructure v → parts_in v ≡ (index_at i.schema x).parts
+      by (Sorted t) f s = f.1
+      by (Hashed c) f s = absurd s
+      by (Sequenced l) f s = absurd s
 
-  pub stands_place : Stands y i.nodes.pool of.stood.rs
-  stands_place = of.stood.stands
+  -- one look-up, and a comparison for each of k rows
+  pub range_look : (old k : ℕ) {new : ℕ} → ((b : ℕ) → length of.stood.rs < 2 ^ b → new ≤ old + (2 * b + k + 1))
+      → (b : ℕ) → size (as_table w.plain) < 2 ^ b → new ≤ old + (2 * b + 1) + k
+  range_look old k {new} h b l =
+      let few : new ≤ old + (2 * b + k + 1) = h b (subst (λ n. n < 2 ^ b) (sym (long i is seen x at)) l) in omega arith
 
--- all ids, from the first or from the last
-pub all_ids : (reversed : Bool) (n : ℕ) (ids : List ℕ) → (reversed ≡ true → n ≡ length ids) → (reversed ≡ false → n ≡ 0)
-    → beyond_ids reversed n ids ≡ turned reversed ids
-all_ids true n ids e f = ap reverse (take_all n ids (let all : n ≡ length ids = e refl in omega arith))
-all_ids false n ids e f = ap (λ k. drop k ids) (f refl)
+-- the rows of a range of keys are those of the ids between its bounds
 
--- the ids from a bound's place on are those that meet it
-module _ (s : Shape) (t : Table) (x : ℕ) (limit : ℕ) (sorted : IsTrue (is_sorted (index_at s x).kind)) where
-  pub up_past : (low : Lower) (n : ℕ) → rank_from s t x low ≡ n → map (row t) (ids_past s t x false n limit) ≡ map (row t) (ids_up s t x low limit)
-  up_past low n e = ap (map (row t)) (ap (λ k. take limit (drop k (view s t x))) (sym e) ∙ sym (up_is s t x low limit sorted))
+filter_map : (f : ℕ → Row) (g : Row → Bool) (p : ℕ → Bool) → ((id : ℕ) → g (f id) ≡ p id) → (ids : List ℕ) → filter g (map f ids) ≡ map f (filter p ids)
+filter_map f g p same [] = refl
+filter_map f g p same (id ∷ ids) =
+    ap (λ b. cond b (f id ∷ filter g (map f ids)) (filter g (map f ids))) (same id) ∙ ap (λ rows. cond (p id) (f id ∷ rows) rows) (filter_map f g p same ids)
+    ∙ by (p id)
+  where
+    by : (b : Bool) → cond b (f id ∷ map f (filter p ids)) (map f (filter p ids)) ≡ map f (cond b (id ∷ filter p ids) (filter p ids))
+    by true = refl
+    by false = refl
 
-  pub down_past : (high : Upper) (n : ℕ) → rank_to s t x high ≡ n → map (row t) (ids_past s t x true n limit) ≡ map (row t) (ids_down s t x high limit)
-  down_past high n e = ap (map (row t)) (ap (λ k. take limit (reverse (take k (view s t x)))) (sym e) ∙ sym (down_is s t x high limit sorted))
+module _ (s : Shape) (t : Table) (x : ℕ) (g : KeyRange) (parts : (index_at s x).parts ≡ g.parts.now) where
+  from_same : (low : Lower) (id : ℕ) → meets_lower g.parts.now low (row t id) ≡ page.meets_lower (index_at s x) t low id
+  from_same lower.All id = refl
+  from_same (lower.From key) id = ap (λ ps. is_le (compare_to_row ps key (row t id))) (sym parts)
+  from_same (lower.Beyond key) id = ap (λ ps. is_lt (compare_to_row ps key (row t id))) (sym parts)
 
-  pub up_all : (low : Lower) → low ≡ lower.All → map (row t) (take limit (view s t x)) ≡ map (row t) (ids_up s t x low limit)
-  up_all low e = up_past low 0 (ap (rank_from s t x) e ∙ from_all s t x)
+  to_same : (high : Upper) (id : ℕ) → meets_upper g.parts.now high (row t id) ≡ page.meets_upper (index_at s x) t high id
+  to_same upper.All id = refl
+  to_same (upper.UpTo key) id = ap (λ ps. is_ge (compare_to_row ps key (row t id))) (sym parts)
+  to_same (upper.Below key) id = ap (λ ps. is_gt (compare_to_row ps key (row t id))) (sym parts)
 
-  pub down_all : (high : Upper) → high ≡ upper.All → map (row t) (take limit (reverse (view s t x))) ≡ map (row t) (ids_down s t x high limit)
-  down_all high e =
-      ap (λ ids. map (row t) (take limit (reverse ids))) (sym (take_all (length (view s t x)) (view s t x) (omega arith)))
-      ∙ down_past high (length (view s t x)) (ap (rank_to s t x) e ∙ to_all s t x)
+  pub range_rows : (reversed : Bool) (limit : ℕ) → g.direction ≡ direction_of reversed
+      → take limit (rows_in g (map (row t) (view s t x))) ≡ map (row t) (page.range s t x g.lower.now g.upper.now reversed limit).ids
+  range_rows reversed limit way =
+      let ids = page.between s t x g.lower.now g.upper.now in
+      ap (take limit)
+      (ap (λ d. directed d (filter (λ r. is_from g r && is_to g r) (map (row t) (view s t x)))) way
+      ∙ ap (directed (direction_of reversed))
+      (filter_map (row t) (λ r. is_from g r && is_to g r)
+      (λ id. page.meets_lower (index_at s x) t g.lower.now id && page.meets_upper (index_at s x) t g.upper.now id)
+      (λ id i. from_same g.lower.now id i && to_same g.upper.now id i) (view s t x))
+      ∙ towards reversed)
+      ∙ take-map (row t) limit (turned reversed ids)
+    where
+      towards : (r : Bool) → directed (direction_of r) (map (row t) (page.between s t x g.lower.now g.upper.now))
+          ≡ map (row t) (turned r (page.between s t x g.lower.now g.upper.now))
+      towards true = sym (map_reverse (row t) (page.between s t x g.lower.now g.upper.now))
+      towards false = refl
+
+  -- as many
+  pub range_long : (reversed : Bool) (limit : ℕ) → g.direction ≡ direction_of reversed → (rows : List Row) → rows ≡ map (row t) (view s t x)
+      → length (take limit (rows_in g rows)) ≡ length (page.range s t x g.lower.now g.upper.now reversed limit).ids
+  range_long reversed limit way rows same =
+      ap length (ap (λ k. take limit (rows_in g k)) same ∙ range_rows reversed limit way) ∙ length_rows (page.range s t x g.lower.now g.upper.now reversed limit).ids
+    where
+      length_rows : (ids : List ℕ) → length (map (row t) ids) ≡ length ids
+      length_rows [] = refl
+      length_rows (id ∷ ids) = ap suc (length_rows ids)

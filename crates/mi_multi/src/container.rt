@@ -121,26 +121,17 @@ impl Container for MultiIndex {
         self.walk(alloc, index, reverse, first, limit)
     }
 
-    fn walk_up(
+    fn walk_range(
         &self,
         alloc: Global,
         index: usize,
         lower: &Lower,
-        limit: usize,
-        steps: &mut Steps,
-    ) -> Result<Vec<(u64, &Record)>, AllocError> {
-        self.walk_up(alloc, index, lower, limit, steps)
-    }
-
-    fn walk_down(
-        &self,
-        alloc: Global,
-        index: usize,
         upper: &Upper,
+        reverse: bool,
         limit: usize,
         steps: &mut Steps,
     ) -> Result<Vec<(u64, &Record)>, AllocError> {
-        self.walk_down(alloc, index, upper, limit, steps)
+        self.walk_range(alloc, index, lower, upper, reverse, limit, steps)
     }
 
     fn lower(&self, index: usize, key: &[Value], steps: &mut Steps) -> Option<u64> {

@@ -1,14 +1,20 @@
 -- Which ids of a list stand before a place in what an index shows.
-use Rattle.std.specs.Prelude.{ℕ, Bool, true, false, not, IsTrue, if◌then◌else◌, List, length}
+use Rattle.std.specs.Prelude.{ℕ, Bool, true, false, not, IsTrue, if◌then◌else◌, List, length, reverse}
 use Rattle.std.specs.declared.option.Option.{Option}
 use Rattle.std.specs.Ordering.{is_lt, is_gt, is_ge, nat_cmp, on, ordering_then, then_cmp}
 use Rattle.std.specs.declared.cmp.Ordering.{Ordering}
 use Rattle.std.specs.declared.cmp.Ordering.TheVariants.{Equal}
 use Rattle.mi_value.specs.declared.value.Value.{Value}
+use Rattle.mi_value.specs.declared.bound.Lower.{Lower as LowerBound}
+use Rattle.mi_value.specs.declared.bound.Lower.TheVariants as lower
+use Rattle.mi_value.specs.declared.bound.Upper.{Upper as UpperBound}
+use Rattle.mi_value.specs.declared.bound.Upper.TheVariants as upper
 use Rattle.mi_catalog.specs.declared.index.Index.{Index}
 use Rattle.mi_catalog.specs.declared.index.IndexKind.{IndexKind}
 use Rattle.mi_catalog.specs.Kinds.{is_sorted}
 use Rattle.mi_model.specs.Table.{Table, has}
+use Rattle.mi_catalog.specs.Shape.{Shape}
+use Rattle.mi_model.specs.Page.{between}
 use Rattle.mi_model.specs.View.{compare_ids, compare_to_id}
 use Rattle.mi_model.specs.LookUp.{rank_in, before_place}
 use Rattle.mi_plain.specs.declared.pass.Boundary.{Boundary}
@@ -43,3 +49,8 @@ StandsIn t boundary = Unit {0}
 -- the last of a list
 abbrev pub last_id : List ℕ → Option ℕ
 last_id ids = before_place ids (length ids)
+
+-- what an index shows from where a range begins, wherever it ends
+abbrev pub begun : Shape → Table → ℕ → LowerBound → UpperBound → Bool → List ℕ
+begun s t x low high true = reverse (between s t x lower.All high)
+begun s t x low high false = between s t x low upper.All

@@ -218,32 +218,20 @@ impl Sessions for Plain {
         rows.walk(alloc, schema, index, reverse, first, limit)
     }
 
-    fn walk_up(
+    fn walk_range(
         &self,
         alloc: Global,
         table: usize,
         index: usize,
         lower: &Lower,
-        limit: usize,
-        steps: &mut Steps,
-    ) -> Result<Vec<(u64, &Record)>, Refusal> {
-        let _ = steps;
-        let (schema, rows) = self.at(table);
-        rows.walk_up(alloc, schema, index, lower, limit)
-    }
-
-    fn walk_down(
-        &self,
-        alloc: Global,
-        table: usize,
-        index: usize,
         upper: &Upper,
+        reverse: bool,
         limit: usize,
         steps: &mut Steps,
     ) -> Result<Vec<(u64, &Record)>, Refusal> {
         let _ = steps;
         let (schema, rows) = self.at(table);
-        rows.walk_down(alloc, schema, index, upper, limit)
+        rows.walk_range(alloc, schema, index, lower, upper, reverse, limit)
     }
 
     fn lower(&self, table: usize, index: usize, key: &[Value], steps: &mut Steps) -> Option<u64> {

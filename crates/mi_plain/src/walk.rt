@@ -6,17 +6,19 @@ use mi_value::{Lower, Record, Refusal, Upper};
 use std::alloc::Global;
 
 impl PlainTable {
-    ghost use Rattle.std.specs.Prelude.{◌≡◌, ◌+◌, ℕ, Some, true, map, IsTrue, IfOk, IfErr, IfSome, slice_get};
+    ghost use Rattle.std.specs.Prelude.{◌≡◌, ◌+◌, ℕ, not, Some, true, map, IsTrue, IfOk, IfErr, IfSome, slice_get, if◌then◌else◌};
+    ghost use Rattle.std.specs.List.{count_by};
     ghost use Rattle.mi_value.specs.declared.refusal.Refusal.TheVariants.{Memory};
     ghost use Rattle.mi_catalog.specs.Shape.{index_at};
     ghost use Rattle.mi_catalog.specs.Kinds.{is_sorted, shows_one_list};
     ghost use Rattle.mi_value.specs.declared.bound.Lower.TheVariants as Lower;
     ghost use Rattle.mi_value.specs.declared.bound.Upper.TheVariants as Upper;
     ghost use Rattle.mi_model.specs.LookUp.{before_place};
-    ghost use Rattle.mi_model.specs.Page.{between, ids_up, ids_down};
+    ghost use Rattle.mi_model.specs.Page.{meets_lower, meets_upper, between, range as range_of};
     ghost use Rattle.mi_model.specs.Table.{has as has_row, row as row_of, IsTable};
     ghost use Rattle.mi_model.specs.View.{view};
     ghost use Rattle.mi_model.specs.Walk.{turned, rows_from};
+    ghost use Rattle.mi_plain.specs.Boundary.{begun};
 
     /// The id that index x shows directly after another, or in the reverse of its order directly before it.
     fn following(&self, schema: &Schema, x: usize, reverse: bool, id: u64) -> Option<u64>
@@ -106,43 +108,76 @@ impl PlainTable {
         }
     }
 
-    /// The rows that sorted index x shows from a lower bound up, at most `limit` of them. Refusal: `Memory`.
-    pub(crate) fn walk_up(
+    /// How many ids of sorted index x don't meet a lower bound.
+    fn rank_from(&self, schema: &Schema, x: usize, lower: &Lower) -> u64
+        requires is { IsTable schema.now self.now }
+        requires kind { IsTrue (is_sorted (index_at schema.now x).kind) }
+        ensures { result ≡ count_by (λ id. not (meets_lower (index_at schema.now x) self.now lower.now id)) (view schema.now self.now x) }
+    {
+        match lower {
+            Lower::All => 0,
+            Lower::From(key) => self.lower_rank(schema, x, key.values()),
+            Lower::Beyond(key) => self.upper_rank(schema, x, key.values()),
+        }
+    }
+
+    /// How many meet an upper bound.
+    fn rank_to(&self, schema: &Schema, x: usize, upper: &Upper) -> u64
+        requires is { IsTable schema.now self.now }
+        requires kind { IsTrue (is_sorted (index_at schema.now x).kind) }
+        ensures { result ≡ count_by (meets_upper (index_at schema.now x) self.now upper.now) (view schema.now self.now x) }
+    {
+        match upper {
+            Upper::All => self.size(),
+            Upper::UpTo(key) => self.upper_rank(schema, x, key.values()),
+            Upper::Below(key) => self.lower_rank(schema, x, key.values()),
+        }
+    }
+
+    /// The id at which a range begins, wherever it ends.
+    fn begin(
+        &self,
+        schema: &Schema,
+        x: usize,
+        lower: &Lower,
+        upper: &Upper,
+        reverse: bool,
+    ) -> Option<u64>
+        requires is { IsTable schema.now self.now }
+        requires kind { IsTrue (is_sorted (index_at schema.now x).kind) }
+        ensures { result ≡ slice_get (begun schema.now self.now x lower.now upper.now reverse) 0 }
+    {
+        if reverse {
+            self.last_to(schema, x, upper)
+        } else {
+            self.first_from(schema, x, lower)
+        }
+    }
+
+    /// The first rows of those that sorted index x shows between two bounds, in its order or in the reverse of it, at most `limit` of
+    /// them: as many as stand between the ranks of the bounds. Refusal: `Memory`.
+    pub(crate) fn walk_range(
         &self,
         alloc: Global,
         schema: &Schema,
         x: usize,
         lower: &Lower,
-        limit: usize,
-    ) -> Result<Vec<(u64, &Record)>, Refusal>
-        requires is { IsTable schema.now self.now }
-        requires kind { IsTrue (is_sorted (index_at schema.now x).kind) }
-        ensures rows { IfOk result (λ rows. map (λ r. (r.0, r.1.now)) rows.items ≡ map (row_of self.now) (ids_up schema.now self.now x lower.now limit)) }
-        ensures err { IfErr result (λ e. e ≡ Memory) }
-    {
-        let Some(first) = self.first_from(schema, x, lower) else {
-            return Ok(Vec::new(alloc));
-        };
-        self.walk(alloc, schema, x, false, first, limit)
-    }
-
-    /// The rows that sorted index x shows from an upper bound down, at most `limit` of them. Refusal: `Memory`.
-    pub(crate) fn walk_down(
-        &self,
-        alloc: Global,
-        schema: &Schema,
-        x: usize,
         upper: &Upper,
+        reverse: bool,
         limit: usize,
     ) -> Result<Vec<(u64, &Record)>, Refusal>
         requires is { IsTable schema.now self.now }
         requires kind { IsTrue (is_sorted (index_at schema.now x).kind) }
-        ensures rows { IfOk result (λ rows. map (λ r. (r.0, r.1.now)) rows.items ≡ map (row_of self.now) (ids_down schema.now self.now x upper.now limit)) }
+        ensures rows { IfOk result (λ rows. map (λ r. (r.0, r.1.now)) rows.items ≡
+            map (row_of self.now) (range_of schema.now self.now x lower.now upper.now reverse limit).ids) }
         ensures err { IfErr result (λ e. e ≡ Memory) }
     {
-        let Some(last) = self.last_to(schema, x, upper) else {
+        let from = self.rank_from(schema, x, lower);
+        let to = self.rank_to(schema, x, upper);
+        let count = limit.min(to.saturating_sub(from) as usize);
+        let Some(first) = self.begin(schema, x, lower, upper, reverse) else {
             return Ok(Vec::new(alloc));
         };
-        self.walk(alloc, schema, x, true, last, limit)
+        self.walk(alloc, schema, x, reverse, first, count)
     }
 }

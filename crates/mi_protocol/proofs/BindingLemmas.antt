@@ -36,15 +36,18 @@ use Rattle.mi_request.specs.Json.{has_only, option_map₂}
 use Rattle.mi_protocol.specs.Keys.{plain_values, if_key, bound_key, bound_lower, bound_upper}
 use Rattle.mi_catalog.specs.Kinds.{has_keys, is_sequenced, is_sorted, is_ranked, is_hashed}
 use Rattle.mi_protocol.specs.Values.{short_text, fitting, values_of, bound_row}
-use Rattle.mi_protocol.specs.Binding.{and_then, table_number, of_kind, index_number, bound_place, named_key, bound_ends, bound_change, bound_look_up}
-use Rattle.mi_protocol.specs.Binding.{of_table, bound_over, bound_command, FitsChange, FitsTableLookUp, FitsCatalog}
+use Rattle.mi_protocol.specs.Binding.{and_then, table_number, of_kind, index_number, bound_place, named_key, bound_ends, bound_change}
+use Rattle.mi_protocol.specs.Binding.{bound_number_look_up, bound_key_look_up}
+use Rattle.mi_protocol.specs.Binding.{of_table, bound_over, bound_command, FitsChange, FitsNumberLookUp, FitsKeyLookUp, FitsCatalog}
 use Rattle.mi_request.specs.declared.request.ChangeRequest.{ChangeRequest}
 use Rattle.mi_request.specs.declared.request.ChangeRequest.TheVariants as change_request
 use Rattle.mi_request.specs.declared.request.End.{End}
 use Rattle.mi_request.specs.declared.request.End.TheVariants.{Open, With, Without}
-use Rattle.mi_request.specs.declared.request.LookUpRequest.{LookUpRequest}
-use Rattle.mi_request.specs.declared.request.LookUpRequest.TheVariants as look_up_request
+use Rattle.mi_request.specs.declared.request.KeyLookUpRequest.{KeyLookUpRequest}
+use Rattle.mi_request.specs.declared.request.KeyLookUpRequest.TheVariants as key_request
 use Rattle.mi_request.specs.declared.request.NamedPlace.{NamedPlace}
+use Rattle.mi_request.specs.declared.request.NumberLookUpRequest.{NumberLookUpRequest}
+use Rattle.mi_request.specs.declared.request.NumberLookUpRequest.TheVariants as number_request
 use Rattle.mi_request.specs.declared.request.Request.{Request}
 use Rattle.mi_request.specs.declared.request.Request.TheVariants as request
 use Rattle.mi_protocol.specs.declared.command.Command.{Command}
@@ -346,26 +349,28 @@ module _ (c : CatalogShape) (n : ℕ) where
   change-fits (change_request.Relocate index id before) =
       by_index (FitsChange c n) s is_sequenced index _ (λ x at. sequenced (index_at s x).kind at.1)
 
-  look_up-fits : (r : LookUpRequest) → Holds (bound_look_up s r) (FitsTableLookUp c n)
-  look_up-fits (look_up_request.Get id) = tt
-  look_up-fits (look_up_request.Find index key) =
-      by_key (FitsTableLookUp c n) s has_keys is_hashed index key _ (λ k fits. (fits.0, fits.1))
-  look_up-fits (look_up_request.Nth index k) =
-      by_index (FitsTableLookUp c n) s is_ranked index _ (λ x at. ranked (index_at s x).kind at.1)
-  look_up-fits (look_up_request.Count index key) =
-      by_key (FitsTableLookUp c n) s has_keys is_hashed index key _ (λ k fits. (fits.0, fits.1))
-  look_up-fits (look_up_request.Range index lower upper reverse limit) =
-      by_index (FitsTableLookUp c n) s is_sorted index _
-      (λ x at. then (AreBoundsOf s x) (FitsTableLookUp c n) _ (bound_ends s x lower upper) (ends-fit s x lower upper) (λ e fit. (at.1, fit.0, fit.1)))
-  look_up-fits (look_up_request.List index after limit) =
-      by_index (FitsTableLookUp c n) s is_sequenced index _ (λ x at. sequenced (index_at s x).kind at.1)
-  look_up-fits (look_up_request.Rank index id) =
-      by_index (FitsTableLookUp c n) s is_ranked index _ (λ x at. ranked (index_at s x).kind at.1)
-  look_up-fits (look_up_request.LowerRank index key) =
-      by_key (FitsTableLookUp c n) s is_ranked (λ kind. false) index key _ (λ k fits. (ranked (index_at s k.0).kind fits.0.1, fits.1))
-  look_up-fits (look_up_request.UpperRank index key) =
-      by_key (FitsTableLookUp c n) s is_ranked (λ kind. false) index key _ (λ k fits. (ranked (index_at s k.0).kind fits.0.1, fits.1))
-  look_up-fits look_up_request.Size = tt
+  number_look_up-fits : (r : NumberLookUpRequest) → Holds (bound_number_look_up s r) (FitsNumberLookUp c n)
+  number_look_up-fits (number_request.Get id) = tt
+  number_look_up-fits (number_request.Nth index k) =
+      by_index (FitsNumberLookUp c n) s is_ranked index _ (λ x at. ranked (index_at s x).kind at.1)
+  number_look_up-fits (number_request.List index after limit) =
+      by_index (FitsNumberLookUp c n) s is_sequenced index _ (λ x at. sequenced (index_at s x).kind at.1)
+  number_look_up-fits (number_request.Rank index id) =
+      by_index (FitsNumberLookUp c n) s is_ranked index _ (λ x at. ranked (index_at s x).kind at.1)
+  number_look_up-fits number_request.Size = tt
+
+  key_look_up-fits : (r : KeyLookUpRequest) → Holds (bound_key_look_up s r) (FitsKeyLookUp c n)
+  key_look_up-fits (key_request.Find index key) =
+      by_key (FitsKeyLookUp c n) s has_keys is_hashed index key _ (λ k fits. (fits.0, fits.1))
+  key_look_up-fits (key_request.Count index key) =
+      by_key (FitsKeyLookUp c n) s has_keys is_hashed index key _ (λ k fits. (fits.0, fits.1))
+  key_look_up-fits (key_request.Range index lower upper reverse limit) =
+      by_index (FitsKeyLookUp c n) s is_sorted index _
+      (λ x at. then (AreBoundsOf s x) (FitsKeyLookUp c n) _ (bound_ends s x lower upper) (ends-fit s x lower upper) (λ e fit. (at.1, fit.0, fit.1)))
+  key_look_up-fits (key_request.LowerRank index key) =
+      by_key (FitsKeyLookUp c n) s is_ranked (λ kind. false) index key _ (λ k fits. (ranked (index_at s k.0).kind fits.0.1, fits.1))
+  key_look_up-fits (key_request.UpperRank index key) =
+      by_key (FitsKeyLookUp c n) s is_ranked (λ kind. false) index key _ (λ k fits. (ranked (index_at s k.0).kind fits.0.1, fits.1))
 
 -- ---- commands
 
@@ -379,9 +384,17 @@ over-fits P make bound c table h fits made =
 bound-fits : (c : CatalogShape) (r : Request) → is_catalog c ≡ true → Holds (bound_command c r) (FitsCatalog c)
 bound-fits c (request.Change table r) h =
     over-fits (FitsChange c) command.Change (λ s. bound_change s r) c table h (λ n. change-fits c n r) (λ n x there fit. (there, fit))
-bound-fits c (request.LookUp table r) h =
-    over-fits (FitsTableLookUp c) command.LookUp (λ s. bound_look_up s r) c table h (λ n. look_up-fits c n r) (λ n x there fit. (there, fit))
+bound-fits c (request.NumberLookUp table r) h =
+    over-fits (FitsNumberLookUp c) command.NumberLookUp (λ s. bound_number_look_up s r) c table h (λ n. number_look_up-fits c n r) (λ n x there fit. (there, fit))
+bound-fits c (request.KeyLookUp table r) h =
+    over-fits (FitsKeyLookUp c) command.KeyLookUp (λ s. bound_key_look_up s r) c table h (λ n. key_look_up-fits c n r) (λ n x there fit. (there, fit))
 bound-fits c (request.Session s) h = tt
+
+-- what is answered without memory
+pub without : {A : Type 0} (r defined : Result A Refusal) → r ≡ defined → IsAnswer r defined
+without (Ok v) defined is = sym is
+without (Err Memory) defined is = tt
+without (Err e) defined is = sym is
 
 -- the answer of the code
 pub bound-fits-catalog : {A : Type 0} (make : ℕ → A → Command) (c : CatalogShape) (request : Request) (r : Result (ℕ × A) Refusal)

@@ -6,7 +6,7 @@ use Rattle.mi_catalog.specs.Shape.{schema_at}
 use Rattle.mi_request.specs.declared.request.Request.TheVariants as request
 use Rattle.mi_protocol.specs.declared.command.Command.{Command}
 use Rattle.mi_protocol.specs.declared.command.Command.TheVariants as command
-use Rattle.mi_protocol.specs.Binding.{and_then, bound_change, bound_look_up}
+use Rattle.mi_protocol.specs.Binding.{and_then, bound_change, bound_number_look_up, bound_key_look_up}
 use Rattle.mi_protocol.specs.FirstTable.{IsOverFirst, NoNameIsTheFirst, OtherTablesAreNotSeen}
 
 -- what is made of what is bound over the first table is over it
@@ -17,13 +17,17 @@ over_first make (Err e) h = tt
 pub no_name_is_the_first : NoNameIsTheFirst
 no_name_is_the_first c (request.Change (Some name) r) none = absurd (cc)
 no_name_is_the_first c (request.Change None r) none = over_first (command.Change 0) (bound_change (schema_at c 0) r) (λ x. refl)
-no_name_is_the_first c (request.LookUp (Some name) r) none = absurd (cc)
-no_name_is_the_first c (request.LookUp None r) none = over_first (command.LookUp 0) (bound_look_up (schema_at c 0) r) (λ x. refl)
+no_name_is_the_first c (request.NumberLookUp (Some name) r) none = absurd (cc)
+no_name_is_the_first c (request.NumberLookUp None r) none = over_first (command.NumberLookUp 0) (bound_number_look_up (schema_at c 0) r) (λ x. refl)
+no_name_is_the_first c (request.KeyLookUp (Some name) r) none = absurd (cc)
+no_name_is_the_first c (request.KeyLookUp None r) none = over_first (command.KeyLookUp 0) (bound_key_look_up (schema_at c 0) r) (λ x. refl)
 no_name_is_the_first c (request.Session s) none = tt
 
 pub other_tables_are_not_seen : OtherTablesAreNotSeen
 other_tables_are_not_seen c (request.Change (Some name) r) none = absurd (cc)
 other_tables_are_not_seen c (request.Change None r) none = refl
-other_tables_are_not_seen c (request.LookUp (Some name) r) none = absurd (cc)
-other_tables_are_not_seen c (request.LookUp None r) none = refl
+other_tables_are_not_seen c (request.NumberLookUp (Some name) r) none = absurd (cc)
+other_tables_are_not_seen c (request.NumberLookUp None r) none = refl
+other_tables_are_not_seen c (request.KeyLookUp (Some name) r) none = absurd (cc)
+other_tables_are_not_seen c (request.KeyLookUp None r) none = refl
 other_tables_are_not_seen c (request.Session s) none = refl

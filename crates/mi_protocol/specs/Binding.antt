@@ -18,17 +18,21 @@ use Rattle.mi_protocol.specs.Values.{bound_row}
 use Rattle.mi_request.specs.declared.request.ChangeRequest.{ChangeRequest}
 use Rattle.mi_request.specs.declared.request.ChangeRequest.TheVariants as change_request
 use Rattle.mi_request.specs.declared.request.End.{End}
-use Rattle.mi_request.specs.declared.request.LookUpRequest.{LookUpRequest}
-use Rattle.mi_request.specs.declared.request.LookUpRequest.TheVariants as look_up_request
+use Rattle.mi_request.specs.declared.request.KeyLookUpRequest.{KeyLookUpRequest}
+use Rattle.mi_request.specs.declared.request.KeyLookUpRequest.TheVariants as key_request
 use Rattle.mi_request.specs.declared.request.NamedPlace.{NamedPlace}
+use Rattle.mi_request.specs.declared.request.NumberLookUpRequest.{NumberLookUpRequest}
+use Rattle.mi_request.specs.declared.request.NumberLookUpRequest.TheVariants as number_request
 use Rattle.mi_request.specs.declared.request.Request.{Request}
 use Rattle.mi_request.specs.declared.request.Request.TheVariants as request
-use Rattle.mi_protocol.specs.declared.command.Change.{Change}
-use Rattle.mi_protocol.specs.declared.command.Change.TheVariants as change
+use Rattle.mi_protocol.specs.declared.changes.Change.{Change}
+use Rattle.mi_protocol.specs.declared.changes.Change.TheVariants as change
 use Rattle.mi_protocol.specs.declared.command.Command.{Command}
 use Rattle.mi_protocol.specs.declared.command.Command.TheVariants as command
-use Rattle.mi_protocol.specs.declared.command.LookUp.{LookUp}
-use Rattle.mi_protocol.specs.declared.command.LookUp.TheVariants as look_up
+use Rattle.mi_protocol.specs.declared.look_ups.KeyLookUp.{KeyLookUp}
+use Rattle.mi_protocol.specs.declared.look_ups.KeyLookUp.TheVariants as by_key
+use Rattle.mi_protocol.specs.declared.look_ups.NumberLookUp.{NumberLookUp}
+use Rattle.mi_protocol.specs.declared.look_ups.NumberLookUp.TheVariants as by_number
 
 -- what follows from a value, or the refusal in its place
 abbrev pub and_then : {A B : Type 0} → (A → Result B Refusal) → Result A Refusal → Result B Refusal
@@ -87,19 +91,23 @@ bound_change s (change_request.Erase id) = Ok (change.Erase id)
 bound_change s (change_request.EraseKey index key) = and_then (λ k. Ok (change.EraseKey k.0 k.1)) (whole_key s index key)
 bound_change s (change_request.Relocate index id before) = and_then (λ x. Ok (change.Relocate x id before)) (index_number is_sequenced s index)
 
--- a look-up of a table of this schema
-abbrev pub bound_look_up : Shape → LookUpRequest → Result LookUp Refusal
-bound_look_up s (look_up_request.Get id) = Ok (look_up.Get id)
-bound_look_up s (look_up_request.Find index key) = and_then (λ k. Ok (look_up.Find k.0 k.1)) (key_or_prefix s index key)
-bound_look_up s (look_up_request.Nth index n) = and_then (λ x. Ok (look_up.Nth x n)) (index_number is_ranked s index)
-bound_look_up s (look_up_request.Count index key) = and_then (λ k. Ok (look_up.Count k.0 k.1)) (key_or_prefix s index key)
-bound_look_up s (look_up_request.Range index lower upper reverse limit) =
-    and_then (λ x. and_then (λ e. Ok (look_up.Range x e.0 e.1 reverse limit)) (bound_ends s x lower upper)) (index_number is_sorted s index)
-bound_look_up s (look_up_request.List index after limit) = and_then (λ x. Ok (look_up.List x after limit)) (index_number is_sequenced s index)
-bound_look_up s (look_up_request.Rank index id) = and_then (λ x. Ok (look_up.Rank x id)) (index_number is_ranked s index)
-bound_look_up s (look_up_request.LowerRank index key) = and_then (λ k. Ok (look_up.LowerRank k.0 k.1)) (ranked_key s index key)
-bound_look_up s (look_up_request.UpperRank index key) = and_then (λ k. Ok (look_up.UpperRank k.0 k.1)) (ranked_key s index key)
-bound_look_up s look_up_request.Size = Ok look_up.Size
+-- a look-up by numbers of a table of this schema
+abbrev pub bound_number_look_up : Shape → NumberLookUpRequest → Result NumberLookUp Refusal
+bound_number_look_up s (number_request.Get id) = Ok (by_number.Get id)
+bound_number_look_up s (number_request.Nth index n) = and_then (λ x. Ok (by_number.Nth x n)) (index_number is_ranked s index)
+bound_number_look_up s (number_request.List index after limit) =
+    and_then (λ x. Ok (by_number.List x after limit)) (index_number is_sequenced s index)
+bound_number_look_up s (number_request.Rank index id) = and_then (λ x. Ok (by_number.Rank x id)) (index_number is_ranked s index)
+bound_number_look_up s number_request.Size = Ok by_number.Size
+
+-- a look-up by keys
+abbrev pub bound_key_look_up : Shape → KeyLookUpRequest → Result KeyLookUp Refusal
+bound_key_look_up s (key_request.Find index key) = and_then (λ k. Ok (by_key.Find k.0 k.1)) (key_or_prefix s index key)
+bound_key_look_up s (key_request.Count index key) = and_then (λ k. Ok (by_key.Count k.0 k.1)) (key_or_prefix s index key)
+bound_key_look_up s (key_request.Range index lower upper reverse limit) =
+    and_then (λ x. and_then (λ e. Ok (by_key.Range x e.0 e.1 reverse limit)) (bound_ends s x lower upper)) (index_number is_sorted s index)
+bound_key_look_up s (key_request.LowerRank index key) = and_then (λ k. Ok (by_key.LowerRank k.0 k.1)) (ranked_key s index key)
+bound_key_look_up s (key_request.UpperRank index key) = and_then (λ k. Ok (by_key.UpperRank k.0 k.1)) (ranked_key s index key)
 
 -- a change or a look-up of the table of a number
 abbrev pub of_table : {A : Type 0} → (ℕ → A → Command) → Result (ℕ × A) Refusal → Result Command Refusal
@@ -112,18 +120,15 @@ bound_over make bound c table = and_then (λ n. and_then (λ x. Ok (make n x)) (
 -- the command that a request is: refused as `table`, `index`, `kind`, `row`, `key` in this order
 abbrev pub bound_command : CatalogShape → Request → Result Command Refusal
 bound_command c (request.Change table r) = bound_over command.Change (λ s. bound_change s r) c table
-bound_command c (request.LookUp table r) = bound_over command.LookUp (λ s. bound_look_up s r) c table
+bound_command c (request.NumberLookUp table r) = bound_over command.NumberLookUp (λ s. bound_number_look_up s r) c table
+bound_command c (request.KeyLookUp table r) = bound_over command.KeyLookUp (λ s. bound_key_look_up s r) c table
 bound_command c (request.Session s) = Ok (command.Session s)
 
--- a request that is bound without memory: one over sessions, a size or a rank. A row, edits and a key are made in memory that is asked for
-abbrev pub look_up_binds_without : LookUpRequest → Bool
-look_up_binds_without (look_up_request.Rank index id) = true
-look_up_binds_without look_up_request.Size = true
-look_up_binds_without other = false
-
+-- a request that is bound without memory. A row, edits and a key are made in memory that is asked for
 abbrev pub binds_without : Request → Bool
 binds_without (request.Change table r) = false
-binds_without (request.LookUp table r) = look_up_binds_without r
+binds_without (request.NumberLookUp table r) = true
+binds_without (request.KeyLookUp table r) = false
 binds_without (request.Session s) = true
 
 -- records, edits, keys and indexes are as the schema of table n wants them
@@ -135,26 +140,30 @@ FitsChange c n (change.Erase id) = Unit {0}
 FitsChange c n (change.EraseKey x key) = IsKeyedIndex c n x × FitsWhole c n x key
 FitsChange c n (change.Relocate x id before) = IsSequencedIndex c n x
 
-abbrev pub FitsTableLookUp : CatalogShape → ℕ → LookUp → Type 0
-FitsTableLookUp c n (look_up.Get id) = Unit {0}
-FitsTableLookUp c n (look_up.Find x key) = IsKeyedIndex c n x × FitsLookUp c n x key
-FitsTableLookUp c n (look_up.Nth x k) = IsRankedIndex c n x
-FitsTableLookUp c n (look_up.Count x key) = IsKeyedIndex c n x × FitsLookUp c n x key
-FitsTableLookUp c n (look_up.Range x low high reverse limit) = IsSortedIndex c n x × FitsLower c n x low × FitsUpper c n x high
-FitsTableLookUp c n (look_up.List x after limit) = IsSequencedIndex c n x
-FitsTableLookUp c n (look_up.Rank x id) = IsRankedIndex c n x
-FitsTableLookUp c n (look_up.LowerRank x key) = IsRankedIndex c n x × FitsPrefix c n x key
-FitsTableLookUp c n (look_up.UpperRank x key) = IsRankedIndex c n x × FitsPrefix c n x key
-FitsTableLookUp c n look_up.Size = Unit {0}
+abbrev pub FitsNumberLookUp : CatalogShape → ℕ → NumberLookUp → Type 0
+FitsNumberLookUp c n (by_number.Get id) = Unit {0}
+FitsNumberLookUp c n (by_number.Nth x k) = IsRankedIndex c n x
+FitsNumberLookUp c n (by_number.List x after limit) = IsSequencedIndex c n x
+FitsNumberLookUp c n (by_number.Rank x id) = IsRankedIndex c n x
+FitsNumberLookUp c n by_number.Size = Unit {0}
+
+abbrev pub FitsKeyLookUp : CatalogShape → ℕ → KeyLookUp → Type 0
+FitsKeyLookUp c n (by_key.Find x key) = IsKeyedIndex c n x × FitsLookUp c n x key
+FitsKeyLookUp c n (by_key.Count x key) = IsKeyedIndex c n x × FitsLookUp c n x key
+FitsKeyLookUp c n (by_key.Range x low high reverse limit) = IsSortedIndex c n x × FitsLower c n x low × FitsUpper c n x high
+FitsKeyLookUp c n (by_key.LowerRank x key) = IsRankedIndex c n x × FitsPrefix c n x key
+FitsKeyLookUp c n (by_key.UpperRank x key) = IsRankedIndex c n x × FitsPrefix c n x key
 
 -- the table is there, and what is over it fits its schema; what is over sessions fits each catalog
 abbrev pub FitsCatalog : CatalogShape → Command → Type 0
 FitsCatalog c (command.Change n x) = HasTable c n × FitsChange c n x
-FitsCatalog c (command.LookUp n x) = HasTable c n × FitsTableLookUp c n x
+FitsCatalog c (command.NumberLookUp n x) = HasTable c n × FitsNumberLookUp c n x
+FitsCatalog c (command.KeyLookUp n x) = HasTable c n × FitsKeyLookUp c n x
 FitsCatalog c (command.Session s) = Unit {0}
 
 -- the table that a command is over; one over sessions has none
 abbrev pub over_table : Command → Option ℕ
 over_table (command.Change n x) = Some n
-over_table (command.LookUp n x) = Some n
+over_table (command.NumberLookUp n x) = Some n
+over_table (command.KeyLookUp n x) = Some n
 over_table (command.Session s) = None

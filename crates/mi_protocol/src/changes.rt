@@ -1,16 +1,47 @@
-//! The changes of a table: from what is asked to a change over the table's schema.
+//! The changes of a table: what they are, and from what is asked to a change over the table's schema.
 ghost use Rattle.mi_request.specs.Answers.{IsAnswer};
 ghost use Rattle.mi_request.specs.declared.request.ChangeRequest.TheVariants as request;
 ghost use Rattle.mi_protocol.specs.Binding.{bound_change};
 
-use crate::command::Change;
-use crate::edits::bind_edits;
+use crate::edits::{Edits, bind_edits};
 use crate::indexes::{bind_place, sequenced_index, whole_key};
 use crate::row::bind_row;
 use mi_catalog::Schema;
 use mi_request::{ChangeRequest, NamedPlace, Object};
-use mi_value::Refusal;
+use mi_value::{Key, Record, Refusal};
 use std::alloc::Global;
+
+/// A change of a table. An insert's `before` is a sequenced index and the id of the record before which it stands.
+#[derive(Drop)]
+pub enum Change {
+    Insert {
+        row: Record,
+        before: Option<(usize, u64)>,
+    },
+    Replace {
+        id: u64,
+        row: Record,
+    },
+    Modify {
+        id: u64,
+        edits: Edits,
+        rollback: bool,
+    },
+    Erase {
+        id: u64,
+    },
+    /// The key is whole.
+    EraseKey {
+        index: usize,
+        key: Key,
+    },
+    /// Without `before` the record goes to the end.
+    Relocate {
+        index: usize,
+        id: u64,
+        before: Option<u64>,
+    },
+}
 
 /// A record, and a place of its own where one is named. Refusals, in this order: `Index`, `Kind`, `Row`, and `Memory`.
 fn bind_insert(

@@ -17,14 +17,16 @@ mod reply;
 mod row;
 mod text;
 
-pub use binding::{bind, bind_change, bind_look_up};
-pub use command::{Change, Command, LookUp};
+pub use binding::{bind, bind_change, bind_key_look_up, bind_number_look_up};
+pub use changes::Change;
+pub use command::Command;
 pub use edits::Edits;
 pub use labels::ReplyLabels;
 pub use laws::{lines_edit_columns_once, lines_without_a_table, replies_are_compact_json};
+pub use look_ups::{KeyLookUp, NumberLookUp};
 pub use mi_request::{
-    Array, ChangeRequest, End, Json, LineReader, LookUpRequest, Name, NamedPlace, Object, Request,
-    SessionCommand,
+    Array, ChangeRequest, End, Json, KeyLookUpRequest, LineReader, Name, NamedPlace,
+    NumberLookUpRequest, Object, Request, SessionCommand, ShortRequest,
 };
 pub use output::Output;
 pub use reply::Reply;

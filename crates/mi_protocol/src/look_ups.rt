@@ -1,41 +1,121 @@
-//! The look-ups: from what is asked to a look-up over the table's schema.
-ghost use Rattle.std.specs.Prelude.{◌≡◌, ◌≢◌, true, Err};
+//! The look-ups, by numbers and by keys: what they are, and from what is asked to a look-up over the table's schema.
+ghost use Rattle.std.specs.Prelude.{◌≡◌};
 ghost use Rattle.mi_request.specs.Answers.{IsAnswer};
-ghost use Rattle.mi_protocol.specs.Binding.{bound_look_up, look_up_binds_without};
+ghost use Rattle.mi_protocol.specs.Binding.{bound_number_look_up, bound_key_look_up};
 
-use crate::command::LookUp;
 use crate::indexes::{key_or_prefix, ranked_index, ranked_key, sequenced_index, sorted_index};
 use crate::keys::bind_bounds;
 use mi_catalog::Schema;
-use mi_request::LookUpRequest;
-use mi_value::Refusal;
+use mi_request::{KeyLookUpRequest, NumberLookUpRequest};
+use mi_value::{Key, Lower, Refusal, Upper};
 use std::alloc::Global;
 
-/// The look-up that is asked of a table of this schema. Refusals, in this order: `Index`, `Kind`, `Key`, and `Memory`; a rank and a size take
-/// no memory.
-pub(crate) fn look_up_over(
-    alloc: Global,
-    look_up: LookUpRequest,
+/// A look-up of a table by numbers alone: ids, ranks and how many rows.
+#[derive(Drop)]
+pub enum NumberLookUp {
+    Get {
+        id: u64,
+    },
+    Nth {
+        index: usize,
+        n: u64,
+    },
+    /// At most `limit` rows, 1 to 1,000, behind the record `after` or from the first.
+    List {
+        index: usize,
+        after: Option<u64>,
+        limit: usize,
+    },
+    Rank {
+        index: usize,
+        id: u64,
+    },
+    Size,
+}
+
+/// A look-up of a table by keys.
+#[derive(Drop)]
+pub enum KeyLookUp {
+    /// The key is whole, or in an ordered or ranked index the first values of one.
+    Find {
+        index: usize,
+        key: Key,
+    },
+    /// The key is whole, or in an ordered or ranked index the first values of one.
+    Count {
+        index: usize,
+        key: Key,
+    },
+    /// At most `limit` rows, 1 to 1,000.
+    Range {
+        index: usize,
+        lower: Lower,
+        upper: Upper,
+        reverse: bool,
+        limit: usize,
+    },
+    LowerRank {
+        index: usize,
+        key: Key,
+    },
+    UpperRank {
+        index: usize,
+        key: Key,
+    },
+}
+
+/// The look-up by numbers that is asked of a table of this schema. It takes no memory. Refusals, in this order: `Index` and `Kind`.
+#[inline(always)]
+pub(crate) fn number_look_up_over(
+    look_up: NumberLookUpRequest,
     schema: &Schema,
-) -> Result<LookUp, Refusal>
-    ensures answer { IsAnswer result (bound_look_up schema.now look_up.entry) }
-    ensures memory { look_up_binds_without look_up.entry ≡ true → result ≢ Err Refusal.Memory }
+) -> Result<NumberLookUp, Refusal>
+    ensures { result ≡ bound_number_look_up schema.now look_up.entry }
 {
     match look_up {
-        LookUpRequest::Get { id } => Ok(LookUp::Get { id }),
-        LookUpRequest::Find { index, key } => {
-            let (index, key) = key_or_prefix(alloc, &index, key, schema)?;
-            Ok(LookUp::Find { index, key })
-        }
-        LookUpRequest::Nth { index, n } => {
+        NumberLookUpRequest::Get { id } => Ok(NumberLookUp::Get { id }),
+        NumberLookUpRequest::Nth { index, n } => {
             let index = ranked_index(&index, schema)?;
-            Ok(LookUp::Nth { index, n })
+            Ok(NumberLookUp::Nth { index, n })
         }
-        LookUpRequest::Count { index, key } => {
+        NumberLookUpRequest::List {
+            index,
+            after,
+            limit,
+        } => {
+            let index = sequenced_index(&index, schema)?;
+            Ok(NumberLookUp::List {
+                index,
+                after,
+                limit,
+            })
+        }
+        NumberLookUpRequest::Rank { index, id } => {
+            let index = ranked_index(&index, schema)?;
+            Ok(NumberLookUp::Rank { index, id })
+        }
+        NumberLookUpRequest::Size => Ok(NumberLookUp::Size),
+    }
+}
+
+/// The look-up by keys that is asked of a table of this schema. Refusals, in this order: `Index`, `Kind`, `Key`, and `Memory`.
+pub(crate) fn key_look_up_over(
+    alloc: Global,
+    look_up: KeyLookUpRequest,
+    schema: &Schema,
+) -> Result<KeyLookUp, Refusal>
+    ensures { IsAnswer result (bound_key_look_up schema.now look_up.entry) }
+{
+    match look_up {
+        KeyLookUpRequest::Find { index, key } => {
             let (index, key) = key_or_prefix(alloc, &index, key, schema)?;
-            Ok(LookUp::Count { index, key })
+            Ok(KeyLookUp::Find { index, key })
         }
-        LookUpRequest::Range {
+        KeyLookUpRequest::Count { index, key } => {
+            let (index, key) = key_or_prefix(alloc, &index, key, schema)?;
+            Ok(KeyLookUp::Count { index, key })
+        }
+        KeyLookUpRequest::Range {
             index,
             lower,
             upper,
@@ -44,7 +124,7 @@ pub(crate) fn look_up_over(
         } => {
             let index = sorted_index(&index, schema)?;
             let (lower, upper) = bind_bounds(alloc, index, lower, upper, schema)?;
-            Ok(LookUp::Range {
+            Ok(KeyLookUp::Range {
                 index,
                 lower,
                 upper,
@@ -52,30 +132,13 @@ pub(crate) fn look_up_over(
                 limit,
             })
         }
-        LookUpRequest::List {
-            index,
-            after,
-            limit,
-        } => {
-            let index = sequenced_index(&index, schema)?;
-            Ok(LookUp::List {
-                index,
-                after,
-                limit,
-            })
-        }
-        LookUpRequest::Rank { index, id } => {
-            let index = ranked_index(&index, schema)?;
-            Ok(LookUp::Rank { index, id })
-        }
-        LookUpRequest::LowerRank { index, key } => {
+        KeyLookUpRequest::LowerRank { index, key } => {
             let (index, key) = ranked_key(alloc, &index, key, schema)?;
-            Ok(LookUp::LowerRank { index, key })
+            Ok(KeyLookUp::LowerRank { index, key })
         }
-        LookUpRequest::UpperRank { index, key } => {
+        KeyLookUpRequest::UpperRank { index, key } => {
             let (index, key) = ranked_key(alloc, &index, key, schema)?;
-            Ok(LookUp::UpperRank { index, key })
+            Ok(KeyLookUp::UpperRank { index, key })
         }
-        LookUpRequest::Size => Ok(LookUp::Size),
     }
 }

@@ -1,17 +1,16 @@
 //! Pages of ranges and lists. A page takes memory for its rows alone, which are lent: the index is walked once, from where
 //! the page begins.
-ghost use Rattle.std.specs.Prelude.{◌≡◌, not, length, map, take, nat_lt, true, IsTrue, IfOk, IfErr, Ok, Err, slice_get, if◌then◌else◌};
-ghost use Rattle.std.specs.List.{count_by};
+ghost use Rattle.std.specs.Prelude.{◌≡◌, ◌+◌, length, map, take, nat_lt, IsTrue, IfOk, IfErr, Ok, Err, slice_get, if◌then◌else◌};
 ghost use Rattle.mi_value.specs.declared.refusal.Refusal.TheVariants.{Memory, NoId};
 ghost use Rattle.mi_sessions.specs.Fitting.{HasTable, index_of, IsSortedIndex, IsSequencedIndex, FitsLower, FitsUpper};
 ghost use Rattle.mi_catalog.specs.Key.{Row};
-ghost use Rattle.mi_sessions.specs.LookUps.{WithinLookUps};
+ghost use Rattle.mi_sessions.specs.LookUps.{WithinLookUps, WithinRange};
 ghost use Rattle.mi_model.specs.Table.{has as has_row, row as row_of, size as size_of};
 ghost use Rattle.mi_model.specs.Verdict.{has_place};
 ghost use Rattle.mi_model.specs.Database.{schema_of, table_of};
-ghost use Rattle.mi_model.specs.Page.{meets_lower, meets_upper, page_of, range as range_of, list as list_of};
+ghost use Rattle.mi_model.specs.Page.{page_of, range as range_of, list as list_of};
 ghost use Rattle.mi_model.specs.Walk.{from_in};
-ghost use Rattle.mi_query.specs.Pages.{shown_by, place_behind, ends_open, ids_begun};
+ghost use Rattle.mi_query.specs.Pages.{shown_by, place_behind};
 
 use crate::shown::shows_each;
 use mi_sessions::Sessions;
@@ -26,54 +25,6 @@ pub struct Page<'a> {
     pub more: bool,
 }
 
-/// How many ids of an ordered or ranked index stand before a range that begins at this bound: those that don't meet it.
-fn rank_from<D: Sessions>(
-    db: &D,
-    table: usize,
-    index: usize,
-    lower: &Lower,
-    steps: &mut Steps,
-) -> u64
-    requires table { HasTable (D.state db.now).catalog table }
-    requires index { IsSortedIndex (D.state db.now).catalog table index }
-    requires key { FitsLower (D.state db.now).catalog table index lower.now }
-    ensures rank { result ≡ count_by (λ id. not (meets_lower (index_of (D.state db.now).catalog table index) (table_of (D.state db.now) table) lower.now id))
-        (shown_by (D.state db.now) table index) }
-    ensures steps { WithinLookUps D.bound 2 (size_of (table_of (D.state db.now) table)) steps.old.count steps.new.count }
-{
-    match lower {
-        Lower::All => 0,
-        Lower::From(key) => db.lower_rank(table, index, key.values(), steps),
-        Lower::Beyond(key) => db.upper_rank(table, index, key.values(), steps),
-    }
-}
-
-/// How many ids of an ordered or ranked index stand before the end of a range that ends at this bound: those that meet it.
-fn rank_to<D: Sessions>(db: &D, table: usize, index: usize, upper: &Upper, steps: &mut Steps) -> u64
-    requires table { HasTable (D.state db.now).catalog table }
-    requires index { IsSortedIndex (D.state db.now).catalog table index }
-    requires key { FitsUpper (D.state db.now).catalog table index upper.now }
-    ensures rank { result ≡ count_by (meets_upper (index_of (D.state db.now).catalog table index) (table_of (D.state db.now) table) upper.now)
-        (shown_by (D.state db.now) table index) }
-    ensures steps { WithinLookUps D.bound 2 (size_of (table_of (D.state db.now) table)) steps.old.count steps.new.count }
-{
-    match upper {
-        Upper::All => all_of(db, table, index),
-        Upper::UpTo(key) => db.upper_rank(table, index, key.values(), steps),
-        Upper::Below(key) => db.lower_rank(table, index, key.values(), steps),
-    }
-}
-
-/// How many ids an ordered or ranked index shows.
-fn all_of<D: Sessions>(db: &D, table: usize, index: usize) -> u64
-    requires table { HasTable (D.state db.now).catalog table }
-    requires index { IsSortedIndex (D.state db.now).catalog table index }
-    ensures { result ≡ length (shown_by (D.state db.now) table index) }
-{
-    shows_each(db, table, index);
-    db.size(table)
-}
-
 /// The page of a walk that has one row more than the page may have, where others remain.
 fn page_of_walk<'a>(rows: Vec<(u64, &'a Record)>, limit: usize) -> Page<'a>
     ensures rows { map {B = Row} (λ r. (r.0, r.1.now)) result.rows.items ≡ take limit (map {B = Row} (λ r. (r.0, r.1.now)) rows.entry.items) }
@@ -85,120 +36,9 @@ fn page_of_walk<'a>(rows: Vec<(u64, &'a Record)>, limit: usize) -> Page<'a>
     Page { rows, more }
 }
 
-/// Whether the end at which a range ends has no bound.
-fn is_open(lower: &Lower, upper: &Upper, reverse: bool) -> bool
-    ensures { result ≡ ends_open reverse lower.now upper.now }
-{
-    if reverse {
-        match lower {
-            Lower::All => true,
-            Lower::From(_) | Lower::Beyond(_) => false,
-        }
-    } else {
-        match upper {
-            Upper::All => true,
-            Upper::UpTo(_) | Upper::Below(_) => false,
-        }
-    }
-}
-
-/// The rows from where a range begins, wherever it ends: one look-up and one walk. Refusal: `Memory`.
-fn walk_range<'a, D: Sessions>(
-    db: &'a D,
-    alloc: Global,
-    table: usize,
-    index: usize,
-    lower: &Lower,
-    upper: &Upper,
-    reverse: bool,
-    limit: usize,
-    steps: &mut Steps,
-) -> Result<Vec<(u64, &'a Record)>, Refusal>
-    requires table { HasTable (D.state db.now).catalog table }
-    requires index { IsSortedIndex (D.state db.now).catalog table index }
-    ensures rows { IfOk result (λ rows. map (λ r. (r.0, r.1.now)) rows.items ≡ map (row_of (table_of (D.state db.now) table))
-        (ids_begun (schema_of (D.state db.now) table) (table_of (D.state db.now) table) index lower.now upper.now reverse limit)) }
-    ensures err { IfErr result (λ e. e ≡ Memory) }
-    ensures steps { WithinLookUps D.bound 1 (size_of (table_of (D.state db.now) table)) steps.old.count steps.new.count }
-{
-    if reverse {
-        db.walk_down(alloc, table, index, upper, limit, steps)
-    } else {
-        db.walk_up(alloc, table, index, lower, limit, steps)
-    }
-}
-
-/// `range` that ends where the index does: one look-up and one walk, and no rank is counted.
-fn open_range<'a, D: Sessions>(
-    db: &'a D,
-    alloc: Global,
-    table: usize,
-    index: usize,
-    lower: &Lower,
-    upper: &Upper,
-    reverse: bool,
-    limit: usize,
-    steps: &mut Steps,
-) -> Result<Page<'a>, Refusal>
-    requires table { HasTable (D.state db.now).catalog table }
-    requires index { IsSortedIndex (D.state db.now).catalog table index }
-    requires open { ends_open reverse lower.now upper.now ≡ true }
-    ensures rows { IfOk result (λ p. map (λ r. (r.0, r.1.now)) p.rows.items ≡ map (row_of (table_of (D.state db.now) table))
-        (range_of (schema_of (D.state db.now) table) (table_of (D.state db.now) table) index lower.now upper.now reverse limit).ids) }
-    ensures more { IfOk result (λ p. p.more ≡
-        (range_of (schema_of (D.state db.now) table) (table_of (D.state db.now) table) index lower.now upper.now reverse limit).more) }
-    ensures err { IfErr result (λ e. e ≡ Memory) }
-    ensures steps { WithinLookUps D.bound 1 (size_of (table_of (D.state db.now) table)) steps.old.count steps.new.count }
-{
-    shows_each(db, table, index);
-    let more = limit.saturating_add(1);
-    let rows = walk_range(db, alloc, table, index, lower, upper, reverse, more, steps)?;
-    Ok(page_of_walk(rows, limit))
-}
-
-/// `range` by the ranks of its ends: at most five look-ups, and one walk.
-fn range_between<'a, D: Sessions>(
-    db: &'a D,
-    alloc: Global,
-    table: usize,
-    index: usize,
-    lower: &Lower,
-    upper: &Upper,
-    reverse: bool,
-    limit: usize,
-    steps: &mut Steps,
-) -> Result<Page<'a>, Refusal>
-    requires table { HasTable (D.state db.now).catalog table }
-    requires index { IsSortedIndex (D.state db.now).catalog table index }
-    requires lower { FitsLower (D.state db.now).catalog table index lower.now }
-    requires upper { FitsUpper (D.state db.now).catalog table index upper.now }
-    ensures rows { IfOk result (λ p. map (λ r. (r.0, r.1.now)) p.rows.items ≡ map (row_of (table_of (D.state db.now) table))
-        (range_of (schema_of (D.state db.now) table) (table_of (D.state db.now) table) index lower.now upper.now reverse limit).ids) }
-    ensures more { IfOk result (λ p. p.more ≡
-        (range_of (schema_of (D.state db.now) table) (table_of (D.state db.now) table) index lower.now upper.now reverse limit).more) }
-    ensures err { IfErr result (λ e. e ≡ Memory) }
-    ensures steps { WithinLookUps D.bound 5 (size_of (table_of (D.state db.now) table)) steps.old.count steps.new.count }
-{
-    let from = rank_from(db, table, index, lower, steps);
-    let to = rank_to(db, table, index, upper, steps);
-    if to <= from {
-        return Ok(Page {
-            rows: Vec::new(alloc),
-            more: false,
-        });
-    }
-    let count = (to - from) as usize;
-    let shown = limit.min(count);
-    let rows = walk_range(db, alloc, table, index, lower, upper, reverse, shown, steps)?;
-    Ok(Page {
-        rows,
-        more: limit < count,
-    })
-}
-
 /// The first rows of those that an ordered or ranked index shows between two bounds, in its order or in the reverse of it,
-/// at most `limit` of them. Where it begins is one look-up; a bound at which it ends is up to four more, however many rows there are.
-/// Then the index is walked once, from where the page begins. Refusal: `Memory`.
+/// at most `limit` of them. Where it begins is one look-up; from there the index is walked once, with at most one comparison for each
+/// row shown and one more, and no row past its end but one is read. Refusal: `Memory`.
 pub fn range<'a, D: Sessions>(
     db: &'a D,
     alloc: Global,
@@ -219,13 +59,14 @@ pub fn range<'a, D: Sessions>(
     ensures more { IfOk result (λ p. p.more ≡
         (range_of (schema_of (D.state db.now) table) (table_of (D.state db.now) table) index lower.now upper.now reverse limit).more) }
     ensures err { IfErr result (λ e. e ≡ Memory) }
-    ensures steps { WithinLookUps D.bound 5 (size_of (table_of (D.state db.now) table)) steps.old.count steps.new.count }
+    ensures steps { WithinRange D.bound
+        (length (range_of (schema_of (D.state db.now) table) (table_of (D.state db.now) table) index lower.now upper.now reverse limit).ids + 1)
+        (size_of (table_of (D.state db.now) table)) steps.old.count steps.new.count }
 {
-    if is_open(lower, upper, reverse) {
-        open_range(db, alloc, table, index, lower, upper, reverse, limit, steps)
-    } else {
-        range_between(db, alloc, table, index, lower, upper, reverse, limit, steps)
-    }
+    shows_each(db, table, index);
+    let more = limit.saturating_add(1);
+    let rows = db.walk_range(alloc, table, index, lower, upper, reverse, more, steps)?;
+    Ok(page_of_walk(rows, limit))
 }
 
 /// The first rows of those that a sequenced index shows from an id on, at most `limit` of them. It is one walk, of one row more than

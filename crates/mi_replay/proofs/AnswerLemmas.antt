@@ -16,15 +16,15 @@ use Rattle.mi_request.specs.declared.request.Request.{Request}
 use Rattle.mi_request.specs.declared.request.Request.TheVariants as request
 use Rattle.mi_request.specs.declared.request.SessionCommand.TheVariants as session
 use Rattle.mi_replay.proofs.UndoLemmas.{undo_means}
-use Rattle.mi_protocol.specs.Binding.{and_then, table_number, bound_look_up, bound_command}
+use Rattle.mi_protocol.specs.Binding.{and_then, table_number, bound_number_look_up, bound_key_look_up, bound_command}
 use Rattle.mi_protocol.specs.Replies.{Said}
-use Rattle.mi_protocol.specs.declared.command.Change.{Change}
-use Rattle.mi_protocol.specs.declared.command.Change.TheVariants as change
+use Rattle.mi_protocol.specs.declared.changes.Change.{Change}
+use Rattle.mi_protocol.specs.declared.changes.Change.TheVariants as change
 use Rattle.mi_protocol.specs.declared.command.Command.{Command}
 use Rattle.mi_protocol.specs.declared.command.Command.TheVariants as command
 use Rattle.mi_commands.specs.Asked.{Asked, text, too_long}
 use Rattle.mi_commands.specs.Answer.{answer, command_answer, command_of, command_changes, line_changes, MayGive}
-use Rattle.mi_commands.proofs.ToldLemmas.{look_quiet, line_keeps, answer_keeps}
+use Rattle.mi_commands.proofs.ToldLemmas.{number_quiet, key_quiet, line_keeps, answer_keeps}
 use Rattle.mi_commands.specs.Holder.{HeldDatabase, is_busy, one_more, one_less, at_most, held_count, held_by, without_holder}
 use Rattle.mi_commands.specs.Performed.{performed, changed, holder_after, or_session, effect, moved}
 use Rattle.mi_commands.specs.Performed.{Move, stays, one_up, one_down, down_to, to_nobody, lets_go, if_accepted}
@@ -46,9 +46,12 @@ module _ (s : HeldDatabase) (conn : ℕ) where
 
   -- what isn't kept out is a look-up
   look_up_quiet : (c : CatalogShape) (r : Request) → keeps_out r ≡ false → IsQuiet s conn (bound_command c r)
-  look_up_quiet c (request.LookUp table r) h =
-      quiet_then _ (table_number c table) (λ n. quiet_then _ (bound_look_up (schema_at c n) r)
-      (λ x. look_quiet n (schema_of s.database n) (table_of s.database n) x))
+  look_up_quiet c (request.NumberLookUp table r) h =
+      quiet_then _ (table_number c table) (λ n. quiet_then _ (bound_number_look_up (schema_at c n) r)
+      (λ x. number_quiet n (schema_of s.database n) (table_of s.database n) x))
+  look_up_quiet c (request.KeyLookUp table r) h =
+      quiet_then _ (table_number c table) (λ n. quiet_then _ (bound_key_look_up (schema_at c n) r)
+      (λ x. key_quiet n (schema_of s.database n) (table_of s.database n) x))
   look_up_quiet c (request.Session session.Revision) h = refl
   look_up_quiet c r h = absurd (cc)
 

@@ -24,7 +24,7 @@ use Rattle.mi_request.specs.declared.keyed.KeyCommand.TheVariants as keyed
 use Rattle.mi_request.specs.declared.request.End.{End}
 use Rattle.mi_request.specs.declared.request.End.TheVariants.{Open}
 use Rattle.mi_request.specs.declared.request.ChangeRequest.TheVariants as change
-use Rattle.mi_request.specs.declared.request.LookUpRequest.TheVariants as look_up
+use Rattle.mi_request.specs.declared.request.KeyLookUpRequest.TheVariants as by_key
 use Rattle.mi_request.specs.declared.request.Request.{Request}
 use Rattle.mi_request.specs.declared.request.Request.TheVariants as request
 use Rattle.mi_request.proofs.ParsingLemmas.{request_found}
@@ -112,14 +112,14 @@ pub key_asked : (c : KeyCommand) (t : Option Data) (i k : Data) (table : Option 
 unfolding has_only look_up_named
 key_asked keyed.EraseKey None i k table index ks p q r = keyed_is request.Change change.EraseKey _ _ _ table index ks p q r
 key_asked keyed.EraseKey (Some t) i k table index ks p q r = keyed_is request.Change change.EraseKey _ _ _ table index ks p q r
-key_asked keyed.Find None i k table index ks p q r = keyed_is request.LookUp look_up.Find _ _ _ table index ks p q r
-key_asked keyed.Find (Some t) i k table index ks p q r = keyed_is request.LookUp look_up.Find _ _ _ table index ks p q r
-key_asked keyed.Count None i k table index ks p q r = keyed_is request.LookUp look_up.Count _ _ _ table index ks p q r
-key_asked keyed.Count (Some t) i k table index ks p q r = keyed_is request.LookUp look_up.Count _ _ _ table index ks p q r
-key_asked keyed.LowerRank None i k table index ks p q r = keyed_is request.LookUp look_up.LowerRank _ _ _ table index ks p q r
-key_asked keyed.LowerRank (Some t) i k table index ks p q r = keyed_is request.LookUp look_up.LowerRank _ _ _ table index ks p q r
-key_asked keyed.UpperRank None i k table index ks p q r = keyed_is request.LookUp look_up.UpperRank _ _ _ table index ks p q r
-key_asked keyed.UpperRank (Some t) i k table index ks p q r = keyed_is request.LookUp look_up.UpperRank _ _ _ table index ks p q r
+key_asked keyed.Find None i k table index ks p q r = keyed_is request.KeyLookUp by_key.Find _ _ _ table index ks p q r
+key_asked keyed.Find (Some t) i k table index ks p q r = keyed_is request.KeyLookUp by_key.Find _ _ _ table index ks p q r
+key_asked keyed.Count None i k table index ks p q r = keyed_is request.KeyLookUp by_key.Count _ _ _ table index ks p q r
+key_asked keyed.Count (Some t) i k table index ks p q r = keyed_is request.KeyLookUp by_key.Count _ _ _ table index ks p q r
+key_asked keyed.LowerRank None i k table index ks p q r = keyed_is request.KeyLookUp by_key.LowerRank _ _ _ table index ks p q r
+key_asked keyed.LowerRank (Some t) i k table index ks p q r = keyed_is request.KeyLookUp by_key.LowerRank _ _ _ table index ks p q r
+key_asked keyed.UpperRank None i k table index ks p q r = keyed_is request.KeyLookUp by_key.UpperRank _ _ _ table index ks p q r
+key_asked keyed.UpperRank (Some t) i k table index ks p q r = keyed_is request.KeyLookUp by_key.UpperRank _ _ _ table index ks p q r
 
 pub insert_asked : (t : Option Data) (d : Data) (table : Option (List ℕ)) (row : Members) → if_there as_str t ≡ Some table → as_object d ≡ Some row
     → request_in (put (codes "row") d (put_if (codes "table") t (named (codes "insert")))) ≡ Some (request.Change table (change.Insert row None))
@@ -155,13 +155,13 @@ modify_asked (Some t) i (Some s) (Some a) table id set add p q r u = modified _ 
 
 ranged : (t : Option (Option (List ℕ))) (i : Option (List ℕ)) (l : Option End) (m : Option ℕ) (table : Option (List ℕ)) (index : List ℕ) (lower : End) (limit : ℕ)
     → t ≡ Some table → i ≡ Some index → l ≡ Some lower → m ≡ Some limit
-    → option_map₂ request.LookUp t (option_map₅ look_up.Range i l (Some Open) (Some false) m) ≡ Some (request.LookUp table (look_up.Range index lower Open false limit))
+    → option_map₂ request.KeyLookUp t (option_map₅ by_key.Range i l (Some Open) (Some false) m) ≡ Some (request.KeyLookUp table (by_key.Range index lower Open false limit))
 ranged t i l m table index lower limit p q r u = rw (p, q, r, u) refl
 
 pub range_asked : (t : Option Data) (i l m : Data) (table : Option (List ℕ)) (index : List ℕ) (lower : End) (limit : ℕ) → if_there as_str t ≡ Some table
     → as_str i ≡ Some index → lower_end l ≡ Some lower → page m ≡ Some limit
     → request_in (put (codes "limit") m (put (codes "lower") l (put (codes "index") i (put_if (codes "table") t (named (codes "range"))))))
-    ≡ Some (request.LookUp table (look_up.Range index lower Open false limit))
+    ≡ Some (request.KeyLookUp table (by_key.Range index lower Open false limit))
 unfolding has_only look_up_named
 range_asked None i l m table index lower limit p q r u = ranged _ _ _ _ table index lower limit p q r u
 range_asked (Some t) i l m table index lower limit p q r u = ranged _ _ _ _ table index lower limit p q r u

@@ -1,10 +1,10 @@
 -- The request of members without `table` names no table.
 use Rattle.std.proofs.Common.{◌≡◌, ℕ, List, false, Option, Some, None, IfSome, codes, refl, sym, ap, subst}
-use Rattle.std.specs.Option.{option_map, option_and_then}
+use Rattle.std.specs.Option.{option_map}
 use Rattle.serde_json.specs.Data.{Members}
 use Rattle.serde_json.specs.Find.{get_member, as_str}
 use Rattle.mi_request.specs.Json.{option_map₂, if_there}
-use Rattle.mi_request.specs.Commands.{Asks, a_change, a_look_up, of_sessions, asked, Form, form_of, command_named, names_table, table_in}
+use Rattle.mi_request.specs.Commands.{Asks, a_change, a_number_look_up, a_key_look_up, of_sessions, asked, names_table, table_in}
 use Rattle.mi_request.specs.declared.request.Request.{Request}
 use Rattle.mi_request.specs.declared.request.Request.TheVariants as request
 
@@ -28,5 +28,7 @@ module _ (ms : Members) (none : get_member (codes "table") ms ≡ None) where
   -- whatever they are asked to be
   pub asked_names : (asks : Asks) → NoName (asked asks ms)
   asked_names (a_change f) = subst (λ t. NoName (option_map₂ request.Change t (f ms))) (sym no_table) (over_none request.Change (λ a. refl) (f ms))
-  asked_names (a_look_up f) = subst (λ t. NoName (option_map₂ request.LookUp t (f ms))) (sym no_table) (over_none request.LookUp (λ a. refl) (f ms))
+  asked_names (a_number_look_up f) =
+      subst (λ t. NoName (option_map₂ request.NumberLookUp t (f ms))) (sym no_table) (over_none request.NumberLookUp (λ a. refl) (f ms))
+  asked_names (a_key_look_up f) = subst (λ t. NoName (option_map₂ request.KeyLookUp t (f ms))) (sym no_table) (over_none request.KeyLookUp (λ a. refl) (f ms))
   asked_names (of_sessions f) = over_sessions request.Session (λ a. refl) (f ms)

@@ -23,23 +23,26 @@ use Rattle.serde_json.proofs.Numbers.{number_of-decimal}
 use Rattle.serde_json.proofs.OnLiterals.{serde_json_on_literals}
 use Rattle.mi_value.specs.declared.refusal.Refusal.{Refusal}
 use Rattle.mi_value.specs.declared.refusal.Refusal.TheVariants.{Form}
-use Rattle.std.specs.Prelude.{bytes_eq}
+use Rattle.std.specs.Prelude.{bytes_eq, IfSome}
 use Rattle.std.proofs.lemmas.Slice.Eq.{bytes_eq-Decides}
 use Rattle.mi_request.specs.Bare.{asked_bare, bare_of, bare_name, bare_text, bare_named, bare_line, bares, first_with}
 use Rattle.mi_request.specs.Commands.{look_up_named, step_named}
 use Rattle.mi_request.specs.Json.{has_only}
 use Rattle.mi_request.specs.Lines.{request_of, request_or_refusal, command_line}
 use Rattle.mi_request.specs.Short.{name, maybe_name, whole, maybe_whole, Member, is_name_byte, are_name_bytes, is_word, are_words, name_front, whole_front}
-use Rattle.mi_request.specs.Short.{members_text, command_front, line_text, table_is, index_is, id_is, written, short_line}
+use Rattle.mi_request.specs.Short.{members_text, command_front, line_text, table_is, index_is, id_is, written, short_line, asked_short}
 use Rattle.mi_request.specs.ShortCode.{IsRead, a_name, perhaps_name, a_whole, perhaps_whole}
 use Rattle.mi_request.specs.declared.bare.Bare.{Bare}
 use Rattle.mi_request.specs.declared.bare.Bare.TheVariants as bare
+use Rattle.mi_request.specs.declared.request.ChangeRequest.{ChangeRequest}
 use Rattle.mi_request.specs.declared.request.ChangeRequest.TheVariants as change
-use Rattle.mi_request.specs.declared.request.LookUpRequest.TheVariants as look_up
+use Rattle.mi_request.specs.declared.request.NumberLookUpRequest.TheVariants as by_number
 use Rattle.mi_request.specs.declared.request.Request.{Request}
 use Rattle.mi_request.specs.declared.request.Request.TheVariants as request
 use Rattle.mi_request.specs.declared.request.SessionCommand.{SessionCommand}
 use Rattle.mi_request.specs.declared.request.SessionCommand.TheVariants as session
+use Rattle.mi_request.specs.declared.request.ShortRequest.{ShortRequest}
+use Rattle.mi_request.specs.declared.request.ShortRequest.TheVariants as short
 use Rattle.mi_request.proofs.ParsingLemmas.{json-found}
 use Rattle.mi_request.proofs.WordLemmas.{name_byte, utf8_name, line-read}
 
@@ -281,7 +284,7 @@ meant_by c ms line r command named is asked =
 
 -- ---- what each command asks
 
-get_asked : (t : Option (List ℕ)) (id : ℕ) → nat_lt id (2 ^ 63) ≡ true → request_of (line_data (codes "get") (table_is t ∷ id_is id ∷ [])) ≡ Some (request.LookUp t (look_up.Get id))
+get_asked : (t : Option (List ℕ)) (id : ℕ) → nat_lt id (2 ^ 63) ≡ true → request_of (line_data (codes "get") (table_is t ∷ id_is id ∷ [])) ≡ Some (request.NumberLookUp t (by_number.Get id))
 unfolding has_only step_named look_up_named
 get_asked None id h = rw h refl
 get_asked (Some t) id h = rw h refl
@@ -291,19 +294,19 @@ unfolding has_only
 erase_asked None id h = rw h refl
 erase_asked (Some t) id h = rw h refl
 
-size_asked : (t : Option (List ℕ)) → request_of (line_data (codes "size") (table_is t ∷ [])) ≡ Some (request.LookUp t look_up.Size)
+size_asked : (t : Option (List ℕ)) → request_of (line_data (codes "size") (table_is t ∷ [])) ≡ Some (request.NumberLookUp t by_number.Size)
 unfolding has_only look_up_named
 size_asked None = refl
 size_asked (Some t) = refl
 
 rank_asked : (t : Option (List ℕ)) (index : List ℕ) (id : ℕ) → nat_lt id (2 ^ 63) ≡ true
-    → request_of (line_data (codes "rank") (table_is t ∷ index_is index ∷ id_is id ∷ [])) ≡ Some (request.LookUp t (look_up.Rank index id))
+    → request_of (line_data (codes "rank") (table_is t ∷ index_is index ∷ id_is id ∷ [])) ≡ Some (request.NumberLookUp t (by_number.Rank index id))
 unfolding has_only look_up_named
 rank_asked None index id h = rw h refl
 rank_asked (Some t) index id h = rw h refl
 
 nth_asked : (t : Option (List ℕ)) (index : List ℕ) (n : ℕ) → nat_lt n (2 ^ 63) ≡ true
-    → request_of (line_data (codes "nth") (table_is t ∷ index_is index ∷ (codes "n", whole n) ∷ [])) ≡ Some (request.LookUp t (look_up.Nth index n))
+    → request_of (line_data (codes "nth") (table_is t ∷ index_is index ∷ (codes "n", whole n) ∷ [])) ≡ Some (request.NumberLookUp t (by_number.Nth index n))
 unfolding has_only look_up_named
 nth_asked None index n h = rw h refl
 nth_asked (Some t) index n h = rw h refl
@@ -367,15 +370,15 @@ by_bare P h s line (Some b) back is =
 -- a short line means its request
 pub short_means : (r : Request) (line : List ℕ) → short_line r ≡ Some line → command_line line ≡ Ok r
 unfolding is_name_byte
-short_means (request.LookUp t (look_up.Get id)) line is =
+short_means (request.NumberLookUp t (by_number.Get id)) line is =
     meant_by (codes "get") (table_is t ∷ id_is id ∷ []) line _ refl refl is (λ words. get_asked t id (second (table_is t) (id_is id) [] words))
 short_means (request.Change t (change.Erase id)) line is =
     meant_by (codes "erase") (table_is t ∷ id_is id ∷ []) line _ refl refl is (λ words. erase_asked t id (second (table_is t) (id_is id) [] words))
-short_means (request.LookUp t look_up.Size) line is = meant_by (codes "size") (table_is t ∷ []) line _ refl refl is (λ words. size_asked t)
-short_means (request.LookUp t (look_up.Rank index id)) line is =
+short_means (request.NumberLookUp t by_number.Size) line is = meant_by (codes "size") (table_is t ∷ []) line _ refl refl is (λ words. size_asked t)
+short_means (request.NumberLookUp t (by_number.Rank index id)) line is =
     meant_by (codes "rank") (table_is t ∷ index_is index ∷ id_is id ∷ []) line _ refl refl is
     (λ words. rank_asked t index id (third (table_is t) (index_is index) (id_is id) [] words))
-short_means (request.LookUp t (look_up.Nth index n)) line is =
+short_means (request.NumberLookUp t (by_number.Nth index n)) line is =
     meant_by (codes "nth") (table_is t ∷ index_is index ∷ (codes "n", whole n) ∷ []) line _ refl refl is
     (λ words. nth_asked t index n (third (table_is t) (index_is index) (codes "n", whole n) [] words))
 short_means (request.Change t (change.Relocate index id before)) line is =
@@ -403,15 +406,12 @@ pub data Which : Type 0 where
   of_rank : Which
   of_commit : Which
   of_nth : Which
-  of_relocate : Which
   of_size : Which
-  of_erase : Which
   of_bare : Which
 
 abbrev pub which : ℕ → Which
 which x =
-    cond (x == 116) of_get (cond (x == 110) of_rank (cond (x == 109) of_commit (cond (x == 104) of_nth
-    (cond (x == 108) of_relocate (cond (x == 122) of_size (cond (x == 97) of_erase of_bare))))))
+    cond (x == 116) of_get (cond (x == 110) of_rank (cond (x == 109) of_commit (cond (x == 104) of_nth (cond (x == 122) of_size of_bare))))
 
 -- what is read of such a line is a request
 abbrev pub Found : Which → List ℕ → Type 0
@@ -421,14 +421,7 @@ Found of_rank line =
 Found of_commit line = (o : Option Request) → IsRead (codes "commit") ((codes "revision", a_whole) ∷ []) line o → is_some o ≡ true
 Found of_nth line =
     (o : Option Request) → IsRead (codes "nth") ((codes "table", perhaps_name) ∷ (codes "index", a_name) ∷ (codes "n", a_whole) ∷ []) line o → is_some o ≡ true
-Found of_relocate line =
-    (o : Option Request)
-    → IsRead (codes "relocate") ((codes "table", perhaps_name) ∷ (codes "index", a_name) ∷ (codes "id", a_whole) ∷ (codes "before", perhaps_whole) ∷ []) line o
-    → is_some o ≡ true
 Found of_size line = (o : Option Request) → IsRead (codes "size") ((codes "table", perhaps_name) ∷ []) line o → is_some o ≡ true
-Found of_erase line =
-    ((o : Option Request) → IsRead (codes "erase") ((codes "table", perhaps_name) ∷ (codes "id", a_whole) ∷ []) line o → is_some o ≡ true)
-    ⊎ (is_some (bare_line line) ≡ true)
 Found of_bare line = is_some (bare_line line) ≡ true
 
 lettered : (c : List ℕ) (ms : List Member) (line : List ℕ) (d letter : ℕ) → written (c, ms) ≡ Some line
@@ -442,34 +435,46 @@ at_letter line d letter is found = subst (λ x. Found (which x) line) (sym is) f
 
 bare_told : (d : ℕ) (b : Bare) → Found (which (get_or (bare_text b) 10 d)) (bare_text b)
 bare_told d bare.Undo = refl
-bare_told d bare.Start = inr refl
 bare_told d b = refl
 
--- a short line is found by its letter
-pub told : (r : Request) (line : List ℕ) (d : ℕ) → short_line r ≡ Some line → Found (which (get_or line 10 d)) line
-told (request.LookUp t (look_up.Get id)) line d is =
+-- a short line that is no change is found by its letter
+pub told : (r : ShortRequest) (line : List ℕ) (d : ℕ) → short_line (asked_short r) ≡ Some line → Found (which (get_or line 10 d)) line
+told (short.NumberLookUp t (by_number.Get id)) line d is =
     let ms = table_is t ∷ id_is id ∷ [] in
     at_letter line d 116 (lettered (codes "get") ms line d 116 is (λ rest. refl)) (λ o done. line-read (codes "get") ms line o done refl is)
-told (request.Change t (change.Erase id)) line d is =
-    let ms = table_is t ∷ id_is id ∷ [] in
-    at_letter line d 97 (lettered (codes "erase") ms line d 97 is (λ rest. refl)) (inl (λ o done. line-read (codes "erase") ms line o done refl is))
-told (request.LookUp t look_up.Size) line d is =
+told (short.NumberLookUp t by_number.Size) line d is =
     let ms = table_is t ∷ [] in
     at_letter line d 122 (lettered (codes "size") ms line d 122 is (λ rest. refl)) (λ o done. line-read (codes "size") ms line o done refl is)
-told (request.LookUp t (look_up.Rank index id)) line d is =
+told (short.NumberLookUp t (by_number.Rank index id)) line d is =
     let ms = table_is t ∷ index_is index ∷ id_is id ∷ [] in
     at_letter line d 110 (lettered (codes "rank") ms line d 110 is (λ rest. refl)) (λ o done. line-read (codes "rank") ms line o done refl is)
-told (request.LookUp t (look_up.Nth index n)) line d is =
+told (short.NumberLookUp t (by_number.Nth index n)) line d is =
     let ms = table_is t ∷ index_is index ∷ (codes "n", whole n) ∷ [] in
     at_letter line d 104 (lettered (codes "nth") ms line d 104 is (λ rest. refl)) (λ o done. line-read (codes "nth") ms line o done refl is)
-told (request.Change t (change.Relocate index id before)) line d is =
-    let ms = table_is t ∷ index_is index ∷ id_is id ∷ (codes "before", maybe_whole before) ∷ [] in
-    at_letter line d 108 (lettered (codes "relocate") ms line d 108 is (λ rest. refl)) (λ o done. line-read (codes "relocate") ms line o done refl is)
-told (request.Session (session.Commit n)) line d is =
+told (short.Session (session.Commit n)) line d is =
     let ms = (codes "revision", whole n) ∷ [] in
     at_letter line d 109 (lettered (codes "commit") ms line d 109 is (λ rest. refl)) (λ o done. line-read (codes "commit") ms line o done refl is)
-told (request.Session s) line d is = by_bare (λ q t. Found (which (get_or t 10 d)) t) (bare_told d) s line (bare_of s) (asked_back s) is
+told (short.Session s) line d is = by_bare (λ q t. Found (which (get_or t 10 d)) t) (bare_told d) s line (bare_of s) (asked_back s) is
 told r line d is = absurd (none-some line is)
+
+-- an erase and a relocation have letters of their own
+abbrev pub FoundChange : ℕ → List ℕ → Type 0
+FoundChange letter line =
+    ((letter ≡ 97) × ((o : Option Request) → IsRead (codes "erase") ((codes "table", perhaps_name) ∷ (codes "id", a_whole) ∷ []) line o → is_some o ≡ true))
+    ⊎ ((letter ≡ 108) × ((o : Option Request)
+    → IsRead (codes "relocate") ((codes "table", perhaps_name) ∷ (codes "index", a_name) ∷ (codes "id", a_whole) ∷ (codes "before", perhaps_whole) ∷ []) line o
+    → is_some o ≡ true))
+
+-- and so a short line that is a change is found by its letter
+pub told_change : (t : Option (List ℕ)) (x : ChangeRequest) (line : List ℕ) (d : ℕ) → short_line (request.Change t x) ≡ Some line
+    → FoundChange (get_or line 10 d) line
+told_change t (change.Erase id) line d is =
+    let ms = table_is t ∷ id_is id ∷ [] in
+    inl (lettered (codes "erase") ms line d 97 is (λ rest. refl), λ o done. line-read (codes "erase") ms line o done refl is)
+told_change t (change.Relocate index id before) line d is =
+    let ms = table_is t ∷ index_is index ∷ id_is id ∷ (codes "before", maybe_whole before) ∷ [] in
+    inr (lettered (codes "relocate") ms line d 108 is (λ rest. refl), λ o done. line-read (codes "relocate") ms line o done refl is)
+told_change t x line d is = absurd (none-some line is)
 
 -- ---- which request is found
 
@@ -491,12 +496,34 @@ pub bare_found : (line : List ℕ) (b : Bare) → bare_line line ≡ Some b → 
 bare_found line b is = bare_short b ∙ ap Some (first_is bares line b is)
 
 -- a short line by its letter
-pub by_letter : (line : List ℕ) (letter : ℕ) → get_or line 10 0 ≡ letter → (r : Request) → short_line r ≡ Some line → Found (which letter) line
+pub by_letter : (line : List ℕ) (letter : ℕ) → get_or line 10 0 ≡ letter → (r : ShortRequest) → short_line (asked_short r) ≡ Some line → Found (which letter) line
 by_letter line letter at r is = subst (λ x. Found (which x) line) at (told r line 0 is)
 
-pub by_no_letter : (line : List ℕ) (r : Request) → short_line r ≡ Some line → (get_or line 10 0 ≡ 116 → ⊥) → (get_or line 10 0 ≡ 110 → ⊥) → (get_or line 10 0 ≡ 109 → ⊥)
-    → (get_or line 10 0 ≡ 104 → ⊥) → (get_or line 10 0 ≡ 108 → ⊥) → (get_or line 10 0 ≡ 122 → ⊥) → (get_or line 10 0 ≡ 97 → ⊥) → is_some (bare_line line) ≡ true
-by_no_letter line r is t n m h l z a =
+pub by_no_letter : (line : List ℕ) (r : ShortRequest) → short_line (asked_short r) ≡ Some line → (get_or line 10 0 ≡ 116 → ⊥) → (get_or line 10 0 ≡ 110 → ⊥)
+    → (get_or line 10 0 ≡ 109 → ⊥) → (get_or line 10 0 ≡ 104 → ⊥) → (get_or line 10 0 ≡ 122 → ⊥) → is_some (bare_line line) ≡ true
+by_no_letter line r is t n m h z =
     let x = get_or line 10 0 in
-    let other : which x ≡ of_bare = rw (ne_eqb x 116 t, ne_eqb x 110 n, ne_eqb x 109 m, ne_eqb x 104 h, ne_eqb x 108 l, ne_eqb x 122 z, ne_eqb x 97 a) refl in
+    let other : which x ≡ of_bare = rw (ne_eqb x 116 t, ne_eqb x 110 n, ne_eqb x 109 m, ne_eqb x 104 h, ne_eqb x 122 z) refl in
     subst (λ w. Found w line) other (told r line 0 is)
+
+-- the command of a line without members has this line
+pub bare_value : (line : List ℕ) (b : Bare) (s : SessionCommand) → bare_line line ≡ Some b → s ≡ asked_bare b → short_line (request.Session s) ≡ Some line
+bare_value line b s is same = ap (λ x. short_line (request.Session x)) same ∙ bare_found line b is
+
+-- what holds of a request that is read holds of it as it is asked, and back
+pub read_short : (P : Request → Type 0) (o : Option ShortRequest) → IfSome (option_map asked_short o) P → IfSome o (λ r. P (asked_short r))
+read_short P None h = tt
+read_short P (Some r) h = h
+
+pub short_there : (o : Option ShortRequest) → is_some (option_map asked_short o) ≡ true → is_some o ≡ true
+short_there None h = h
+short_there (Some r) h = refl
+
+-- where no other short line is read, those of changes are all that are left
+pub change_left : (line : List ℕ) (read : Result Request Refusal) → ((r : ShortRequest) → short_line (asked_short r) ≡ Some line → ⊥)
+    → ((t : Option (List ℕ)) (x : ChangeRequest) → short_line (request.Change t x) ≡ Some line → read ≡ Ok (request.Change t x))
+    → (r : Request) → short_line r ≡ Some line → read ≡ Ok r
+change_left line read never found (request.Change t x) is = found t x is
+change_left line read never found (request.NumberLookUp t l) is = absurd (never (short.NumberLookUp t l) is)
+change_left line read never found (request.KeyLookUp t l) is = absurd (none-some line is)
+change_left line read never found (request.Session s) is = absurd (never (short.Session s) is)

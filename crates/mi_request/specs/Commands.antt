@@ -1,4 +1,4 @@
--- The table of commands: the members of each, and the change, the look-up or the command over sessions that they are.
+-- The table of commands: the members of each, and the change, the look-up by numbers or by keys, or the command over sessions that they are.
 use Rattle.std.specs.Prelude.{ℕ, List, [], ◌∷◌, Bool, true, false, ◌&&◌, nat_le, if◌then◌else◌}
 use Rattle.std.specs.Prelude.{Option, Some, None, is_some, option_map, option_and_then, codes, bytes_eq}
 use Rattle.std.specs.Option.{option_map_or}
@@ -7,17 +7,19 @@ use Rattle.serde_json.specs.Find.{get_member, as_str, as_array, as_bool, as_obje
 use Rattle.mi_request.specs.Bare.{asked_bare, bare_named}
 use Rattle.mi_request.specs.Json.{has_only, natural, needed, optional, default, option_map₂, option_map₃, option_map₄, option_map₅}
 use Rattle.mi_value.specs.declared.limits.TheConstants.{MAX_PAGE, MAX_RESERVED_CHANGES, MAX_RESERVED_SESSIONS}
-use Rattle.mi_request.specs.declared.command.CommandName.{CommandName}
-use Rattle.mi_request.specs.declared.command.CommandName.TheVariants as name
+use Rattle.mi_request.specs.declared.forms.CommandName.{CommandName}
+use Rattle.mi_request.specs.declared.forms.CommandName.TheVariants as name
 use Rattle.mi_request.specs.declared.keyed.KeyCommand.{KeyCommand}
 use Rattle.mi_request.specs.declared.keyed.KeyCommand.TheVariants as keyed
 use Rattle.mi_request.specs.declared.request.ChangeRequest.{ChangeRequest}
 use Rattle.mi_request.specs.declared.request.ChangeRequest.TheVariants as change
 use Rattle.mi_request.specs.declared.request.End.{End}
 use Rattle.mi_request.specs.declared.request.End.TheVariants.{Open, With, Without}
-use Rattle.mi_request.specs.declared.request.LookUpRequest.{LookUpRequest}
-use Rattle.mi_request.specs.declared.request.LookUpRequest.TheVariants as look_up
+use Rattle.mi_request.specs.declared.request.KeyLookUpRequest.{KeyLookUpRequest}
+use Rattle.mi_request.specs.declared.request.KeyLookUpRequest.TheVariants as by_key
 use Rattle.mi_request.specs.declared.request.NamedPlace.{NamedPlace}
+use Rattle.mi_request.specs.declared.request.NumberLookUpRequest.{NumberLookUpRequest}
+use Rattle.mi_request.specs.declared.request.NumberLookUpRequest.TheVariants as by_number
 use Rattle.mi_request.specs.declared.request.Request.{Request}
 use Rattle.mi_request.specs.declared.request.Request.TheVariants as request
 use Rattle.mi_request.specs.declared.request.SessionCommand.{SessionCommand}
@@ -115,11 +117,12 @@ lower_end d = option_and_then (end_of (codes "ge") (codes "gt")) (as_object d)
 abbrev pub upper_end : Data → Option End
 upper_end d = option_and_then (end_of (codes "le") (codes "lt")) (as_object d)
 
--- what members are: a change of a table, a look-up of one, or a command over sessions; or none where a needed one is missing or one is of
--- another kind
+-- what members are: a change of a table, a look-up of one by numbers or by keys, or a command over sessions; or none where a needed one is
+-- missing or one is of another kind
 pub data Asks : Type 0 where
   a_change : (Members → Option ChangeRequest) → Asks
-  a_look_up : (Members → Option LookUpRequest) → Asks
+  a_number_look_up : (Members → Option NumberLookUpRequest) → Asks
+  a_key_look_up : (Members → Option KeyLookUpRequest) → Asks
   of_sessions : (Members → Option SessionCommand) → Asks
 
 -- a row of the table: the members that a command may have beside `cmd` and `table`, and what they are
@@ -130,7 +133,8 @@ pub record Form : Type 0 where
 -- the names with that of the table, which a change and a look-up may have
 abbrev pub with_table : Asks → List (List ℕ) → List (List ℕ)
 with_table (a_change f) names = codes "table" ∷ names
-with_table (a_look_up f) names = codes "table" ∷ names
+with_table (a_number_look_up f) names = codes "table" ∷ names
+with_table (a_key_look_up f) names = codes "table" ∷ names
 with_table (of_sessions f) names = names
 
 -- all members that a command may have beside `cmd`
@@ -157,7 +161,8 @@ limit_in ms = default MAX_PAGE page (codes "limit") ms
 -- the request that members are
 abbrev pub asked : Asks → Members → Option Request
 asked (a_change f) ms = option_map₂ request.Change (table_in ms) (f ms)
-asked (a_look_up f) ms = option_map₂ request.LookUp (table_in ms) (f ms)
+asked (a_number_look_up f) ms = option_map₂ request.NumberLookUp (table_in ms) (f ms)
+asked (a_key_look_up f) ms = option_map₂ request.KeyLookUp (table_in ms) (f ms)
 asked (of_sessions f) ms = option_map request.Session (f ms)
 
 -- ---- what the members of each command are
@@ -178,21 +183,21 @@ erase_in ms = option_map change.Erase (id_in ms)
 abbrev pub relocate_in : Members → Option ChangeRequest
 relocate_in ms = option_map₃ change.Relocate (index_in ms) (id_in ms) (default None natural_or_null (codes "before") ms)
 
-abbrev pub get_in : Members → Option LookUpRequest
-get_in ms = option_map look_up.Get (id_in ms)
+abbrev pub get_in : Members → Option NumberLookUpRequest
+get_in ms = option_map by_number.Get (id_in ms)
 
-abbrev pub nth_in : Members → Option LookUpRequest
-nth_in ms = option_map₂ look_up.Nth (index_in ms) (needed natural (codes "n") ms)
+abbrev pub nth_in : Members → Option NumberLookUpRequest
+nth_in ms = option_map₂ by_number.Nth (index_in ms) (needed natural (codes "n") ms)
 
-abbrev pub range_in : Members → Option LookUpRequest
-range_in ms = option_map₅ look_up.Range (index_in ms) (default Open lower_end (codes "lower") ms)
+abbrev pub range_in : Members → Option KeyLookUpRequest
+range_in ms = option_map₅ by_key.Range (index_in ms) (default Open lower_end (codes "lower") ms)
     (default Open upper_end (codes "upper") ms) (default false as_bool (codes "reverse") ms) (limit_in ms)
 
-abbrev pub list_in : Members → Option LookUpRequest
-list_in ms = option_map₃ look_up.List (index_in ms) (optional natural (codes "after") ms) (limit_in ms)
+abbrev pub list_in : Members → Option NumberLookUpRequest
+list_in ms = option_map₃ by_number.List (index_in ms) (optional natural (codes "after") ms) (limit_in ms)
 
-abbrev pub rank_in : Members → Option LookUpRequest
-rank_in ms = option_map₂ look_up.Rank (index_in ms) (id_in ms)
+abbrev pub rank_in : Members → Option NumberLookUpRequest
+rank_in ms = option_map₂ by_number.Rank (index_in ms) (id_in ms)
 
 abbrev pub commit_in : Members → Option SessionCommand
 commit_in ms = option_map session.Commit (needed natural (codes "revision") ms)
@@ -204,10 +209,10 @@ reserve_in ms = option_map₂ session.Reserve (needed (up_to MAX_RESERVED_CHANGE
 -- what an index and a key are, of the commands over a key
 abbrev pub asks_key : KeyCommand → Asks
 asks_key keyed.EraseKey = a_change (λ ms. option_map₂ change.EraseKey (index_in ms) (key_in ms))
-asks_key keyed.Find = a_look_up (λ ms. option_map₂ look_up.Find (index_in ms) (key_in ms))
-asks_key keyed.Count = a_look_up (λ ms. option_map₂ look_up.Count (index_in ms) (key_in ms))
-asks_key keyed.LowerRank = a_look_up (λ ms. option_map₂ look_up.LowerRank (index_in ms) (key_in ms))
-asks_key keyed.UpperRank = a_look_up (λ ms. option_map₂ look_up.UpperRank (index_in ms) (key_in ms))
+asks_key keyed.Find = a_key_look_up (λ ms. option_map₂ by_key.Find (index_in ms) (key_in ms))
+asks_key keyed.Count = a_key_look_up (λ ms. option_map₂ by_key.Count (index_in ms) (key_in ms))
+asks_key keyed.LowerRank = a_key_look_up (λ ms. option_map₂ by_key.LowerRank (index_in ms) (key_in ms))
+asks_key keyed.UpperRank = a_key_look_up (λ ms. option_map₂ by_key.UpperRank (index_in ms) (key_in ms))
 
 -- the table of commands
 abbrev pub form_of : CommandName → Form
@@ -220,26 +225,33 @@ form_of name.Relocate = record { members = codes "index" ∷ codes "id" ∷ code
 form_of (name.Bare b) = record { members = []; asks = of_sessions (λ ms. Some (asked_bare b)) }
 form_of name.Commit = record { members = codes "revision" ∷ []; asks = of_sessions commit_in }
 form_of name.Reserve = record { members = codes "changes" ∷ codes "sessions" ∷ []; asks = of_sessions reserve_in }
-form_of name.Get = record { members = codes "id" ∷ []; asks = a_look_up get_in }
-form_of name.Nth = record { members = codes "index" ∷ codes "n" ∷ []; asks = a_look_up nth_in }
+form_of name.Get = record { members = codes "id" ∷ []; asks = a_number_look_up get_in }
+form_of name.Nth = record { members = codes "index" ∷ codes "n" ∷ []; asks = a_number_look_up nth_in }
 form_of name.Range = record {
   members = codes "index" ∷ codes "lower" ∷ codes "upper" ∷ codes "reverse" ∷ codes "limit" ∷ [];
-  asks = a_look_up range_in;
+  asks = a_key_look_up range_in;
 }
-form_of name.List = record { members = codes "index" ∷ codes "after" ∷ codes "limit" ∷ []; asks = a_look_up list_in }
-form_of name.Rank = record { members = codes "index" ∷ codes "id" ∷ []; asks = a_look_up rank_in }
-form_of name.Size = record { members = []; asks = a_look_up (λ ms. Some look_up.Size) }
+form_of name.List = record { members = codes "index" ∷ codes "after" ∷ codes "limit" ∷ []; asks = a_number_look_up list_in }
+form_of name.Rank = record { members = codes "index" ∷ codes "id" ∷ []; asks = a_number_look_up rank_in }
+form_of name.Size = record { members = []; asks = a_number_look_up (λ ms. Some by_number.Size) }
+
+-- a command over sessions that waits while another connection holds some: any but the one that asks the revision
+abbrev pub session_keeps_out : SessionCommand → Bool
+session_keeps_out session.Revision = false
+session_keeps_out other = true
 
 -- a change, a session command or a reserve, which waits while another connection holds sessions: whatever isn't a look-up
 abbrev pub keeps_out : Request → Bool
-keeps_out (request.LookUp table l) = false
-keeps_out (request.Session session.Revision) = false
-keeps_out other = true
+keeps_out (request.Change table c) = true
+keeps_out (request.NumberLookUp table l) = false
+keeps_out (request.KeyLookUp table l) = false
+keeps_out (request.Session s) = session_keeps_out s
 
 -- the member `table` of a request, which those over sessions never have
 abbrev pub table_member : Request → Option (Option (List ℕ))
 table_member (request.Change table c) = Some table
-table_member (request.LookUp table l) = Some table
+table_member (request.NumberLookUp table l) = Some table
+table_member (request.KeyLookUp table l) = Some table
 table_member (request.Session s) = None
 
 -- whether a request names its table

@@ -4,7 +4,7 @@ use Rattle.serde_json.specs.Data.{Items}
 use Rattle.mi_request.specs.declared.keyed.KeyCommand.{KeyCommand}
 use Rattle.mi_request.specs.declared.keyed.KeyCommand.TheVariants as keyed
 use Rattle.mi_request.specs.declared.request.ChangeRequest.TheVariants as change
-use Rattle.mi_request.specs.declared.request.LookUpRequest.TheVariants as look_up
+use Rattle.mi_request.specs.declared.request.KeyLookUpRequest.TheVariants as by_key
 use Rattle.mi_request.specs.declared.request.Request.{Request}
 use Rattle.mi_request.specs.declared.request.Request.TheVariants as request
 
@@ -19,7 +19,7 @@ key_name keyed.UpperRank = codes "upper_rank"
 -- the request that each is
 abbrev pub asked_key : KeyCommand → Option (List ℕ) → List ℕ → Items → Request
 asked_key keyed.EraseKey table index key = request.Change table (change.EraseKey index key)
-asked_key keyed.Find table index key = request.LookUp table (look_up.Find index key)
-asked_key keyed.Count table index key = request.LookUp table (look_up.Count index key)
-asked_key keyed.LowerRank table index key = request.LookUp table (look_up.LowerRank index key)
-asked_key keyed.UpperRank table index key = request.LookUp table (look_up.UpperRank index key)
+asked_key keyed.Find table index key = request.KeyLookUp table (by_key.Find index key)
+asked_key keyed.Count table index key = request.KeyLookUp table (by_key.Count index key)
+asked_key keyed.LowerRank table index key = request.KeyLookUp table (by_key.LowerRank index key)
+asked_key keyed.UpperRank table index key = request.KeyLookUp table (by_key.UpperRank index key)

@@ -5,10 +5,12 @@ use Rattle.std.specs.Prelude.{Option, Some, None, option_map, option_and_then, c
 use Rattle.std.specs.List.{list_all}
 use Rattle.mi_request.specs.Bare.{bare_of, bare_name}
 use Rattle.mi_request.specs.declared.request.ChangeRequest.TheVariants as change
-use Rattle.mi_request.specs.declared.request.LookUpRequest.TheVariants as look_up
+use Rattle.mi_request.specs.declared.request.NumberLookUpRequest.TheVariants as by_number
 use Rattle.mi_request.specs.declared.request.Request.{Request}
 use Rattle.mi_request.specs.declared.request.Request.TheVariants as request
 use Rattle.mi_request.specs.declared.request.SessionCommand.TheVariants as session
+use Rattle.mi_request.specs.declared.request.ShortRequest.{ShortRequest}
+use Rattle.mi_request.specs.declared.request.ShortRequest.TheVariants as short
 
 -- what a member is: a name of a table or an index, or a whole number; each that must be there, or that may be absent
 pub data Word : Type 0 where
@@ -87,11 +89,11 @@ id_is id = (codes "id", whole id)
 
 -- the command and the members of a request that has such a line. Other requests have none
 abbrev pub words_of : Request → Option (List ℕ × List Member)
-words_of (request.LookUp table (look_up.Get id)) = Some (codes "get", table_is table ∷ id_is id ∷ [])
+words_of (request.NumberLookUp table (by_number.Get id)) = Some (codes "get", table_is table ∷ id_is id ∷ [])
 words_of (request.Change table (change.Erase id)) = Some (codes "erase", table_is table ∷ id_is id ∷ [])
-words_of (request.LookUp table look_up.Size) = Some (codes "size", table_is table ∷ [])
-words_of (request.LookUp table (look_up.Rank index id)) = Some (codes "rank", table_is table ∷ index_is index ∷ id_is id ∷ [])
-words_of (request.LookUp table (look_up.Nth index n)) = Some (codes "nth", table_is table ∷ index_is index ∷ (codes "n", whole n) ∷ [])
+words_of (request.NumberLookUp table by_number.Size) = Some (codes "size", table_is table ∷ [])
+words_of (request.NumberLookUp table (by_number.Rank index id)) = Some (codes "rank", table_is table ∷ index_is index ∷ id_is id ∷ [])
+words_of (request.NumberLookUp table (by_number.Nth index n)) = Some (codes "nth", table_is table ∷ index_is index ∷ (codes "n", whole n) ∷ [])
 words_of (request.Change table (change.Relocate index id before)) =
     Some (codes "relocate", table_is table ∷ index_is index ∷ id_is id ∷ (codes "before", maybe_whole before) ∷ [])
 words_of (request.Session (session.Commit revision)) = Some (codes "commit", (codes "revision", whole revision) ∷ [])
@@ -105,3 +107,8 @@ written line = if are_words line.1 then Some (line_text line.0 line.1) else None
 -- how a request is written without spaces and without escapes, with `cmd` first
 abbrev pub short_line : Request → Option (List ℕ)
 short_line r = option_and_then written (words_of r)
+
+-- the request that is read of such a line where it is no change
+abbrev pub asked_short : ShortRequest → Request
+asked_short (short.NumberLookUp table l) = request.NumberLookUp table l
+asked_short (short.Session s) = request.Session s

@@ -21,7 +21,7 @@ use crate::keyed::KeyCommand;
 use crate::name::Name;
 use crate::object::Object;
 use crate::reading::{if_page, natural_of};
-use crate::request::{ChangeRequest, End, LookUpRequest, Request};
+use crate::request::{ChangeRequest, End, KeyLookUpRequest, Request};
 use crate::text::text_of;
 use bumpalo::Bump;
 use mi_tokens::{Json, Tokens, pass_object, pass_one};
@@ -233,9 +233,9 @@ pub(crate) fn range<'a>(arena: &'a Bump, text: &'a str) -> Option<Request<'a>>
     if !tokens.take_end() {
         return None;
     }
-    Some(Request::LookUp {
+    Some(Request::KeyLookUp {
         table,
-        look_up: LookUpRequest::Range {
+        look_up: KeyLookUpRequest::Range {
             index,
             lower,
             upper: End::Open,

@@ -1,21 +1,120 @@
-//! What each command's members are. It knows the table of commands and no catalog. Each form is a call of its own, so that no other form's
-//! fields are moved with what it is.
-ghost use Rattle.std.specs.Prelude.{◌≡◌};
+//! The table of commands: their names, the members that each may have, and what these are. It knows no catalog. Each form is a call of its
+//! own, so that no other form's fields are moved with what it is.
+ghost use Rattle.std.specs.Prelude.{◌≡◌, ◌∷◌, codes};
 ghost use Rattle.mi_request.specs.Commands as commands;
-ghost use Rattle.mi_request.specs.Commands.{form_of, asks_key, asked, table_in};
-ghost use Rattle.mi_request.specs.Json.{option_map₂};
+ghost use Rattle.mi_request.specs.Commands.{look_up_named, step_named, command_named, form_of, member_names, asks_key, asked, table_in};
+ghost use Rattle.mi_request.specs.Json.{has_only, option_map₂};
 ghost use Rattle.mi_request.specs.Lines as lines;
 ghost use Rattle.mi_request.specs.declared.request.Request.TheVariants as request;
 
-use crate::command::CommandName;
+use crate::bare::Bare;
 use crate::keyed::KeyCommand;
 use crate::object::Object;
 use crate::reading::{
     array, end, flag, natural, natural_if_there, natural_or_absent, object, object_or_empty, page,
     place, text, text_if_there, up_to,
 };
-use crate::request::{ChangeRequest, LookUpRequest, Request, SessionCommand};
+use crate::request::{
+    ChangeRequest, KeyLookUpRequest, NumberLookUpRequest, Request, SessionCommand,
+};
 use mi_value::limits::{MAX_RESERVED_CHANGES, MAX_RESERVED_SESSIONS};
+
+/// The commands.
+#[derive(Clone, Copy)]
+pub(crate) enum CommandName {
+    Insert,
+    Replace,
+    Modify,
+    Erase,
+    Relocate,
+    Get,
+    Nth,
+    Range,
+    List,
+    Rank,
+    Size,
+    Commit,
+    Reserve,
+    /// One over a key of an index.
+    Keyed(KeyCommand),
+    /// One without members.
+    Bare(Bare),
+}
+
+/// The session command with members or reserve of a name, or else the command without members, or none.
+#[tactic(auto, unfolding(crate::specs::Commands::step_named))]
+fn step_of(text: &str) -> Option<CommandName>
+    ensures { result ≡ step_named text.now }
+{
+    match text {
+        "commit" => Some(CommandName::Commit),
+        "reserve" => Some(CommandName::Reserve),
+        _ => Some(CommandName::Bare(Bare::of(text)?)),
+    }
+}
+
+/// The look-up of a table of a name, or else its step, or none.
+#[tactic(auto, unfolding(crate::specs::Commands::look_up_named))]
+fn look_up_of(text: &str) -> Option<CommandName>
+    ensures { result ≡ look_up_named text.now }
+{
+    match text {
+        "get" => Some(CommandName::Get),
+        "find" => Some(CommandName::Keyed(KeyCommand::Find)),
+        "nth" => Some(CommandName::Nth),
+        "count" => Some(CommandName::Keyed(KeyCommand::Count)),
+        "range" => Some(CommandName::Range),
+        "list" => Some(CommandName::List),
+        "rank" => Some(CommandName::Rank),
+        "lower_rank" => Some(CommandName::Keyed(KeyCommand::LowerRank)),
+        "upper_rank" => Some(CommandName::Keyed(KeyCommand::UpperRank)),
+        "size" => Some(CommandName::Size),
+        _ => step_of(text),
+    }
+}
+
+impl CommandName {
+    /// The command of a name, or none.
+    pub(crate) fn of(text: &str) -> Option<CommandName>
+        ensures { result ≡ command_named text.now }
+    {
+        match text {
+            "insert" => Some(CommandName::Insert),
+            "replace" => Some(CommandName::Replace),
+            "modify" => Some(CommandName::Modify),
+            "erase" => Some(CommandName::Erase),
+            "erase_key" => Some(CommandName::Keyed(KeyCommand::EraseKey)),
+            "relocate" => Some(CommandName::Relocate),
+            _ => look_up_of(text),
+        }
+    }
+
+    /// Whether an object has no other members than it may have, `cmd` among them. Each form's names are compared in place.
+    pub(crate) fn allows(self, object: &Object<'_>) -> bool
+        ensures { result ≡ has_only (codes "cmd" ∷ member_names (form_of self)) object.now }
+    {
+        match self {
+            CommandName::Insert => object.has_only(&["cmd", "table", "row", "before"]),
+            CommandName::Replace => object.has_only(&["cmd", "table", "id", "row"]),
+            CommandName::Modify => {
+                object.has_only(&["cmd", "table", "id", "set", "add", "rollback"])
+            }
+            CommandName::Erase | CommandName::Get => object.has_only(&["cmd", "table", "id"]),
+            CommandName::Keyed(_) => object.has_only(&["cmd", "table", "index", "key"]),
+            CommandName::Relocate => object.has_only(&["cmd", "table", "index", "id", "before"]),
+            CommandName::Nth => object.has_only(&["cmd", "table", "index", "n"]),
+            CommandName::Range => object.has_only(&[
+                "cmd", "table", "index", "lower", "upper", "reverse", "limit",
+            ]),
+            CommandName::List => object.has_only(&["cmd", "table", "index", "after", "limit"]),
+            CommandName::Rank => object.has_only(&["cmd", "table", "index", "id"]),
+            CommandName::Size => object.has_only(&["cmd", "table"]),
+            CommandName::Commit => object.has_only(&["cmd", "revision"]),
+            CommandName::Reserve => object.has_only(&["cmd", "changes", "sessions"]),
+            CommandName::Bare(_) => object.has_only(&["cmd"]),
+        }
+    }
+}
 
 #[inline(never)]
 fn insert_in<'a>(members: &Object<'a>) -> Option<ChangeRequest<'a>>
@@ -87,24 +186,24 @@ fn reserve_in(members: &Object<'_>) -> Option<SessionCommand>
 }
 
 #[inline(never)]
-fn get_in<'a>(members: &Object<'a>) -> Option<LookUpRequest<'a>>
+fn get_in<'a>(members: &Object<'a>) -> Option<NumberLookUpRequest<'a>>
     ensures { result ≡ commands.get_in members.now }
 {
     let id = natural(members, "id")?;
-    Some(LookUpRequest::Get { id })
+    Some(NumberLookUpRequest::Get { id })
 }
 
 #[inline(never)]
-fn nth_in<'a>(members: &Object<'a>) -> Option<LookUpRequest<'a>>
+fn nth_in<'a>(members: &Object<'a>) -> Option<NumberLookUpRequest<'a>>
     ensures { result ≡ commands.nth_in members.now }
 {
     let index = text(members, "index")?;
     let n = natural(members, "n")?;
-    Some(LookUpRequest::Nth { index, n })
+    Some(NumberLookUpRequest::Nth { index, n })
 }
 
 #[inline(never)]
-fn range_in<'a>(members: &Object<'a>) -> Option<LookUpRequest<'a>>
+fn range_in<'a>(members: &Object<'a>) -> Option<KeyLookUpRequest<'a>>
     ensures { result ≡ commands.range_in members.now }
 {
     let index = text(members, "index")?;
@@ -112,7 +211,7 @@ fn range_in<'a>(members: &Object<'a>) -> Option<LookUpRequest<'a>>
     let upper = end(members, "upper", "le", "lt")?;
     let reverse = flag(members, "reverse")?;
     let limit = page(members, "limit")?;
-    Some(LookUpRequest::Range {
+    Some(KeyLookUpRequest::Range {
         index,
         lower,
         upper,
@@ -122,13 +221,13 @@ fn range_in<'a>(members: &Object<'a>) -> Option<LookUpRequest<'a>>
 }
 
 #[inline(never)]
-fn list_in<'a>(members: &Object<'a>) -> Option<LookUpRequest<'a>>
+fn list_in<'a>(members: &Object<'a>) -> Option<NumberLookUpRequest<'a>>
     ensures { result ≡ commands.list_in members.now }
 {
     let index = text(members, "index")?;
     let after = natural_or_absent(members, "after")?;
     let limit = page(members, "limit")?;
-    Some(LookUpRequest::List {
+    Some(NumberLookUpRequest::List {
         index,
         after,
         limit,
@@ -136,12 +235,12 @@ fn list_in<'a>(members: &Object<'a>) -> Option<LookUpRequest<'a>>
 }
 
 #[inline(never)]
-fn rank_in<'a>(members: &Object<'a>) -> Option<LookUpRequest<'a>>
+fn rank_in<'a>(members: &Object<'a>) -> Option<NumberLookUpRequest<'a>>
     ensures { result ≡ commands.rank_in members.now }
 {
     let index = text(members, "index")?;
     let id = natural(members, "id")?;
-    Some(LookUpRequest::Rank { index, id })
+    Some(NumberLookUpRequest::Rank { index, id })
 }
 
 /// A command over a key of the table and the index that the members name.
@@ -164,13 +263,28 @@ fn change_of<'a>(members: &Object<'a>, change: Option<ChangeRequest<'a>>) -> Opt
     Some(Request::Change { table, change })
 }
 
-/// A look-up, if there is one, of the table that the members name.
-fn look_up_of<'a>(members: &Object<'a>, look_up: Option<LookUpRequest<'a>>) -> Option<Request<'a>>
-    ensures { result ≡ option_map₂ request.LookUp (table_in members.now) look_up.entry }
+/// A look-up by numbers, if there is one, of the table that the members name.
+fn number_look_up_of<'a>(
+    members: &Object<'a>,
+    look_up: Option<NumberLookUpRequest<'a>>,
+) -> Option<Request<'a>>
+    ensures { result ≡ option_map₂ request.NumberLookUp (table_in members.now) look_up.entry }
 {
     let table = text_if_there(members, "table")?;
     let look_up = look_up?;
-    Some(Request::LookUp { table, look_up })
+    Some(Request::NumberLookUp { table, look_up })
+}
+
+/// A look-up by keys, if there is one, of the table that the members name.
+fn key_look_up_of<'a>(
+    members: &Object<'a>,
+    look_up: Option<KeyLookUpRequest<'a>>,
+) -> Option<Request<'a>>
+    ensures { result ≡ option_map₂ request.KeyLookUp (table_in members.now) look_up.entry }
+{
+    let table = text_if_there(members, "table")?;
+    let look_up = look_up?;
+    Some(Request::KeyLookUp { table, look_up })
 }
 
 /// The request that the members of a command are.
@@ -190,11 +304,11 @@ pub(crate) fn request_by<'a>(name: CommandName, members: &Object<'a>) -> Option<
         CommandName::Bare(bare) => Some(Request::Session(bare.command())),
         CommandName::Commit => Some(Request::Session(commit_in(members)?)),
         CommandName::Reserve => Some(Request::Session(reserve_in(members)?)),
-        CommandName::Get => look_up_of(members, get_in(members)),
-        CommandName::Nth => look_up_of(members, nth_in(members)),
-        CommandName::Range => look_up_of(members, range_in(members)),
-        CommandName::List => look_up_of(members, list_in(members)),
-        CommandName::Rank => look_up_of(members, rank_in(members)),
-        CommandName::Size => look_up_of(members, Some(LookUpRequest::Size)),
+        CommandName::Get => number_look_up_of(members, get_in(members)),
+        CommandName::Nth => number_look_up_of(members, nth_in(members)),
+        CommandName::Range => key_look_up_of(members, range_in(members)),
+        CommandName::List => number_look_up_of(members, list_in(members)),
+        CommandName::Rank => number_look_up_of(members, rank_in(members)),
+        CommandName::Size => number_look_up_of(members, Some(NumberLookUpRequest::Size)),
     }
 }

@@ -4,7 +4,7 @@ ghost use Rattle.mi_request.specs.Keyed.{asked_key};
 
 use crate::array::Array;
 use crate::name::Name;
-use crate::request::{ChangeRequest, LookUpRequest, Request};
+use crate::request::{ChangeRequest, KeyLookUpRequest, Request};
 
 /// A command over a key of an index.
 #[derive(Clone, Copy)]
@@ -33,20 +33,20 @@ impl KeyCommand {
                 Request::Change { table, change }
             }
             KeyCommand::Find => {
-                let look_up = LookUpRequest::Find { index, key };
-                Request::LookUp { table, look_up }
+                let look_up = KeyLookUpRequest::Find { index, key };
+                Request::KeyLookUp { table, look_up }
             }
             KeyCommand::Count => {
-                let look_up = LookUpRequest::Count { index, key };
-                Request::LookUp { table, look_up }
+                let look_up = KeyLookUpRequest::Count { index, key };
+                Request::KeyLookUp { table, look_up }
             }
             KeyCommand::LowerRank => {
-                let look_up = LookUpRequest::LowerRank { index, key };
-                Request::LookUp { table, look_up }
+                let look_up = KeyLookUpRequest::LowerRank { index, key };
+                Request::KeyLookUp { table, look_up }
             }
             KeyCommand::UpperRank => {
-                let look_up = LookUpRequest::UpperRank { index, key };
-                Request::LookUp { table, look_up }
+                let look_up = KeyLookUpRequest::UpperRank { index, key };
+                Request::KeyLookUp { table, look_up }
             }
         }
     }

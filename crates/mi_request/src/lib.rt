@@ -4,7 +4,6 @@
 
 mod array;
 mod bare;
-mod command;
 mod flat;
 mod forms;
 mod keyed;
@@ -24,4 +23,7 @@ pub use line_reader::LineReader;
 pub use mi_tokens::Json;
 pub use name::Name;
 pub use object::Object;
-pub use request::{ChangeRequest, End, LookUpRequest, NamedPlace, Request, SessionCommand};
+pub use request::{
+    ChangeRequest, End, KeyLookUpRequest, NamedPlace, NumberLookUpRequest, Request, SessionCommand,
+    ShortRequest,
+};

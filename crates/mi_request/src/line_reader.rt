@@ -1,16 +1,16 @@
 //! Lines to requests, with memory that is kept from line to line: an arena for arrays and objects, and the value of a line that
 //! `serde_json` read.
-ghost use Rattle.std.specs.Prelude.{◌≡◌, codes, Some, Ok, IfErr};
+ghost use Rattle.std.specs.Prelude.{◌≡◌, ℕ, List, Option, Some, Ok, IfErr};
 ghost use Rattle.mi_request.specs.Answers.{IsAnswer, NamesNoIndex};
 ghost use Rattle.mi_request.specs.Lines.{command_line};
 ghost use Rattle.mi_request.specs.Short.{short_line};
+ghost use Rattle.mi_request.specs.declared.request.ChangeRequest.{ChangeRequest as AskedChange};
 ghost use Rattle.mi_request.specs.declared.request.Request.{Request as Asked};
 ghost use Rattle.mi_request.specs.declared.request.Request.TheVariants as request;
 
-use crate::bare::Bare;
 use crate::flat::{Flat, flat_of, insert, keyed, modify, range, replace};
-use crate::request::{Request, SessionCommand, request_of};
-use crate::short::short_of;
+use crate::request::{Request, ShortRequest, request_of};
+use crate::short::short_change;
 use crate::value::read_value;
 use bumpalo::Bump;
 use mi_value::Refusal;
@@ -64,9 +64,10 @@ impl LineReader {
         }
     }
 
-    /// The request that a line is, whatever its length. The flat readers stand in line here, so that an answer is made where it is wanted.
+    /// The request that a line is, by its members one behind another or as any value. The flat readers stand in line here, so that an answer is
+    /// made where it is wanted.
     #[inline(never)]
-    fn read<'a>(&'a mut self, line: &'a [u8]) -> Result<Request<'a>, Refusal>
+    fn read_members<'a>(&'a mut self, line: &'a [u8]) -> Result<Request<'a>, Refusal>
         ensures answer { IsAnswer result (command_line line.now) }
         ensures refusal { IfErr result NamesNoIndex }
     {
@@ -96,22 +97,29 @@ impl LineReader {
         read_any(alloc, arena, &mut self.value, line)
     }
 
+    /// The request that a line is, as `parse` answers it. It is for lines that `ShortRequest::of` doesn't read: any other short line but that
+    /// of a change may take memory here.
+    pub fn read<'a>(&'a mut self, line: &'a [u8]) -> Result<Request<'a>, Refusal>
+        ensures answer { IsAnswer result (command_line line.now) }
+        ensures refusal { IfErr result NamesNoIndex }
+        ensures short { (t : Option (List ℕ)) (x : AskedChange) → short_line (request.Change t x) ≡ Some line.now → result ≡ Ok (request.Change t x) }
+    {
+        match short_change(line) {
+            Some(request) => Ok(request),
+            None => self.read_members(line),
+        }
+    }
+
     /// The request that a line, without its newline, is. Its names and values are borrowed from the line and from this reader.
     /// Refusals: `Json` where the bytes are not UTF-8 or no JSON, `Form` where the value is no command, and `Memory`. A line whose members
-    /// are names and whole numbers, written as `short_line` says, takes no memory: so `{"cmd":"undo"}`, byte for byte. In line its caller has
-    /// the request where it is read.
-    #[inline(always)]
+    /// are names and whole numbers, written as `short_line` says, takes no memory: so `{"cmd":"undo"}`, byte for byte.
     pub fn parse<'a>(&'a mut self, line: &'a [u8]) -> Result<Request<'a>, Refusal>
         ensures answer { IsAnswer result (command_line line.now) }
         ensures refusal { IfErr result NamesNoIndex }
-        ensures undo { line.now ≡ codes "{\"cmd\":\"undo\"}" → result ≡ Ok (request.Session SessionCommand.Undo) }
         ensures short { (r : Asked) → short_line r ≡ Some line.now → result ≡ Ok r }
     {
-        if let Some(bare) = Bare::of_line(line) {
-            return Ok(Request::Session(bare.command()));
-        }
-        match short_of(line) {
-            Some(request) => Ok(request),
+        match ShortRequest::of(line) {
+            Some(short) => Ok(short.request()),
             None => self.read(line),
         }
     }

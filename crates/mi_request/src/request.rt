@@ -3,13 +3,12 @@ ghost use Rattle.std.specs.Prelude.{◌≡◌, codes, option_and_then};
 ghost use Rattle.serde_json.specs.Find.{as_str};
 ghost use Rattle.mi_tokens.specs.Meaning.{meaning};
 ghost use Rattle.mi_request.specs.Commands as commands;
-ghost use Rattle.mi_request.specs.Commands.{command_named};
+ghost use Rattle.mi_request.specs.Commands.{command_named, session_keeps_out};
 ghost use Rattle.mi_request.specs.Json.{needed};
 ghost use Rattle.mi_request.specs.Lines as lines;
 
 use crate::array::Array;
-use crate::command::CommandName;
-use crate::forms::request_by;
+use crate::forms::{CommandName, request_by};
 use crate::name::Name;
 use crate::object::Object;
 use crate::reading::object_of;
@@ -63,19 +62,35 @@ pub enum ChangeRequest<'a> {
     },
 }
 
-/// A look-up of a table as it is asked.
+/// A look-up by numbers alone, of a table as it is asked: ids, ranks and how many rows.
 #[derive(Drop)]
-pub enum LookUpRequest<'a> {
+pub enum NumberLookUpRequest<'a> {
     Get {
         id: u64,
-    },
-    Find {
-        index: Name<'a>,
-        key: Array<'a>,
     },
     Nth {
         index: Name<'a>,
         n: u64,
+    },
+    /// At most `limit` rows, 1 to 1,000, behind the record `after` or from the first.
+    List {
+        index: Name<'a>,
+        after: Option<u64>,
+        limit: usize,
+    },
+    Rank {
+        index: Name<'a>,
+        id: u64,
+    },
+    Size,
+}
+
+/// A look-up by keys, of a table as it is asked.
+#[derive(Drop)]
+pub enum KeyLookUpRequest<'a> {
+    Find {
+        index: Name<'a>,
+        key: Array<'a>,
     },
     Count {
         index: Name<'a>,
@@ -89,16 +104,6 @@ pub enum LookUpRequest<'a> {
         reverse: bool,
         limit: usize,
     },
-    /// At most `limit` rows, 1 to 1,000, behind the record `after` or from the first.
-    List {
-        index: Name<'a>,
-        after: Option<u64>,
-        limit: usize,
-    },
-    Rank {
-        index: Name<'a>,
-        id: u64,
-    },
     LowerRank {
         index: Name<'a>,
         key: Array<'a>,
@@ -107,7 +112,6 @@ pub enum LookUpRequest<'a> {
         index: Name<'a>,
         key: Array<'a>,
     },
-    Size,
 }
 
 /// A command over sessions, whatever the tables: what it asks is what it does.
@@ -125,6 +129,15 @@ pub enum SessionCommand {
     Revision,
 }
 
+impl SessionCommand {
+    /// Whether it waits while another connection holds sessions: any but the one that asks the revision.
+    pub fn keeps_out(self) -> bool
+        ensures { result ≡ session_keeps_out self }
+    {
+        !matches!(self, SessionCommand::Revision)
+    }
+}
+
 /// A command as it is asked, whatever the catalog. An absent `table` is the first.
 #[derive(Drop)]
 pub enum Request<'a> {
@@ -132,9 +145,13 @@ pub enum Request<'a> {
         table: Option<Name<'a>>,
         change: ChangeRequest<'a>,
     },
-    LookUp {
+    NumberLookUp {
         table: Option<Name<'a>>,
-        look_up: LookUpRequest<'a>,
+        look_up: NumberLookUpRequest<'a>,
+    },
+    KeyLookUp {
+        table: Option<Name<'a>>,
+        look_up: KeyLookUpRequest<'a>,
     },
     Session(SessionCommand),
 }
@@ -144,11 +161,22 @@ impl<'a> Request<'a> {
     pub fn keeps_out(&self) -> bool
         ensures { result ≡ commands.keeps_out self.now }
     {
-        !matches!(
-            self,
-            Request::LookUp { .. } | Request::Session(SessionCommand::Revision)
-        )
+        match self {
+            Request::Change { .. } => true,
+            Request::NumberLookUp { .. } | Request::KeyLookUp { .. } => false,
+            Request::Session(command) => command.keeps_out(),
+        }
     }
+}
+
+/// A request of numbers and names alone that changes no record, as a short line asks it. It is small: so it stays in registers on its way.
+#[derive(Drop)]
+pub enum ShortRequest<'a> {
+    NumberLookUp {
+        table: Option<Name<'a>>,
+        look_up: NumberLookUpRequest<'a>,
+    },
+    Session(SessionCommand),
 }
 
 /// The command that `cmd` names.

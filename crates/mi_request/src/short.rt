@@ -1,12 +1,14 @@
 //! Lines whose members are names and whole numbers, read where they stand as they are written without spaces. It takes no memory.
-ghost use Rattle.std.specs.Prelude.{◌≡◌, ◌∷◌, [], ℕ, List, IfSome, IsSome, Some, None, codes, option_map};
+ghost use Rattle.std.specs.Prelude.{◌≡◌, ◌∷◌, [], ℕ, List, IfSome, IsSome, is_some, Option, Some, codes, option_map};
 ghost use Rattle.mi_request.specs.Bare.{bare_line};
-ghost use Rattle.mi_request.specs.Short.{short_line, table_is, index_is, id_is, whole, whole_front};
+ghost use Rattle.mi_request.specs.Short.{short_line, asked_short, table_is, index_is, id_is, whole, whole_front};
 ghost use Rattle.mi_request.specs.ShortCode.{IsRead, read_members, a_name, perhaps_name, a_whole, perhaps_whole};
-ghost use Rattle.mi_request.specs.declared.request.Request.{Request as Asked};
+ghost use Rattle.mi_request.specs.declared.request.ChangeRequest.{ChangeRequest as AskedChange};
+ghost use Rattle.mi_request.specs.declared.request.Request.TheVariants as request;
 
+use crate::bare::Bare;
 use crate::name::Name;
-use crate::request::{ChangeRequest, LookUpRequest, Request, SessionCommand};
+use crate::request::{ChangeRequest, NumberLookUpRequest, Request, SessionCommand, ShortRequest};
 use crate::words::{
     behind, is_end, maybe_name_behind, maybe_whole_behind, name_behind, whole_behind,
 };
@@ -62,14 +64,14 @@ fn number_of<'a>(front: &[u8], text: &'a [u8]) -> Option<NumberIn<'a>>
 }
 
 /// The line of a look-up by id.
-#[inline(never)]
-fn get(line: &[u8]) -> Option<Request<'_>>
-    ensures { IsRead (codes "get") ((codes "table", perhaps_name) ∷ (codes "id", a_whole) ∷ []) line.now result }
+#[inline(always)]
+fn get(line: &[u8]) -> Option<ShortRequest<'_>>
+    ensures { IsRead (codes "get") ((codes "table", perhaps_name) ∷ (codes "id", a_whole) ∷ []) line.now (option_map asked_short result) }
 {
     let members = record_of(behind(b"{\"cmd\":\"get\"".as_slice(), line)?)?;
-    Some(Request::LookUp {
+    Some(ShortRequest::NumberLookUp {
         table: members.table,
-        look_up: LookUpRequest::Get { id: members.id },
+        look_up: NumberLookUpRequest::Get { id: members.id },
     })
 }
 
@@ -86,15 +88,15 @@ fn erase(line: &[u8]) -> Option<Request<'_>>
 }
 
 /// The line that asks a record's rank.
-#[inline(never)]
-fn rank(line: &[u8]) -> Option<Request<'_>>
-    ensures { IsRead (codes "rank") ((codes "table", perhaps_name) ∷ (codes "index", a_name) ∷ (codes "id", a_whole) ∷ []) line.now result }
+#[inline(always)]
+fn rank(line: &[u8]) -> Option<ShortRequest<'_>>
+    ensures { IsRead (codes "rank") ((codes "table", perhaps_name) ∷ (codes "index", a_name) ∷ (codes "id", a_whole) ∷ []) line.now (option_map asked_short result) }
 {
     let rest = behind(b"{\"cmd\":\"rank\"".as_slice(), line)?;
     let members = number_of(b",\"id\":".as_slice(), rest)?;
-    Some(Request::LookUp {
+    Some(ShortRequest::NumberLookUp {
         table: members.table,
-        look_up: LookUpRequest::Rank {
+        look_up: NumberLookUpRequest::Rank {
             index: members.index,
             id: members.n,
         },
@@ -102,15 +104,15 @@ fn rank(line: &[u8]) -> Option<Request<'_>>
 }
 
 /// The line that asks the record of a rank.
-#[inline(never)]
-fn nth(line: &[u8]) -> Option<Request<'_>>
-    ensures { IsRead (codes "nth") ((codes "table", perhaps_name) ∷ (codes "index", a_name) ∷ (codes "n", a_whole) ∷ []) line.now result }
+#[inline(always)]
+fn nth(line: &[u8]) -> Option<ShortRequest<'_>>
+    ensures { IsRead (codes "nth") ((codes "table", perhaps_name) ∷ (codes "index", a_name) ∷ (codes "n", a_whole) ∷ []) line.now (option_map asked_short result) }
 {
     let rest = behind(b"{\"cmd\":\"nth\"".as_slice(), line)?;
     let members = number_of(b",\"n\":".as_slice(), rest)?;
-    Some(Request::LookUp {
+    Some(ShortRequest::NumberLookUp {
         table: members.table,
-        look_up: LookUpRequest::Nth {
+        look_up: NumberLookUpRequest::Nth {
             index: members.index,
             n: members.n,
         },
@@ -118,16 +120,16 @@ fn nth(line: &[u8]) -> Option<Request<'_>>
 }
 
 /// The line that asks a table's size.
-#[inline(never)]
-fn size(line: &[u8]) -> Option<Request<'_>>
-    ensures { IsRead (codes "size") ((codes "table", perhaps_name) ∷ []) line.now result }
+#[inline(always)]
+fn size(line: &[u8]) -> Option<ShortRequest<'_>>
+    ensures { IsRead (codes "size") ((codes "table", perhaps_name) ∷ []) line.now (option_map asked_short result) }
 {
     let rest = behind(b"{\"cmd\":\"size\"".as_slice(), line)?;
     let (table, rest) = maybe_name_behind(b",\"table\":\"".as_slice(), rest)?;
     if is_end(rest) {
-        Some(Request::LookUp {
+        Some(ShortRequest::NumberLookUp {
             table,
-            look_up: LookUpRequest::Size,
+            look_up: NumberLookUpRequest::Size,
         })
     } else {
         None
@@ -135,14 +137,14 @@ fn size(line: &[u8]) -> Option<Request<'_>>
 }
 
 /// The line of a commit.
-#[inline(never)]
-fn commit(line: &[u8]) -> Option<Request<'_>>
-    ensures { IsRead (codes "commit") ((codes "revision", a_whole) ∷ []) line.now result }
+#[inline(always)]
+fn commit(line: &[u8]) -> Option<ShortRequest<'_>>
+    ensures { IsRead (codes "commit") ((codes "revision", a_whole) ∷ []) line.now (option_map asked_short result) }
 {
     let rest = behind(b"{\"cmd\":\"commit\"".as_slice(), line)?;
     let (revision, rest) = whole_behind(b",\"revision\":".as_slice(), rest)?;
     if is_end(rest) {
-        Some(Request::Session(SessionCommand::Commit { revision }))
+        Some(ShortRequest::Session(SessionCommand::Commit { revision }))
     } else {
         None
     }
@@ -169,24 +171,66 @@ fn relocate(line: &[u8]) -> Option<Request<'_>>
     }
 }
 
-/// The request of a line that is written as `short_line` writes it, where its command may have members; none of any other line. The
-/// third letter of the command's name tells which it can be.
+/// The command without members that a line is.
 #[inline(always)]
-pub(crate) fn short_of(line: &[u8]) -> Option<Request<'_>>
+fn without_members(line: &[u8]) -> Option<ShortRequest<'_>>
+    ensures value { IfSome result (λ r. short_line (asked_short r) ≡ Some line.now) }
+    ensures whole { is_some result ≡ is_some (bare_line line.now) }
+{
+    let found = Bare::of_line(line)?;
+    Some(ShortRequest::Session(found.command()))
+}
+
+/// The request of a line that is written as `short_line` writes it, where it is a change; none of any other line.
+#[inline(always)]
+pub(crate) fn short_change(line: &[u8]) -> Option<Request<'_>>
     ensures value { IfSome result (λ r. short_line r ≡ Some line.now) }
-    ensures whole { (r : Asked) → bare_line line.now ≡ None → short_line r ≡ Some line.now → IsSome result }
+    ensures whole { (t : Option (List ℕ)) (x : AskedChange) → short_line (request.Change t x) ≡ Some line.now → IsSome result }
 {
     if line.len() <= LETTER_AT {
         return None;
     }
     match line[LETTER_AT] {
-        b't' => get(line),
-        b'n' => rank(line),
-        b'm' => commit(line),
-        b'h' => nth(line),
         b'l' => relocate(line),
-        b'z' => size(line),
         b'a' => erase(line),
         _ => None,
+    }
+}
+
+impl<'a> ShortRequest<'a> {
+    ghost use Rattle.std.specs.Prelude.{◌≡◌, IfSome, IsSome, Some};
+    ghost use Rattle.mi_request.specs.Short.{short_line, asked_short};
+    ghost use Rattle.mi_request.specs.declared.request.ShortRequest.{ShortRequest as Short};
+
+    /// The request of a line that is written as `short_line` writes it, where it is no change; none of any other line. It takes no memory.
+    /// The third letter of the command's name tells which it can be. The readers stand in line, so that what they read is in registers.
+    #[inline(always)]
+    pub fn of(line: &'a [u8]) -> Option<ShortRequest<'a>>
+        ensures value { IfSome result (λ r. short_line (asked_short r) ≡ Some line.now) }
+        ensures whole { (r : Short) → short_line (asked_short r) ≡ Some line.now → IsSome result }
+    {
+        if line.len() <= LETTER_AT {
+            return None;
+        }
+        match line[LETTER_AT] {
+            b't' => get(line),
+            b'n' => rank(line),
+            b'm' => commit(line),
+            b'h' => nth(line),
+            b'z' => size(line),
+            _ => without_members(line),
+        }
+    }
+
+    /// The same request.
+    pub(crate) fn request(self) -> Request<'a>
+        ensures { result ≡ asked_short self.entry }
+    {
+        match self {
+            ShortRequest::NumberLookUp { table, look_up } => {
+                Request::NumberLookUp { table, look_up }
+            }
+            ShortRequest::Session(command) => Request::Session(command),
+        }
     }
 }

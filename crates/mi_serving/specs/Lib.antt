@@ -1,6 +1,7 @@
 -- To be read in this order, behind those of mi_clients.
-pub mod Turns
 pub mod Link
+pub mod Overflow
+pub mod Turns
 pub mod Events
 pub mod JournalFile
 pub mod Device

@@ -36,9 +36,9 @@ impl<'a, C: Clock> Patience<'a, C> {
         }
     }
 
-    /// How long a wait may take; without a limit as long as nothing is ready.
-    pub fn longest_wait(&self) -> Option<Duration> {
-        if self.limits.is_any() {
+    /// How long a wait may take; where nobody's silence is limited as long as nothing is ready. `watches` says that somebody's is besides.
+    pub fn longest_wait(&self, watches: bool) -> Option<Duration> {
+        if watches || self.limits.is_any() {
             Some(Duration::from_millis(LONGEST_WAIT))
         } else {
             None

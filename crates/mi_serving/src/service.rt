@@ -1,4 +1,4 @@
-//! The loop of the service: it waits until something is ready, and takes a turn.
+//! The loop of the service: it waits until something is ready, and takes a turn with those of the row, and with who has no place in it.
 ghost use Rattle.std.specs.Prelude.{◌≡◌, ◌+◌, ◌^◌, ◌<◌, ◌≤◌, ◌⊎◌, List, [], length, Some, None, Err, true, IfOk, OnOk, OnErr};
 ghost use Rattle.mi_value.specs.declared.limits.TheConstants.{MAX_CONNECTIONS as most_connections};
 ghost use Rattle.mi_hub.specs.declared.fault.HubFault.{HubFault};
@@ -7,11 +7,13 @@ ghost use Rattle.mi_ledger.specs.Ledger.{hub_of, log_of, IsSettled};
 ghost use Rattle.mi_clients.specs.Steps.{Step, Makes, GivesNone, AsksNone};
 ghost use Rattle.mi_clients.specs.Row.{ids, Attends, Joins, NoneIsOver, NoneIsWhole, SameStreams, Serves, AllOnlyAsk, StayersOnlyAsk, EachWoken, TellsWhatIs};
 ghost use Rattle.mi_clients.specs.ServiceLines.{line_of};
-ghost use Rattle.mi_serving.specs.Turns.{Goes, AllUpTo, ends_serving};
+ghost use Rattle.mi_serving.specs.Overflow.{WaitsUpTo};
+ghost use Rattle.mi_serving.specs.Turns.{Goes, AllUpTo, IsTurn, ends_serving};
 
 use crate::door::Door;
 use crate::failure::Failure;
 use crate::link::Link;
+use crate::overflow::Overflow;
 use crate::patience::Patience;
 use mi_clients::{Admission, Client, Duplex, SchemaLine, admit, end_asked, is_any_busy, serve_all};
 use mi_ledger::{Ledger, LedgerFault, REPLAYER};
@@ -138,25 +140,100 @@ pub fn take_turn<D: Sessions + Drop, L: Log + Drop>(
     serve_all(alloc, ledger, row, buffer, each, schema, seconds)
 }
 
+/// Accepts one more where all places of the row are taken.
+fn receive(door: &mut Door, row: &[Client<Link>], overflow: &mut Overflow, last: &mut u64)
+    requires own { replayer ≤ last.old }
+    requires waits { WaitsUpTo last.old overflow.old.comer }
+    ensures beside { overflow.new.beside ≡ overflow.old.beside }
+    ensures waits { WaitsUpTo last.new overflow.new.comer }
+    ensures rises { last.old ≤ last.new }
+    ensures room { length row.now < most_connections → overflow.new ≡ overflow.old }
+{
+    if row.len() >= MAX_CONNECTIONS {
+        overflow.receive(door, last);
+    }
+}
+
+/// A turn of the row, behind which who waits is placed, the one beside the row is served, and one more is accepted where the row is full.
+///
+/// What is done are the steps of the row, and that one comes who has waited: the one beside it changes neither hub nor journal nor row, and is
+/// told the status of what they leave. The faults are those of `take_turn`, and `Memory` where the row has no room for one.
+pub fn turn<D: Sessions + Drop, L: Log + Drop>(
+    alloc: Global,
+    ledger: &mut Ledger<D, L>,
+    door: &mut Door,
+    row: &mut Vec<Client<Link>>,
+    overflow: &mut Overflow,
+    last: &mut u64,
+    each: bool,
+    buffer: &mut [u8],
+    schema: &SchemaLine,
+    seconds: u64,
+) -> Result<(), LedgerFault>
+    requires attends { Attends (ids row.old.items) (hub_of ledger.old).attached }
+    requires settled { IsSettled L.appended L.synced ledger.old }
+    requires known { AllUpTo last.old row.old.items }
+    requires waits { WaitsUpTo last.old overflow.old.comer }
+    requires own { replayer ≤ last.old }
+    requires room { 0 < length buffer.old }
+    ensures turns { OnOk result (IsTurn (line_of schema.now) seconds (hub_of ledger.old) (hub_of ledger.new) (L.appended (log_of ledger.old))
+        (L.appended (log_of ledger.new)) (L.lacks_room (log_of ledger.new)) row.old.items row.new.items overflow.old overflow.new) }
+    ensures known { OnOk result (AllUpTo last.new row.new.items) }
+    ensures waits { OnOk result (WaitsUpTo last.new overflow.new.comer) }
+    ensures rises { OnOk result (last.old ≤ last.new) }
+    ensures attends { OnOk result (Attends (ids row.new.items) (hub_of ledger.new).attached) }
+    ensures failed { result ≡ Err LedgerFault.Journal → L.has_failed (log_of ledger.new) ≡ true }
+    ensures settled { OnOk result (IsSettled L.appended L.synced ledger.new) }
+{
+    take_turn(
+        alloc, ledger, door, row, last, each, buffer, schema, seconds,
+    )?;
+    overflow.place(alloc, ledger, row)?;
+    overflow.serve(alloc, ledger, row.as_slice(), buffer, schema, seconds);
+    receive(door, row.as_slice(), overflow, last);
+    Ok(())
+}
+
 /// Waits until something is ready, or for the longest time that is given, and tells the connections.
 fn wait(
     door: &mut Door,
     row: &mut Vec<Client<Link>>,
+    overflow: &mut Overflow,
     longest: Option<Duration>,
 ) -> Result<(), Failure>
     ensures ids { ids row.new.items ≡ ids row.old.items }
     ensures woken { EachWoken row.old.items row.new.items }
+    ensures comer { overflow.new.comer ≡ overflow.old.comer }
     ensures poll { OnErr result (result ≡ Err Failure.Poll) }
 {
-    let comes = door.may_accept() && row.len() < MAX_CONNECTIONS;
-    door.wait(comes || is_any_busy(row.as_slice()), longest)?;
+    let comes = door.may_accept() && (row.len() < MAX_CONNECTIONS || overflow.is_free());
+    let busy = is_any_busy(row.as_slice()) || overflow.is_busy();
+    door.wait(comes || busy, longest)?;
     door.wake(row);
+    overflow.wake();
     Ok(())
+}
+
+/// Gives up who of the row has been silent for longer than the patience lasts, and whom one of the row or the one beside it has asked to end. The
+/// clock is read.
+fn give_up<D: Sessions + Drop, L: Log + Drop, C: Clock>(
+    ledger: &Ledger<D, L>,
+    patience: &mut Patience<'_, C>,
+    row: &mut Vec<Client<Link>>,
+    overflow: &mut Overflow,
+)
+    ensures ids { ids row.new.items ≡ ids row.old.items }
+    ensures comer { overflow.new.comer ≡ overflow.old.comer }
+{
+    patience.give_up(ledger, row);
+    end_asked(row);
+    overflow.end_asked(row);
 }
 
 /// Serves connections that come through a door until something fails, and says what: `Poll`, `Memory`, `Journal` or `Turns`. With `each` a
 /// line's reply waits for a sync of its own, else for one that all lines of a turn have together. Who is silent for longer than the patience
-/// lasts, or was asked to end, is let go. `schema` is told to whoever asks for it.
+/// lasts, or was asked to end, is let go. `schema` is told to whoever asks for it. Where all places are taken one more is served lines of the service
+/// alone.
 pub fn serve<D: Sessions + Drop, L: Log + Drop, C: Clock>(
     alloc: Global,
     ledger: &mut Ledger<D, L>,
@@ -176,18 +253,20 @@ pub fn serve<D: Sessions + Drop, L: Log + Drop, C: Clock>(
         return Failure::Memory;
     };
     let mut buffer = [0u8; READ];
+    let mut overflow = Overflow::new();
     let mut last = REPLAYER;
     'turns: for _turn in 0..MAX_TURNS {
-        if let Err(failure) = wait(door, &mut row, patience.longest_wait()) {
+        let longest = patience.longest_wait(!overflow.is_free());
+        if let Err(failure) = wait(door, &mut row, &mut overflow, longest) {
             return failure;
         }
-        patience.give_up(ledger, &mut row);
-        end_asked(&mut row);
-        if let Err(fault) = take_turn(
+        give_up(ledger, patience, &mut row, &mut overflow);
+        if let Err(fault) = turn(
             alloc,
             ledger,
             door,
             &mut row,
+            &mut overflow,
             &mut last,
             each,
             &mut buffer,
@@ -196,6 +275,7 @@ pub fn serve<D: Sessions + Drop, L: Log + Drop, C: Clock>(
         ) {
             return Failure::of_ledger(fault);
         }
+        overflow.judge(patience.second());
     }
     Failure::Turns
 }

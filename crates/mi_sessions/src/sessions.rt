@@ -1,6 +1,6 @@
 //! The calls of a database: several tables under one stack of nested sessions. It says what each call answers and leaves,
 //! by the definitions of `mi_model`, and nothing of how rows are kept.
-ghost use Rattle.std.specs.Prelude.{◌≡◌, ℕ, map, IsTrue, IfSome, IfOk, IfErr};
+ghost use Rattle.std.specs.Prelude.{◌≡◌, ℕ, length, map, IsTrue, IfSome, IfOk, IfErr};
 ghost use Rattle.std.specs.declared.option.Option.{Option as Maybe};
 ghost use Rattle.std.specs.Option.{option_copied};
 ghost use Rattle.mi_value.specs.declared.refusal.Refusal.TheVariants.{Memory};
@@ -8,12 +8,12 @@ ghost use Rattle.mi_catalog.specs.Fitting.{HasTable, IsKeyedIndex, IsHashedIndex
 ghost use Rattle.mi_catalog.specs.Fitting.{FitsTable, FitsEdits, FitsWhole, FitsPrefix};
 ghost use Rattle.mi_model.specs.Table.{get as get_row, has as has_row, row as row_of, size as size_of};
 ghost use Rattle.mi_model.specs.LookUp as look;
-ghost use Rattle.mi_model.specs.Page.{ids_up, ids_down};
+ghost use Rattle.mi_model.specs.Page.{range as range_of};
 ghost use Rattle.mi_model.specs.Walk.{rows_from};
 ghost use Rattle.mi_model.specs.Database.{Database, IsDatabase, schema_of, table_of, depth as depth_of};
 ghost use Rattle.mi_model.specs.Database.{start_step, undo_step, squash_step, ending, committed, undone_times};
 ghost use Rattle.mi_model.specs.DatabaseChange.{Meets, without_value, insert_step, replace_step, modify_step, erase_step, erase_key_step, relocate_step};
-ghost use Rattle.mi_sessions.specs.LookUps.{WithinLookUps};
+ghost use Rattle.mi_sessions.specs.LookUps.{WithinLookUps, WithinRange};
 
 use mi_catalog::Catalog;
 use mi_value::{Edit, Lower, NoSession, Record, Refusal, Steps, Upper, Value};
@@ -181,42 +181,28 @@ pub trait Sessions {
             rows_from (schema_of (state self.now) table) (table_of (state self.now) table) index reverse first limit) }
         ensures err { IfErr result (λ e. e ≡ Memory) };
 
-    /// The rows that an ordered or ranked index shows from a lower bound up, at most `limit` of them: their ids with their records,
-    /// lent. It is one look-up and one walk, and the vector is the one memory that it takes. Refusal: `Memory`.
-    fn walk_up(
+    /// The first rows of those that an ordered or ranked index shows between two bounds, in its order or in the reverse of it, at most
+    /// `limit` of them: their ids with their records, lent. It is one look-up and one walk, with at most one comparison for each row
+    /// and no row past the bound where it ends; the vector is the one memory that it takes. Refusal: `Memory`.
+    fn walk_range(
         &self,
         alloc: Global,
         table: usize,
         index: usize,
         lower: &Lower,
-        limit: usize,
-        steps: &mut Steps,
-    ) -> Result<Vec<(u64, &Record)>, Refusal>
-        requires table { HasTable (state self.now).catalog table }
-        requires index { IsSortedIndex (state self.now).catalog table index }
-        ensures rows { IfOk result (λ rows. map (λ r. (r.0, r.1.now)) rows.items ≡ map (row_of (table_of (state self.now) table))
-            (ids_up (schema_of (state self.now) table) (table_of (state self.now) table) index lower.now limit)) }
-        ensures err { IfErr result (λ e. e ≡ Memory) }
-        ensures steps { WithinLookUps bound 1 (size_of (table_of (state self.now) table)) steps.old.count steps.new.count };
-
-    /// The rows that an ordered or ranked index shows from an upper bound down, in the reverse of its order, at most `limit` of them:
-    /// their ids with their records, lent. It is one look-up and one walk, and the vector is the one memory that it takes. Refusal:
-    /// `Memory`.
-    fn walk_down(
-        &self,
-        alloc: Global,
-        table: usize,
-        index: usize,
         upper: &Upper,
+        reverse: bool,
         limit: usize,
         steps: &mut Steps,
     ) -> Result<Vec<(u64, &Record)>, Refusal>
         requires table { HasTable (state self.now).catalog table }
         requires index { IsSortedIndex (state self.now).catalog table index }
         ensures rows { IfOk result (λ rows. map (λ r. (r.0, r.1.now)) rows.items ≡ map (row_of (table_of (state self.now) table))
-            (ids_down (schema_of (state self.now) table) (table_of (state self.now) table) index upper.now limit)) }
+            (range_of (schema_of (state self.now) table) (table_of (state self.now) table) index lower.now upper.now reverse limit).ids) }
         ensures err { IfErr result (λ e. e ≡ Memory) }
-        ensures steps { WithinLookUps bound 1 (size_of (table_of (state self.now) table)) steps.old.count steps.new.count };
+        ensures steps { WithinRange bound
+            (length (range_of (schema_of (state self.now) table) (table_of (state self.now) table) index lower.now upper.now reverse limit).ids)
+            (size_of (table_of (state self.now) table)) steps.old.count steps.new.count };
 
     /// The first id of an ordered or ranked index whose key isn't less than a key or the first values of one, or none. At
     /// most one look-up.

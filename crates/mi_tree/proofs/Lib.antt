@@ -5,7 +5,9 @@ pub mod JoinLemmas
 pub mod LookUpLemmas
 pub mod ApartLemmas
 pub mod InsertLemmas
+pub mod KeepingLemmas
 pub mod RankLemmas
+pub mod RetagLemmas
 pub mod BinaryTreeLemmas
 pub mod RemovalWayLemmas
 pub mod SortedLemmas

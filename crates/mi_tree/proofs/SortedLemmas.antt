@@ -25,13 +25,13 @@ pub record IsOrder (R : Ref → Ref → Ordering) : Type 0 where
   pub trans : (x y z : Ref) → R x y ≡ Less → R y z ≡ Less → R x z ≡ Less
 
 module _ {X : Type 0} where
-  compared_antisymm : (order : X → X → Ordering) → IsTotalOrder order → (a b : Option X) → compared order a b ≡ ordering_reverse (compared order b a)
+  pub compared_antisymm : (order : X → X → Ordering) → IsTotalOrder order → (a b : Option X) → compared order a b ≡ ordering_reverse (compared order b a)
   compared_antisymm order o None None = refl
   compared_antisymm order o None (Some y) = refl
   compared_antisymm order o (Some x) None = refl
   compared_antisymm order o (Some x) (Some y) = o.antisymm x y
 
-  compared_trans : (order : X → X → Ordering) → IsTotalOrder order → (a b c : Option X)
+  pub compared_trans : (order : X → X → Ordering) → IsTotalOrder order → (a b c : Option X)
       → compared order a b ≡ Less → compared order b c ≡ Less → compared order a c ≡ Less
   compared_trans order o None b c e f = absurd (less_equal (sym e))
   compared_trans order o (Some x) None c e f = absurd (less_equal (sym e))
@@ -138,7 +138,7 @@ module _ (R : Ref → Ref → Ordering) (o : IsOrder R) where
   above_all x r (y ∷ ys) e h = (o.trans x r y e h.0, above_all x r ys e h.1)
 
   -- in rising nodes, r is after all that stand to its left
-  left_below : (xs : List Ref) (r : Ref) (ys : List Ref) → Rising R (xs ++ r ∷ ys) → AllAre (R r) Greater xs
+  pub left_below : (xs : List Ref) (r : Ref) (ys : List Ref) → Rising R (xs ++ r ∷ ys) → AllAre (R r) Greater xs
   left_below [] r ys h = tt
   left_below (x ∷ xs) r ys h = (turned x r (are_right (R x) Less xs (r ∷ ys) h.0).0, left_below xs r ys h.1)
 
@@ -169,7 +169,7 @@ module _ (R : Ref → Ref → Ordering) (o : IsOrder R) where
   }
 
   -- what was in order is still
-  rising_both : (xs ys : List Ref) (x : Ref) → Rising R (xs ++ ys) → AllAre (R x) Greater xs → AllAre (R x) Less ys → Rising R (xs ++ x ∷ ys)
+  pub rising_both : (xs ys : List Ref) (x : Ref) → Rising R (xs ++ ys) → AllAre (R x) Greater xs → AllAre (R x) Less ys → Rising R (xs ++ x ∷ ys)
   rising_both [] ys x h b a = (a, h)
   rising_both (y ∷ xs) ys x h b a = (
     are_both (R y) Less xs (x ∷ ys) (are_left (R y) Less xs ys h.0) (turned_back x y b.0, are_right (R y) Less xs ys h.0),

@@ -29,7 +29,7 @@ use Rattle.mi_tree.proofs.RemoveLemmas.{apart_less, held_in}
 use Rattle.mi_tree.proofs.SortedLemmas.{side_order, side_kept, item_kept, has_tag_kept, tagged_left}
 use Rattle.mi_tree.proofs.SortedLemmas.{tagged_right, tagged_both, are_left, are_right, are_both, rising_put}
 
-rising_less : (R : Ref → Ref → Ordering) (xs : List Ref) (x : Ref) (ys : List Ref) → Rising R (xs ++ x ∷ ys) → Rising R (xs ++ ys)
+pub rising_less : (R : Ref → Ref → Ordering) (xs : List Ref) (x : Ref) (ys : List Ref) → Rising R (xs ++ x ∷ ys) → Rising R (xs ++ ys)
 rising_less R [] x ys h = h.1
 rising_less R (y ∷ xs) x ys h =
     (are_both (R y) Less xs ys (are_left (R y) Less xs (x ∷ ys) h.0) (are_right (R y) Less xs (x ∷ ys) h.0).1, rising_less R xs x ys h.1)

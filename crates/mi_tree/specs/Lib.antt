@@ -1,6 +1,7 @@
 pub mod Frame
 pub mod Height
 pub mod Joining
+pub mod Keeping
 pub mod Order
 pub mod Probed
 pub mod BinaryTree

@@ -1,13 +1,13 @@
 //! Comparisons by tags, and by values where tags don't decide.
 //! They read values through a counted pool, and no links: a caller has read those. It has also asked, once for its whole way
 //! down, whether the tag that it goes by decides.
-ghost use Rattle.std.specs.Prelude.{◌≡◌, ◌+◌};
+ghost use Rattle.std.specs.Prelude.{◌≡◌, ◌+◌, Some};
 ghost use Rattle.mi_node.specs.Pool.{IsHeld, value_of};
 ghost use Rattle.mi_tree.specs.Sorted.{IsTagOf, by_stamp, compared, stamped};
 ghost use Rattle.mi_tree.specs.Probed.{place_at, is_decided};
 
 use crate::order::NodeOrder;
-use mi_node::{Counted, NodeRef, Tag};
+use mi_node::{Counted, NodeRef, Pool, Tag};
 use mi_value::{Probe, Steps};
 use std::cmp::Ordering;
 
@@ -185,4 +185,61 @@ fn seek_place<T, O: NodeOrder<T>>(
     ensures steps { steps.new.count ≡ steps.old.count + 1 }
 {
     order.seek(p.value(node), sought.probe, steps)
+}
+
+/// A value and a stamp, which may be those of no node: the value's tag, and whether that decides.
+#[derive(Drop)]
+pub(crate) struct Item<'a, T> {
+    pub(crate) value: &'a T,
+    pub(crate) tag: Tag,
+    pub(crate) decided: bool,
+}
+
+/// Where the item stands beside the node: by their tags, or by the values if the item's tag doesn't decide,
+/// and of one key by their stamps.
+#[inline(always)]
+pub(crate) fn compare_item<T, O: NodeOrder<T>>(
+    p: &Pool<T>,
+    order: &O,
+    item: &Item<'_, T>,
+    node: NodeRef,
+    tag: Tag,
+    steps: &mut Steps,
+) -> Ordering
+    requires item { item.now.tag.key ≡ O.tag_of order.now item.now.value.now }
+    requires decided { item.now.decided ≡ O.is_exact order.now item.now.tag.key }
+    requires node { IsHeld p.now node × IsTagOf (O.tag_of order.now) (value_of p.now node.name) tag.key }
+    ensures result { result ≡ compared (by_stamp (O.order order.now))
+        (Some (item.now.value.now, item.now.tag.stamp)) (stamped (value_of p.now node.name) tag.stamp) }
+    ensures steps { steps.new.count ≡ steps.old.count + 1 }
+{
+    if item.tag.key != tag.key {
+        steps.tick();
+        return item.tag.key.cmp(&tag.key);
+    }
+    if item.decided {
+        steps.tick();
+        return item.tag.stamp.cmp(&tag.stamp);
+    }
+    compare_item_values(p, order, item, node, tag.stamp, steps)
+}
+
+/// The same by the values, where the tags are alike.
+#[inline(never)]
+fn compare_item_values<T, O: NodeOrder<T>>(
+    p: &Pool<T>,
+    order: &O,
+    item: &Item<'_, T>,
+    node: NodeRef,
+    stamp: u64,
+    steps: &mut Steps,
+) -> Ordering
+    requires { IsHeld p.now node }
+    ensures result { result ≡ compared (by_stamp (O.order order.now))
+        (Some (item.now.value.now, item.now.tag.stamp)) (stamped (value_of p.now node.name) stamp) }
+    ensures steps { steps.new.count ≡ steps.old.count + 1 }
+{
+    order
+        .compare(item.value, p.value(node), steps)
+        .then(item.tag.stamp.cmp(&stamp))
 }

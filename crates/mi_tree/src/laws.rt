@@ -1,6 +1,7 @@
 //! Laws of the definitions, each the contract of a function that does nothing.
 ghost use Rattle.mi_tree.specs.Frame.{StandsWhereAlike, StandsWhereSwapped, ListsNodes, StandsEmpty};
 ghost use Rattle.mi_tree.specs.Height.{HasEnough};
+ghost use Rattle.mi_tree.specs.Keeping.{StandsWhereKept};
 
 use crate::order::NodeOrder;
 
@@ -18,6 +19,11 @@ pub fn trees_stand_where_alike<T, O: NodeOrder<T>>()
 /// A tree stands after a node's value was exchanged for one of an equal key.
 pub fn trees_stand_where_swapped<T, O: NodeOrder<T>>()
     ensures { (o : O) → StandsWhereSwapped T O (O.order o) (O.tag_of o) }
+{}
+
+/// A tree stands, with the same list, after a node got another value and another tag with which it keeps its place.
+pub fn trees_stand_where_kept<T, O: NodeOrder<T>>()
+    ensures { (o : O) → StandsWhereKept T O (O.order o) (O.tag_of o) }
 {}
 
 /// A tree is the one list that its links say.

@@ -5,6 +5,7 @@
 mod balance;
 mod change;
 mod compare;
+mod keeping;
 pub mod laws;
 mod look;
 mod order;

@@ -1,16 +1,17 @@
 //! The tree: its slot, its order and its root.
 //! It sets links of its own slot alone, owns no node, and never touches a value.
-ghost use Rattle.std.specs.Prelude.{◌≡◌, ℕ, ◌+◌, ◌*◌, ◌^◌, ◌<◌, ◌≤◌, ◌∷◌, ◌++◌, ◌==◌, List, length, None, true, false};
+ghost use Rattle.std.specs.Prelude.{◌≡◌, ℕ, ◌+◌, ◌*◌, ◌^◌, ◌<◌, ◌≤◌, ◌∷◌, ◌++◌, ◌==◌, ◌↔◌, IsTrue, List, length, Some, None, true, false};
 ghost use Rattle.std.specs.List.{position_or_len};
 ghost use Rattle.std.specs.declared.cmp.Ordering.{Ordering as Side};
-ghost use Rattle.mi_node.specs.Pool.{Keeps, link_of};
+ghost use Rattle.mi_node.specs.Pool.{IsHeld, Keeps, value_of, link_of, with_link};
 ghost use Rattle.mi_node.specs.Refs.{Ref, first_of, last_of};
 ghost use Rattle.mi_tree.specs.BinaryTree.{nth_of};
 ghost use Rattle.mi_tree.specs.Sorted.{side_of_new, IsPutIn};
 ghost use Rattle.mi_tree.specs.Probed.{is_past_node, is_node_at, first_where};
 
 use crate::change::{put_in, take_out};
-use crate::compare::{compare_probe, probe_decides};
+use crate::compare::{Item, compare_item, compare_probe, probe_decides};
+use crate::keeping::{passes_none, passes_none_above, side_ahead};
 use crate::look::{is_past, link_ahead, nth_in, rank_in};
 use crate::order::NodeOrder;
 use crate::parts::size;
@@ -38,6 +39,7 @@ pub struct Tree<O> {
 impl<O> Tree<O> {
     ghost use Rattle.mi_tree.specs.Standing.{IsTree, CanInsert};
     ghost use Rattle.mi_tree.specs.Walking.{IsWalk, beyond_place};
+    ghost use Rattle.mi_tree.specs.Keeping.{KeepsPlace, retagged};
 
     /// An empty tree through a slot, counted from 0, which must be one that the pool's nodes have.
     pub fn new(slot: usize, order: O) -> Tree<O>
@@ -109,6 +111,74 @@ impl<O> Tree<O> {
     {
         let tag = p.link(node, self.slot).tag;
         self.root = take_out(p, self.slot, &self.order, self.root, node, tag, steps);
+    }
+
+    /// Whether a node of the tree keeps its place where it gets another value and that stamp: by key and then by stamp, every
+    /// node in front of it is before these, and every node behind it is after them. At most 4b comparisons.
+    pub fn keeps_place<T>(
+        &self,
+        p: &Pool<T>,
+        node: NodeRef,
+        value: &T,
+        stamp: u64,
+        steps: &mut Steps,
+    ) -> bool
+    where
+        O: NodeOrder<T>,
+        requires { (xs : List Ref) × (ys : List Ref) × IsTree self.now p.now (O.order self.now.order) (O.tag_of self.now.order) (xs ++ node ∷ ys) }
+        ensures keeps { (xs : List Ref) (ys : List Ref) → IsTree self.now p.now (O.order self.now.order) (O.tag_of self.now.order) (xs ++ node ∷ ys)
+            → (IsTrue result ↔ KeepsPlace (O.order self.now.order) p.now self.now.slot value.now stamp xs ys) }
+        ensures steps { (order : T → T → Side) (tag : T → ℕ) (rs : List Ref) → IsTree self.now p.now order tag rs
+            → (b : ℕ) → length rs < 2 ^ b → steps.new.count ≤ steps.old.count + 4 * b }
+    {
+        let link = p.link(node, self.slot);
+        let key = self.order.tag(value);
+        let decided = self.order.decides(key);
+        let item = Item {
+            value,
+            tag: Tag { key, stamp },
+            decided,
+        };
+        let old = link.tag;
+        let side = compare_item(p, &self.order, &item, node, old, steps);
+        if side.is_eq() {
+            return true;
+        }
+        let rises = side.is_gt();
+        let next = side_ahead(link, rises);
+        if next.is_some() {
+            passes_none(p, self.slot, &self.order, next, &item, rises, steps)
+        } else {
+            passes_none_above(
+                p,
+                self.slot,
+                &self.order,
+                self.root,
+                node,
+                old,
+                &item,
+                rises,
+                steps,
+            )
+        }
+    }
+
+    /// Gives a node's link the tag of its value, with that stamp. Nothing else of any link changes. The tree stands then, if
+    /// the node had another value and another stamp before, and keeps its place with these.
+    pub fn retag<T>(&self, p: &mut Pool<T>, node: NodeRef, stamp: u64)
+    where
+        O: NodeOrder<T>,
+        requires held { IsHeld p.old node }
+        requires slot { self.now.slot < p.old.slots }
+        ensures { (v : T) → value_of p.old node.name ≡ Some v → p.new ≡ with_link p.old node.name self.now.slot
+            (retagged (record { key = O.tag_of self.now.order v; stamp = stamp }) (link_of p.old node.name self.now.slot)) }
+    {
+        let key = self.order.tag(p.value(node));
+        let link = Link {
+            tag: Tag { key, stamp },
+            ..p.link(node, self.slot)
+        };
+        p.set_link(node, self.slot, link);
     }
 
     /// How many nodes it has. Reads one link.

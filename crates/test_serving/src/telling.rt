@@ -236,8 +236,8 @@ fn a_holder_is_ended(rt: HostRuntime) -> Result<(), Fail> {
     Ok(())
 }
 
-/// A connection beside connection 2 is served four times, and what it has asked to end is ended. Whether connection 2 is gone then, nobody holds
-/// sessions, and the other one is there.
+/// A connection beside connection 2 is served four times, and what it has asked to end is ended in between. Whether connection 2 is gone then, nobody holds
+/// sessions, and the other one, whose last line was none of the service's, is gone too.
 fn serve_beside<'a>(alloc: Global, first: Pipe<'a>, other: Pipe<'a>) -> Result<bool, Fail> {
     let log = DeviceLog::new(MemoryDevice::new(alloc, 100, 100));
     let mut ledger = Ledger::<Plain, DeviceLog<MemoryDevice>>::new(hub(alloc)?, log);
@@ -248,15 +248,18 @@ fn serve_beside<'a>(alloc: Global, first: Pipe<'a>, other: Pipe<'a>) -> Result<b
     let mut buffer = [0u8; 4096];
     let mut beside = Beside::new();
     beside.seat(alloc, 3, other);
-    for _line in 0..4u64 {
+    for _line in 0..2u64 {
         beside.serve(alloc, &ledger, row.as_slice(), &mut buffer, &schema, 7);
     }
     end_beside(&mut beside, &mut row);
+    for _line in 0..2u64 {
+        beside.serve(alloc, &ledger, row.as_slice(), &mut buffer, &schema, 7);
+    }
     turn(alloc, &mut ledger, &mut row)?;
-    Ok(row.is_empty() && ledger.hub().holder().is_none() && !beside.is_free())
+    Ok(row.is_empty() && ledger.hub().holder().is_none() && beside.is_free())
 }
 
-/// Beside the others a line of the tables is refused and changes nothing, a status is told, and a holder is ended.
+/// Beside the others a status is told, and a holder is ended; a line of the tables is refused and changes nothing, and who asks it goes.
 #[test]
 fn one_is_served_beside_the_others(rt: HostRuntime) -> Result<(), Fail> {
     let alloc = rt.alloc();
@@ -268,14 +271,14 @@ fn one_is_served_beside_the_others(rt: HostRuntime) -> Result<(), Fail> {
     };
     let other = Pipe {
         alloc,
-        bytes: b"{\"cmd\":\"undo\"}\n{\"service\":\"status\"}\n{\"service\":\"end\",\"connection\":2}\n",
+        bytes: b"{\"service\":\"status\"}\n{\"service\":\"end\",\"connection\":2}\n{\"cmd\":\"undo\"}\n",
         out: &out,
     };
     assert!(rt; serve_beside(alloc, first, other)?);
     let want =
-        b"{\"error\":\"places\",\"ok\":false}\n{\"connections\":[{\"holds\":true,\"lines\":1,\"number\":2,\"since\":1,\"unsent\":0}],\
+        b"{\"connections\":[{\"holds\":true,\"lines\":1,\"number\":2,\"since\":1,\"unsent\":0}],\
 \"depth\":1,\"holder\":2,\"journal\":{\"bytes\":16,\"full\":false},\"ok\":true,\"tables\":[{\"name\":\"accounts\",\"size\":0}],\"uptime\":7,\"version\":\"0.1.0\"}\n\
-{\"ok\":true}\n";
+{\"ok\":true}\n{\"error\":\"places\",\"ok\":false}\n";
     let out = out.replace(Vec::new(alloc));
     assert!(rt; out.as_slice() == want.as_slice());
     Ok(())

@@ -151,29 +151,19 @@ impl<D: Sessions> Sessions for Counting<D> {
         self.ask().walk(alloc, table, index, reverse, first, limit)
     }
 
-    fn walk_up(
+    fn walk_range(
         &self,
         alloc: Global,
         table: usize,
         index: usize,
         lower: &Lower,
-        limit: usize,
-        steps: &mut Steps,
-    ) -> Result<Vec<(u64, &Record)>, Refusal> {
-        self.ask().walk_up(alloc, table, index, lower, limit, steps)
-    }
-
-    fn walk_down(
-        &self,
-        alloc: Global,
-        table: usize,
-        index: usize,
         upper: &Upper,
+        reverse: bool,
         limit: usize,
         steps: &mut Steps,
     ) -> Result<Vec<(u64, &Record)>, Refusal> {
         self.ask()
-            .walk_down(alloc, table, index, upper, limit, steps)
+            .walk_range(alloc, table, index, lower, upper, reverse, limit, steps)
     }
 
     fn lower(&self, table: usize, index: usize, key: &[Value], steps: &mut Steps) -> Option<u64> {

@@ -1,4 +1,4 @@
-//! How many look-ups a count and a page make, however many rows there are: bounds are ranks, and a page is stepped through
+//! How many look-ups a count and a page make, however many rows there are: a count is of ranks, and a page is stepped through
 //! from where it begins.
 use super::accounts::{account, catalog};
 use super::counting::{Asked, Counting};
@@ -44,8 +44,7 @@ const EQUALS: Table = Table {
     ],
 };
 
-/// Ten rows from the middle of four thousand, from the lower bound on and from the upper one back: a look-up for each bound, and one
-/// walk.
+/// Ten rows from the middle of four thousand, from the lower bound on and from the upper one back: one walk from where it begins.
 const PAGES: Table = Table {
     accounts: 4_000,
     balance: None,
@@ -65,8 +64,8 @@ const PAGES: Table = Table {
                 "{\"balance\":2008,\"id\":2008,\"owner\":\"o2008\",\"vip\":true},",
                 "{\"balance\":2009,\"id\":2009,\"owner\":\"o2009\",\"vip\":true}]}\n",
             ),
-            fewest: 3,
-            most: 3,
+            fewest: 1,
+            most: 1,
         },
         Row {
             line: "{\"cmd\":\"range\",\"index\":\"by_balance\",\"limit\":10,\"lower\":{\"ge\":[2000]},\"reverse\":true,\"upper\":{\"lt\":[2500]}}\n",
@@ -83,8 +82,8 @@ const PAGES: Table = Table {
                 "{\"balance\":2491,\"id\":2491,\"owner\":\"o2491\",\"vip\":true},",
                 "{\"balance\":2490,\"id\":2490,\"owner\":\"o2490\",\"vip\":true}]}\n",
             ),
-            fewest: 3,
-            most: 3,
+            fewest: 1,
+            most: 1,
         },
     ],
 };

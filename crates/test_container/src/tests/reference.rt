@@ -258,14 +258,18 @@ impl Reference {
                 .walk(alloc, 0, way.index, way.reverse, way.first, way.limit);
         }
         self.want_sorted(rt, way.index);
+        let (lower, upper) = (Lower::All, Upper::All);
         let mut steps = Steps::new();
-        if way.reverse {
-            self.plain
-                .walk_down(alloc, 0, way.index, &Upper::All, way.limit, &mut steps)
-        } else {
-            self.plain
-                .walk_up(alloc, 0, way.index, &Lower::All, way.limit, &mut steps)
-        }
+        self.plain.walk_range(
+            alloc,
+            0,
+            way.index,
+            &lower,
+            &upper,
+            way.reverse,
+            way.limit,
+            &mut steps,
+        )
     }
 
     pub(super) fn find(&self, rt: &impl Abort, index: usize, key: &[Value]) -> Option<u64> {

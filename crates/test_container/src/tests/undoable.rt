@@ -323,14 +323,17 @@ impl<C: Container> Undoable<C> {
                 .walk(alloc, way.index, way.reverse, way.first, way.limit);
         }
         self.want_sorted(rt, way.index);
+        let (lower, upper) = (Lower::All, Upper::All);
         let mut steps = Steps::new();
-        if way.reverse {
-            self.rows
-                .walk_down(alloc, way.index, &Upper::All, way.limit, &mut steps)
-        } else {
-            self.rows
-                .walk_up(alloc, way.index, &Lower::All, way.limit, &mut steps)
-        }
+        self.rows.walk_range(
+            alloc,
+            way.index,
+            &lower,
+            &upper,
+            way.reverse,
+            way.limit,
+            &mut steps,
+        )
     }
 
     pub(super) fn find(&self, rt: &impl Abort, index: usize, key: &[Value]) -> Option<u64>

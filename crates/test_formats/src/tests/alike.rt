@@ -1,8 +1,8 @@
 //! Random lines, read to values that lend and by `serde_json` alone: both read the same.
 use mi_random::Random;
 use mi_request::{
-    Array, ChangeRequest, End, Json as Lent, LineReader, LookUpRequest, Name, NamedPlace, Object,
-    Request, SessionCommand,
+    Array, ChangeRequest, End, Json as Lent, KeyLookUpRequest, LineReader, Name, NamedPlace,
+    NumberLookUpRequest, Object, Request, SessionCommand,
 };
 use mi_value::Refusal;
 use serde_json::{Map, Value as Json};
@@ -331,19 +331,38 @@ fn is_list(
         && is_limit(read.get("limit"), limit)
 }
 
-/// Whether a look-up is that of the members that `serde_json` read.
-fn is_look_up(
+/// Whether a look-up by numbers is that of the members that `serde_json` read.
+fn is_number_look_up(
+    read: &Json,
+    table: Option<Name<'_>>,
+    look_up: NumberLookUpRequest<'_>,
+) -> bool {
+    match look_up {
+        NumberLookUpRequest::Get { id } => is_of_id(read, "get", table, id),
+        NumberLookUpRequest::Nth { index, n } => is_numbered(read, "nth", table, index, "n", n),
+        NumberLookUpRequest::List {
+            index,
+            after,
+            limit,
+        } => is_list(read, table, index, after, limit),
+        NumberLookUpRequest::Rank { index, id } => is_numbered(
+            read, "rank", table, index, "id", id,
+        ),
+        NumberLookUpRequest::Size => is_named(read, "size", table.as_ref(), None),
+    }
+}
+
+/// Whether a look-up by keys is that of the members that `serde_json` read.
+fn is_key_look_up(
     alloc: Global,
     read: &Json,
     table: Option<Name<'_>>,
-    look_up: LookUpRequest<'_>,
+    look_up: KeyLookUpRequest<'_>,
 ) -> Result<bool, AllocError> {
     match look_up {
-        LookUpRequest::Get { id } => Ok(is_of_id(read, "get", table, id)),
-        LookUpRequest::Find { index, key } => is_keyed(alloc, read, "find", table, index, key),
-        LookUpRequest::Nth { index, n } => Ok(is_numbered(read, "nth", table, index, "n", n)),
-        LookUpRequest::Count { index, key } => is_keyed(alloc, read, "count", table, index, key),
-        LookUpRequest::Range {
+        KeyLookUpRequest::Find { index, key } => is_keyed(alloc, read, "find", table, index, key),
+        KeyLookUpRequest::Count { index, key } => is_keyed(alloc, read, "count", table, index, key),
+        KeyLookUpRequest::Range {
             index,
             lower,
             upper,
@@ -354,19 +373,12 @@ fn is_look_up(
                 && is_limit(read.get("limit"), limit)
                 && is_range(alloc, read, table, index, lower, upper)?,
         ),
-        LookUpRequest::List {
-            index,
-            after,
-            limit,
-        } => Ok(is_list(read, table, index, after, limit)),
-        LookUpRequest::Rank { index, id } => Ok(is_numbered(read, "rank", table, index, "id", id)),
-        LookUpRequest::LowerRank { index, key } => {
+        KeyLookUpRequest::LowerRank { index, key } => {
             is_keyed(alloc, read, "lower_rank", table, index, key)
         }
-        LookUpRequest::UpperRank { index, key } => {
+        KeyLookUpRequest::UpperRank { index, key } => {
             is_keyed(alloc, read, "upper_rank", table, index, key)
         }
-        LookUpRequest::Size => Ok(is_named(read, "size", table.as_ref(), None)),
     }
 }
 
@@ -458,7 +470,8 @@ fn is_change(
 fn is_request(alloc: Global, read: &Json, request: Request<'_>) -> Result<bool, AllocError> {
     match request {
         Request::Change { table, change } => is_change(alloc, read, table, change),
-        Request::LookUp { table, look_up } => is_look_up(alloc, read, table, look_up),
+        Request::NumberLookUp { table, look_up } => Ok(is_number_look_up(read, table, look_up)),
+        Request::KeyLookUp { table, look_up } => is_key_look_up(alloc, read, table, look_up),
         Request::Session(command) => Ok(is_session(read, command)),
     }
 }

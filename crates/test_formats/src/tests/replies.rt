@@ -59,13 +59,15 @@ fn is_said(catalog: &Catalog, given: &Reply<'_>) -> bool
     }
 }
 
-/// A reply's text is this one, made alone, and put with labels, with a newline behind it.
+/// A reply's text is this one, made alone, put without labels and with them, with a newline behind it.
 fn assert_text(rt: &impl Abort, alloc: Global, catalog: &Catalog, given: &Reply<'_>, want: &str) {
     assert!(rt; is_said(catalog, given), "{want}");
     let text = given.text(alloc, catalog).expect(rt, "memory is there");
     assert_eq!(rt; text.as_slice(), want.as_bytes(), "{want}");
     let labels = ReplyLabels::of(alloc, catalog).expect(rt, "memory is there");
     let mut out = Output::new(alloc);
+    out.put(alloc, given, catalog, &ReplyLabels::none(alloc));
+    assert_eq!(rt; out.as_slice(), want.as_bytes(), "{want}");
     out.put(alloc, given, catalog, &labels);
     assert_eq!(rt; out.as_slice(), want.as_bytes(), "{want}");
     assert!(rt; out.line().ends_with(b"\n"), "{want}");

@@ -58,6 +58,39 @@ fn assert_neighbours(rt: &impl Abort, stock: &Stock<'_>) {
     }
 }
 
+/// Its keys 3, 5 and 5 with the stamps 2, 0 and 1: whether the node of a rank keeps its place with that key and that stamp.
+const KEPT: [(u32, u32, u64, bool); 17] = [
+    // the first, below its neighbour, and among its equals
+    (0, 2, 3, true),
+    (0, 3, 3, true),
+    (0, 4, 3, true),
+    (0, 5, 3, false),
+    (0, 6, 3, false),
+    // between two, one of which it comes to equal
+    (1, 2, 3, false),
+    (1, 3, 3, true),
+    (1, 4, 3, true),
+    (1, 5, 3, false),
+    (1, 6, 3, false),
+    // back to its own stamp, and to one in front of an equal
+    (1, 5, 0, true),
+    (1, 3, 1, false),
+    // the last
+    (2, 4, 3, false),
+    (2, 5, 3, true),
+    (2, 6, 3, true),
+    // nothing changes, and a stamp alone
+    (2, 5, 1, true),
+    (0, 3, 0, true),
+];
+
+fn assert_kept(rt: &impl Abort, stock: &Stock<'_>) {
+    for (rank, key, stamp, keeps) in &KEPT {
+        assert_eq!(rt; stock.keeps(*rank, *key, *stamp), Some(*keeps));
+    }
+    assert_eq!(rt; stock.keeps(3, 5, 3), None);
+}
+
 /// Adds nodes of ids and keys.
 fn add_all(rt: &impl Abort, stock: &mut Stock<'_>, ids_and_keys: &[(u32, u32)]) {
     for (id, key) in ids_and_keys {
@@ -81,6 +114,7 @@ fn assert_small_tree(rt: &impl Abort, stock: &mut Stock<'_>) {
     assert_keys(rt, stock);
     assert_key_ranks(rt, stock);
     assert_neighbours(rt, stock);
+    assert_kept(rt, stock);
     second_leaves(rt, stock);
 }
 
@@ -151,6 +185,17 @@ fn look_up_all(rt: &impl Abort, stock: &Stock<'_>, calls: &Cell<u64>, most: u64)
     for rank in 0..stock.len() {
         assert_eq!(rt; stock.rank_of_nth(rank), Some(rank));
         assert_few(rt, calls, most);
+    }
+    ask_for_places(rt, stock, calls, most.wrapping_mul(2));
+}
+
+/// Asserts that no question for a place makes more calls of the order than `most`.
+fn ask_for_places(rt: &impl Abort, stock: &Stock<'_>, calls: &Cell<u64>, most: u64) {
+    for rank in 0..stock.len() {
+        for key in [0, rank, rank.wrapping_add(1), 1000] {
+            let _ = stock.keeps(rank, key, 1_000_000);
+            assert_few(rt, calls, most);
+        }
     }
 }
 

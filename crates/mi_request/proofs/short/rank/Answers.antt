@@ -1,8 +1,8 @@
 -- The members of a rank stand behind its command, and nothing else.
 use Rattle.std.proofs.Common.{◌≡◌, ◌∷◌, [], List, None, codes, option_map, refl, ap, sym, ◌∙◌, rules}
-use Rattle.mi_request.specs.Short.{Member, whole, table_is, index_is}
+use Rattle.mi_request.specs.Short.{Member, whole, table_is, index_is, asked_short}
 use Rattle.mi_request.specs.ShortCode.{a_name, a_whole, perhaps_name, Template}
-use Rattle.mi_request.specs.declared.request.LookUpRequest.TheVariants as look_up
+use Rattle.mi_request.specs.declared.request.NumberLookUpRequest.TheVariants as by_number
 use Rattle.mi_request.specs.declared.request.Request.TheVariants as request
 use Rattle.mi_request.specs.declared.short.NumberIn.{NumberIn}
 use Rattle.mi_request.proofs.WordLemmas.{line_from, not_read, was_read}
@@ -19,7 +19,7 @@ returns-in_err-members c =
     let command : c.as_slice.result.now ≡ codes "{\"cmd\":\"rank\"" = search rules in
     let number : c.as_slice-2.result.now ≡ codes ",\"id\":" = search rules in
     let nothing : c.from_residual-in_err-members.result ≡ None = search rules in
-    not_read (codes "rank") members c.args.line.now c.from_residual-in_err-members.result nothing
+    not_read (codes "rank") members c.args.line.now (option_map asked_short c.from_residual-in_err-members.result) (ap (option_map asked_short) nothing)
     (line_from (codes "rank") members c.args.line.now c.as_slice.result.now c.behind.result c.behind.ensures command c.in_ok-rest.rest c.in_ok-rest.was
     ∙ sym (c.number_of.ensures (codes "id") number) ∙ ap (option_map words) c.in_err-members.was)
 
@@ -28,6 +28,6 @@ returns c =
     let command : c.as_slice.result.now ≡ codes "{\"cmd\":\"rank\"" = search rules in
     let number : c.as_slice-2.result.now ≡ codes ",\"id\":" = search rules in
     let m = c.in_ok-members.members in
-    was_read (codes "rank") members c.args.line.now (request.LookUp m.table (look_up.Rank m.index m.n)) (words m) refl
+    was_read (codes "rank") members c.args.line.now (request.NumberLookUp m.table (by_number.Rank m.index m.n)) (words m) refl
     (line_from (codes "rank") members c.args.line.now c.as_slice.result.now c.behind.result c.behind.ensures command c.in_ok-rest.rest c.in_ok-rest.was
     ∙ sym (c.number_of.ensures (codes "id") number) ∙ ap (option_map words) c.in_ok-members.was)

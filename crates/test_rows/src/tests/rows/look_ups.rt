@@ -81,6 +81,32 @@ row bounds over a descending part
 1 {"cmd":"range","index":"by_class","lower":{"ge":[1]}}
 = {"error":"key","ok":false}
 
+row ranges from one bound to the other
+1 {"cmd":"insert","row":{"owner":"a","balance":10,"vip":false}}
+= {"id":0,"ok":true}
+1 {"cmd":"insert","row":{"owner":"b","balance":20,"vip":false}}
+= {"id":1,"ok":true}
+1 {"cmd":"insert","row":{"owner":"c","balance":20,"vip":false}}
+= {"id":2,"ok":true}
+1 {"cmd":"insert","row":{"owner":"d","balance":30,"vip":false}}
+= {"id":3,"ok":true}
+1 {"cmd":"range","index":"by_balance","lower":{"ge":[20]},"upper":{"le":[20]}}
+= {"more":false,"ok":true,"rows":[{"balance":20,"id":1,"owner":"b","vip":false},{"balance":20,"id":2,"owner":"c","vip":false}]}
+1 {"cmd":"range","index":"by_balance","lower":{"ge":[10]},"upper":{"lt":[30]},"reverse":true}
+= {"more":false,"ok":true,"rows":[{"balance":20,"id":2,"owner":"c","vip":false},{"balance":20,"id":1,"owner":"b","vip":false},{"balance":10,"id":0,"owner":"a","vip":false}]}
+1 {"cmd":"range","index":"by_balance","lower":{"gt":[10]},"upper":{"le":[30]},"reverse":true,"limit":1}
+= {"more":true,"ok":true,"rows":[{"balance":30,"id":3,"owner":"d","vip":false}]}
+1 {"cmd":"range","index":"by_balance","lower":{"ge":[20]},"upper":{"lt":[30]},"limit":2}
+= {"more":false,"ok":true,"rows":[{"balance":20,"id":1,"owner":"b","vip":false},{"balance":20,"id":2,"owner":"c","vip":false}]}
+1 {"cmd":"range","index":"by_balance","lower":{"gt":[10]},"upper":{"le":[30]},"limit":2}
+= {"more":true,"ok":true,"rows":[{"balance":20,"id":1,"owner":"b","vip":false},{"balance":20,"id":2,"owner":"c","vip":false}]}
+1 {"cmd":"range","index":"by_balance","lower":{"gt":[20]},"upper":{"le":[30]}}
+= {"more":false,"ok":true,"rows":[{"balance":30,"id":3,"owner":"d","vip":false}]}
+1 {"cmd":"range","index":"by_balance","lower":{"gt":[10]},"upper":{"lt":[20]},"reverse":true}
+= {"more":false,"ok":true,"rows":[]}
+1 {"cmd":"range","index":"by_balance","lower":{"ge":[30]},"upper":{"le":[10]}}
+= {"more":false,"ok":true,"rows":[]}
+
 row lines that are no command
 1 {"cmd":"undo"
 = {"error":"json","ok":false}

@@ -222,6 +222,19 @@ impl<'a> Stock<'a> {
         Some(self.tree.rank(&mut read, node, &mut Steps::new()))
     }
 
+    /// Whether the node of a rank keeps its place with that key and that stamp.
+    pub(crate) fn keeps(&self, rank: u32, key: u32, stamp: u64) -> Option<bool> {
+        let mut read = Counted::new(&self.pool);
+        let Some(node) = self.tree.nth(&mut read, rank) else {
+            return None;
+        };
+        let value = (key, 0);
+        Some(
+            self.tree
+                .keeps_place(&self.pool, node, &value, stamp, &mut Steps::new()),
+        )
+    }
+
     /// The id of the node before the one of a rank.
     pub(crate) fn before(&self, rank: u32) -> Option<u32> {
         let mut read = Counted::new(&self.pool);

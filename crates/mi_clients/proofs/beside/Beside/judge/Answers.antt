@@ -5,4 +5,4 @@ use Rattle.mi_clients.proofs.beside.Beside.judge.Goals as goal
 
 pub returns-in-Some : goal.returns-in-Some
 returns-in-Some g c =
-    judged_there c.args.limit c.args.now _ c.in-Some.client c.judge.new.self (sym c.take.ensures.value ∙ c.in-Some.is) c.judge.ensures
+    judged_there c.args.limit c.args.now _ c.in-Some.client c.judge.new.client (sym c.take.ensures.value ∙ c.in-Some.is) c.judge.ensures

@@ -1,44 +1,100 @@
--- The node leaves the indexes that are marked, gets its value, and comes into them again.
-use Rattle.std.proofs.Common.{◌∙◌, sym, subst, None}
-use Rattle.mi_index.specs.Pass.{AreReady, IsPass}
-use Rattle.mi_index.specs.Passes.{joining, joined}
+-- The node leaves the indexes that are marked, but for those in which it keeps its place, gets its value and its tags, and comes
+-- into them again.
+use Rattle.std.proofs.Common.{◌≡◌, ℕ, ◌∙◌, [], Some, sym, ap, subst}
+use Rattle.mi_node.specs.Pool.{Pooled, IsHeld, value_of, link_of}
+use Rattle.mi_node.proofs.EntryLemmas.{ref-with_value, value_here, link-with_value, slots-with_value}
+use Rattle.mi_order.specs.declared.stored.Stored.{Stored}
+use Rattle.mi_index.specs.Keeping.{KeepsButLinks, AreRetagged, retags}
+use Rattle.mi_index.specs.Pass.{AreReady}
 use Rattle.mi_index.specs.Places.{mark_at}
-use Rattle.mi_index.specs.declared.moves.Moves.TheVariants.{Marked}
 use Rattle.mi_index.proofs.InsertLemmas.{like_both}
-use Rattle.mi_index.proofs.RekeyLemmas.{can_leave, can_come, is_rekeyed, kept_refs, kept_values}
+use Rattle.mi_index.proofs.OtherNodeLemmas.{IsExchanged}
+use Rattle.mi_index.proofs.RekeyLemmas.{asked, leaves, stamps, are_there, are_asked, can_keep, can_leave, can_come, is_rekeyed}
+use Rattle.mi_index.proofs.RekeyLemmas.{kept_refs, kept_values, kept_placed, exchanged}
+use Rattle.mi_index.proofs.KeepingLemmas.{retagged_from}
+use Rattle.mi_index.proofs.nodes.Nodes.rekey.Goals.{After-find_kept-kept, After-unlink, After-swap_value-old, After-retag}
 use Rattle.mi_index.proofs.nodes.Nodes.rekey.Goals as goal
 
+module _ (c : After-find_kept-kept) where
+  -- what is asked, and that the flags are right
+  is_asked : AreReady (asked (mark_at c.args.marks.now) c.find_kept-kept.result c.args.node c.args.stored c.args.stamp) 0 c.args.self.now.structures.items c.args.self.now.pool
+  is_asked = are_asked (mark_at c.args.marks.now) c.find_kept-kept.result c.args.node c.args.stored c.args.stamp c.args.self.now.structures.items c.args.self.now.pool c.find_kept-kept.ensures c.requires.places
+
+  may_leave : AreReady (leaves (mark_at c.args.marks.now) c.find_kept-kept.result c.args.node c.args.stored c.args.stamp) 0 c.args.self.now.structures.items c.args.self.now.pool
+  may_leave = can_leave (mark_at c.args.marks.now) c.find_kept-kept.result c.args.node c.args.stored c.args.stamp c.args.self.now.structures.items c.args.self.now.pool is_asked
+
+module _ (c : After-unlink) (ready : AreReady (leaves (mark_at c.args.marks.now) c.find_kept-kept.result c.args.node c.args.stored c.args.stamp) 0 c.args.self.now.structures.items c.args.self.now.pool) where
+  still_held : IsHeld c.unlink.new.p c.args.node
+  still_held = kept_refs ready c.unlink.ensures.pass c.args.node.name ∙ c.requires.held
+
+module _ (c : After-swap_value-old) (held : IsHeld c.unlink.new.p c.args.node) where
+  held_there : IsHeld c.swap_value-old.new.self c.args.node
+  held_there = subst (λ z. IsHeld z c.args.node) (sym c.swap_value-old.ensures.pool)
+      (ref-with_value c.unlink.new.p c.args.node.name c.args.stored c.args.node.name ∙ held)
+
+  has_value : value_of c.swap_value-old.new.self c.args.node.name ≡ Some c.args.stored
+  has_value = ap (λ (z : Pooled Stored). value_of z c.args.node.name) c.swap_value-old.ensures.pool ∙ value_here c.unlink.new.p c.args.node c.args.stored held
+
+  has_link : (t : ℕ) → link_of c.swap_value-old.new.self c.args.node.name t ≡ link_of c.unlink.new.p c.args.node.name t
+  has_link t = ap (λ (z : Pooled Stored). link_of z c.args.node.name t) c.swap_value-old.ensures.pool
+      ∙ link-with_value c.unlink.new.p c.args.node.name c.args.stored c.args.node.name t
+
+module _ (c : After-retag) (held : IsHeld c.unlink.new.p c.args.node)
+    (value : value_of c.swap_value-old.new.self c.args.node.name ≡ Some c.args.stored)
+    (links : (t : ℕ) → link_of c.swap_value-old.new.self c.args.node.name t ≡ link_of c.unlink.new.p c.args.node.name t) where
+  -- the node has its value, and the tags of that
+  has_changed : IsExchanged c.args.node c.args.stored c.unlink.new.p c.retag.new.p
+  has_changed = exchanged c.unlink.new.p c.retag.new.p c.args.node c.args.stored held
+      (subst (λ z. KeepsButLinks z c.retag.new.p c.args.node) c.swap_value-old.ensures.pool c.retag.ensures.but)
+
+  has_tags : AreRetagged (retags c.find_kept-kept.result (stamps (mark_at c.args.marks.now) c.find_kept-kept.result c.args.node c.args.stored c.args.stamp))
+      c.args.node c.args.stored c.unlink.new.self.items 0 c.unlink.new.p c.retag.new.p
+  has_tags = retagged_from (retags c.find_kept-kept.result (stamps (mark_at c.args.marks.now) c.find_kept-kept.result c.args.node c.args.stored c.args.stamp))
+      c.args.node c.args.stored c.unlink.new.self.items 0 c.unlink.new.p c.swap_value-old.new.self c.retag.new.p (λ t l. links t)
+      (c.retag.ensures.own c.args.stored value)
+
+pub find_kept-kept-requires : goal.find_kept-kept-requires
+find_kept-kept-requires c = are_there (mark_at c.args.marks.now) [] c.args.node c.args.stored c.args.stamp c.args.self.now.structures.items c.args.self.now.pool c.requires.places
+
 pub unlink-requires : goal.unlink-requires
-unlink-requires c = can_leave (mark_at c.args.marks.now) c.args.node c.args.stored
-    c.args.stamp c.args.self.now.structures.items c.args.self.now.pool c.requires.places
+unlink-requires c = may_leave (goal.at.unlink-requires c).After-find_kept-kept
 
 pub swap_value-old-requires : goal.swap_value-old-requires
 swap_value-old-requires c =
-    let i = c.args.self.now in
-    let leaves = can_leave (mark_at c.args.marks.now) c.args.node c.args.stored c.args.stamp i.structures.items i.pool c.requires.places in
-    kept_refs leaves c.unlink.ensures.pass c.args.node.name ∙ c.requires.held
+    let o = goal.at.swap_value-old-requires c in still_held o.After-unlink (may_leave o.After-find_kept-kept)
+
+pub retag-requires-clause-held : goal.retag-requires-clause-held
+retag-requires-clause-held c =
+    let o = goal.at.retag-requires-clause-held c in
+    held_there o.After-swap_value-old (still_held o.After-unlink (may_leave o.After-find_kept-kept))
+
+pub retag-requires-clause-placed : goal.retag-requires-clause-placed
+retag-requires-clause-placed c =
+    let o = goal.at.retag-requires-clause-placed c in
+    kept_placed c.swap_value-old.new.self (may_leave o.After-find_kept-kept) c.unlink.ensures.pass
+    (ap (λ (z : Pooled Stored). z.slots) c.swap_value-old.ensures.pool ∙ slots-with_value c.unlink.new.p c.args.node.name c.args.stored)
 
 pub link-requires : goal.link-requires
 link-requires c =
-    let i = c.args.self.now in let r = c.args.node in let ys = c.unlink.new.self.items in let n = c.unlink.new.p in
-    subst (AreReady (joining (Marked c.args.marks) r c.args.stamp None) 0 ys) (sym c.swap_value-old.ensures.pool)
-    (can_come (mark_at c.args.marks.now) r c.args.stored c.args.stamp i.structures.items ys i.pool
-    n c.requires.held c.unlink.ensures.like c.unlink.ensures.pass c.requires.places)
+    let o = goal.at.link-requires c in let held = still_held o.After-unlink (may_leave o.After-find_kept-kept) in
+    let value = has_value o.After-swap_value-old held in let links = has_link o.After-swap_value-old held in
+    can_come (mark_at c.args.marks.now) c.find_kept-kept.result c.args.node c.args.stored c.args.stamp c.args.self.now.structures.items c.unlink.new.self.items
+    c.args.self.now.pool c.unlink.new.p c.retag.new.p c.requires.held (has_changed o.After-retag held value links) (has_tags o.After-retag held value links)
+    c.unlink.ensures.like c.unlink.ensures.pass (is_asked o.After-find_kept-kept)
 
 pub returns-clause-value : goal.returns-clause-value
 returns-clause-value c =
-    let i = c.args.self.now in
-    let leaves = can_leave (mark_at c.args.marks.now) c.args.node c.args.stored c.args.stamp i.structures.items i.pool c.requires.places in
-    sym (kept_values leaves c.unlink.ensures.pass c.args.node.name) ∙ c.swap_value-old.ensures.value
+    let o = goal.at.returns-clause-value c in
+    sym (kept_values (may_leave o.After-find_kept-kept) c.unlink.ensures.pass c.args.node.name) ∙ c.swap_value-old.ensures.value
 
 pub returns-clause-rekeyed : goal.returns-clause-rekeyed
-returns-clause-rekeyed c =
-    let i = c.args.self.now in let r = c.args.node in let ys = c.unlink.new.self.items in
-    let zs = c.link.new.self.items in let p = c.link.new.p in
-    is_rekeyed (mark_at c.args.marks.now) r c.args.stored c.args.stamp i.structures.items ys
-    i.pool c.unlink.new.p c.requires.held c.unlink.ensures.like c.unlink.ensures.pass zs p
-    (subst (λ z. IsPass (joining (Marked c.args.marks) r c.args.stamp None) (joined (Marked c.args.marks) r c.args.stamp None) r 0 ys zs z p)
-    c.swap_value-old.ensures.pool c.link.ensures.pass)
+returns-clause-rekeyed c rss a can =
+    let o = goal.at.returns-clause-rekeyed c in let held = still_held o.After-unlink (may_leave o.After-find_kept-kept) in
+    let value = has_value o.After-swap_value-old held in let links = has_link o.After-swap_value-old held in
+    is_rekeyed (mark_at c.args.marks.now) c.find_kept-kept.result c.args.node c.args.stored c.args.stamp c.args.self.now.structures.items c.unlink.new.self.items
+    c.args.self.now.pool c.unlink.new.p c.retag.new.p c.requires.held (has_changed o.After-retag held value links) (has_tags o.After-retag held value links)
+    c.unlink.ensures.like c.unlink.ensures.pass c.link.new.self.items c.link.new.p c.link.ensures.pass rss a
+    (can_keep (mark_at c.args.marks.now) c.find_kept-kept.result c.args.node c.args.stored c.args.stamp c.args.self.now.structures.items c.args.self.now.pool c.find_kept-kept.ensures rss a can)
 
 pub returns-clause-like : goal.returns-clause-like
 returns-clause-like c = like_both c.args.self.now.structures.items c.unlink.new.self.items

@@ -1,9 +1,0 @@
--- the container's bound is the table's
-use Rattle.mi_database.proofs.BoundLemmas.{within_one}
-use Rattle.mi_database.proofs.sessions.LinkedSessions.walk_up.Goals as goal
-
-pub returns-clause-steps : goal.returns-clause-steps
-returns-clause-steps g c = within_one _ _ _ _ c.at.ensures.table c.walk_up.ensures.steps
-
-pub returns-in_err-rows-clause-steps : goal.returns-in_err-rows-clause-steps
-returns-in_err-rows-clause-steps g c = within_one _ _ _ _ c.at.ensures.table c.walk_up.ensures.steps
