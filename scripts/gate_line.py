@@ -2,7 +2,6 @@
 """The line of docs/TESTING.md that says of which tree the gate passed, made from the run itself.
 
     gate_line.py                    runs `rt ci` here, and puts the line in its place
-    gate_line.py --anew             the same, with nothing kept
     gate_line.py --log FILE --minutes N    takes a run that was made of this commit
 
 It puts nothing where the gate fails, or where files of the repository differ from its last commit. The line names the commit of the run:
@@ -18,7 +17,8 @@ TOP = os.path.dirname(os.path.dirname(os.path.realpath(__file__)))
 TESTING = f"{TOP}/docs/TESTING.md"
 START = "**Last run.** "
 PASSED = re.compile(r"^(\d+) passed, 0 failed$", re.M)
-DONE = re.compile(r"^rt: ok; [^;]*(?:; must-fail edits: (\d+) refused[^;]*)?; (.*)$", re.M)
+WELL = re.compile(r"^rt: ok; ", re.M)
+REFUSED = re.compile(r"^rt: must-fail \S+: refused, as it must be", re.M)
 
 
 class NoLine(Exception):
@@ -45,11 +45,10 @@ def machine():
 
 def line_of(log, of, on, minutes, day):
     """The line of a run with this output. `NoLine` where it didn't pass, or was no whole run."""
-    passed, done = PASSED.findall(log), DONE.findall(log)
-    if not passed or not done:
+    passed = PASSED.findall(log)
+    if not passed or not WELL.search(log):
         raise NoLine("the output is of no whole run that passed")
-    edits, how = done[-1]
-    what = f"{passed[-1]} passed, 0 failed; {edits or 0} wrong bodies refused. {how[:1].upper()}{how[1:]}."
+    what = f"{passed[-1]} passed, 0 failed; {len(REFUSED.findall(log))} wrong bodies refused. All was done in this run, from nothing."
     return f"{START}{day}, commit `{of}`, {on}: {minutes:.0f} minutes. {what}"
 
 
@@ -75,19 +74,18 @@ def ran(words):
 
 def main(given=None):
     parser = argparse.ArgumentParser(description=__doc__, formatter_class=argparse.RawDescriptionHelpFormatter)
-    parser.add_argument("--anew", action="store_true")
     parser.add_argument("--log", metavar="FILE")
     parser.add_argument("--minutes", type=float)
     options = parser.parse_args(given)
-    if (options.log is None) != (options.minutes is None) or options.log and options.anew:
-        parser.error("--log goes with --minutes, and not with --anew")
+    if (options.log is None) != (options.minutes is None):
+        parser.error("--log goes with --minutes")
     try:
         of = commit()
         if options.log:
             with open(options.log, encoding="utf-8", errors="replace") as file:
                 log, minutes = file.read(), options.minutes
         else:
-            log, minutes = ran(["rt", "ci", *(["--anew"] if options.anew else [])])
+            log, minutes = ran(["rt", "ci"])
         line = line_of(log, of, machine(), minutes, time.strftime("%Y-%m-%d"))
         with open(TESTING, encoding="utf-8") as file:
             text = put(file.read(), line)

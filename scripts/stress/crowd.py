@@ -96,6 +96,7 @@ def comers(path, options, folder):
         with Crowd(running, kept.journal, options.seed, kept.next, count) as crowd:
             crowd.all_come()
             crowd.drain()
+        running.settle()
         came, kept.next = time.monotonic() - began, crowd.next
         last = running.memory()
         kept.follow([looked, *crowd.all])
@@ -139,6 +140,7 @@ def come_and_go(path, options, home, disk):
         with FullCrowd(disk, running, kept.journal, f"{options.seed}/full", kept.next, count) as crowd:
             crowd.all_come()
             crowd.drain()
+        running.settle()
         kept.next = crowd.next
         kept.follow([looked, *crowd.all])
         takes_looking(disk, kept.journal)
@@ -322,7 +324,7 @@ def sated(path, options, folder):
 
 
 SIZE = b'{"cmd":"size"}\n'
-STATUS, SCHEMA = b'{"service":"status"}\n', b'{"service":"schema"}\n'
+STATUS, SCHEMA = service.STATUS, b'{"service":"schema"}\n'
 NO_PLACE = b'{"error":"places","ok":false}\n'
 
 

@@ -1,6 +1,7 @@
 """A service that a script starts: `mi_service`, which serves connections without end and keeps a journal. It ends with the script.
 
 The program is MI_SERVICE where that is set, else the one that this script was installed with, else `crates/mi_service/out/mi_service`."""
+import json
 import os
 import re
 import resource
@@ -21,6 +22,7 @@ WAIT = 300
 """Seconds that anything may take here that isn't a long replay."""
 MOST = 64
 """Connections that are served at once."""
+STATUS = b'{"service":"status"}\n'
 NO_LIMIT = resource.getrlimit(resource.RLIMIT_FSIZE)[1]
 """How long a file may be at most here, in bytes, where it isn't limited further."""
 SANITIZER = {"ASAN_OPTIONS": "quarantine_size_mb=0:thread_local_quarantine_size_kb=0:verify_asan_link_order=0"}
@@ -123,6 +125,15 @@ class Service:
         stream.settimeout(WAIT)
         stream.connect(("127.0.0.1", self.port))
         return stream
+
+    def settle(self):
+        """Waits until nobody is connected: what those that have left had sent is done then, and stands in the journal."""
+        end = time.monotonic() + WAIT
+        with self.connect() as stream:
+            while len(json.loads(asked(stream, STATUS))["connections"]) > 1:
+                if time.monotonic() > end:
+                    raise TimeoutError(f"connections that have left were still there after {WAIT} s")
+                time.sleep(0.01)
 
     def memory(self):
         """Its memory, in kB."""

@@ -9,7 +9,9 @@ sys.path.insert(0, f"{TOP}/scripts")
 import gate_line  # noqa: E402
 
 WHOLE = """rt: mi_value proved
-rt: ok; handles allowed: Net; must-fail edits: 3 refused; every proof and must-fail edit was done in this run
+rt: must-fail mi_value/one.edit: refused, as it must be: ./proofs/one/Answers.antt:1:1: error: `returns`
+rt: must-fail mi_value/two.edit: refused, as it must be: ./proofs/two/Answers.antt:1:1: error: `returns`
+rt: ok; handles allowed: Net
 9 passed, 0 failed
 """
 
@@ -19,12 +21,8 @@ class ALine(unittest.TestCase):
         return gate_line.line_of(log, "abc", "4 processors (of a kind)", 71.6, "2026-01-02")
 
     def test_of_a_whole_run(self):
-        want = "**Last run.** 2026-01-02, commit `abc`, 4 processors (of a kind): 72 minutes. 9 passed, 0 failed; 3 wrong bodies refused. "
-        self.assertEqual(self.line(WHOLE), want + "Every proof and must-fail edit was done in this run.")
-
-    def test_of_a_run_that_kept_some(self):
-        kept = "done in this run: 2 of the 60 proofs (of crates and of their tests) and 1 of the 3 must-fail edits; the others are kept from earlier runs"
-        self.assertTrue(self.line(WHOLE.replace("every proof and must-fail edit was done in this run", kept)).endswith(f" refused. D{kept[1:]}."))
+        want = "**Last run.** 2026-01-02, commit `abc`, 4 processors (of a kind): 72 minutes. 9 passed, 0 failed; 2 wrong bodies refused. "
+        self.assertEqual(self.line(WHOLE), want + "All was done in this run, from nothing.")
 
     def test_of_none_that_passed(self):
         for log in ("", WHOLE.replace("9 passed, 0 failed", "8 passed, 1 failed"), "9 passed, 0 failed\n",

@@ -1,9 +1,11 @@
-"""What Linux tells of a server's process: memory, bytes, processor time; and which process listens on a port or at a path."""
+"""What Linux tells of a server's process: memory, bytes, processor time, the room beside its journal; and which process listens on a port or
+at a path."""
 from __future__ import annotations
 
 import contextlib
 import glob
 import os
+import re
 from typing import Dict, NamedTuple, Optional
 
 from mi_client.listening import Where, path_of
@@ -55,6 +57,25 @@ def _seconds(number: int) -> Optional[float]:
         return (int(fields[11]) + int(fields[12])) / os.sysconf("SC_CLK_TCK")
     except (OSError, IndexError, ValueError):
         return None
+
+
+def locked_file(number: Optional[int]) -> Optional[str]:
+    """The file that a process holds a lock of, as a service does of its journal: by the name that /proc has for it, whatever moved it
+    meanwhile. None where it holds none, or where that can't be seen."""
+    for path in glob.glob(f"/proc/{number}/fdinfo/*"):
+        if re.search(r"FLOCK\s+ADVISORY\s+WRITE", _members(path).get("lock", "")):
+            return path.replace("/fdinfo/", "/fd/")
+    return None
+
+
+def room_beside(path: Optional[str]) -> Optional[int]:
+    """How many bytes are free on the disk of a file, for users who aren't root."""
+    if path is None:
+        return None
+    with contextlib.suppress(OSError):
+        disk = os.statvfs(path)
+        return disk.f_bavail * disk.f_frsize
+    return None
 
 
 def listener(where: Where) -> Optional[int]:

@@ -27,7 +27,7 @@ PAUSE = 0.0005
 on has to go on asking, or it would hold the others up."""
 
 
-FULL = ", and its disk is full: changes are refused"
+FULL = "; the disk is full: changes are refused"
 """What is said of a journal that lacks room."""
 
 
@@ -53,6 +53,8 @@ class Sample(NamedTuple):
     """How many lines each of a service's connections has asked, by its number, where it tells."""
     uptime: Optional[int] = None
     """Since how many seconds a service is there."""
+    room: Optional[int] = None
+    """How many bytes are free on the journal's disk, where the system tells."""
     held_for: Optional[int] = None
     """How many lines who holds sessions has asked behind the one with which that began, where a service tells."""
 
@@ -85,7 +87,10 @@ class Watcher:
         unsent = sum(it["unsent"] for it in connections)
         journal = told.get("journal") or {}
         return Sample(time.monotonic(), sizes, now.revision, now.depth, holder, self.turns, usage, len(connections), unsent,
-                      journal.get("bytes"), journal.get("full"), lines_of(told), told.get("uptime"), held_for(told))
+                      journal.get("bytes"), journal.get("full"), lines_of(told), told.get("uptime"), process.room_beside(self.journal_file(journal)), held_for(told))
+
+    def journal_file(self, journal: Dict[str, Any]) -> Optional[str]:
+        return process.locked_file(self.number) if journal else None
 
     def sizes(self) -> List[Tuple[str, int]]:
         names = [it.name for it in self.db.schema.tables] if self.db.schema else ["(first)"]
@@ -168,7 +173,7 @@ def screen(now: Sample, before: Sample) -> str:
         f"sessions  {now.depth} open, revision {now.revision}; held by {now.holder}" + ("" if now.held_for is None else f", for {now.held_for} lines"),
         *([] if now.connections is None else [f"clients   {now.connections} connections, {amount(now.unsent)} unsent"]),
         *asking(now, before),
-        *([] if now.journal is None else [f"journal   {amount(now.journal)}{FULL if now.is_full else ''}"]),
+        *([] if now.journal is None else [f"journal   {journal_shown(now.journal, now.is_full, now.room)}"]),
         *([] if now.uptime is None else [f"up        {up(now.uptime)}"]),
         "",
         table(rows, ["table", "rows", "rows/s"]),
@@ -194,6 +199,7 @@ def prometheus(it: Sample) -> str:
     add("uptime_seconds", "gauge", "Seconds since the service's start.", ("", it.uptime))
     add("journal_bytes", "gauge", "Bytes of the service's journal.", ("", it.journal))
     add("journal_full", "gauge", "1 where the journal's disk lacks room, and changes are refused.", ("", None if it.is_full is None else int(it.is_full)))
+    add("journal_disk_free_bytes", "gauge", "Bytes that are free on the journal's disk.", ("", it.room))
     add("resident_memory_bytes", "gauge", "Memory of the process.", ("", it.usage.memory))
     add("read_bytes_total", "counter", "Bytes that the server has read, of connections since this began to look.", ("", it.usage.read))
     add("written_bytes_total", "counter", "Bytes that the server has written, likewise.", ("", it.usage.written))
@@ -286,7 +292,12 @@ def holding(it: Dict[str, Any]) -> str:
     return "" if not it["holds"] else "yes" if it.get("since") is None else f"since line {it['since']}"
 
 
-def shown_status(told: Dict[str, Any]) -> str:
+def journal_shown(size: int, is_full: Optional[bool], room: Optional[int]) -> str:
+    """A journal's bytes, those that are free on its disk where they are known, and whether it lacks room."""
+    return amount(size) + ("" if room is None else f", {amount(room)} free on its disk") + (FULL if is_full else "")
+
+
+def shown_status(told: Dict[str, Any], room: Optional[int]) -> str:
     """A status as people read it."""
     connections = [
         {"connection": it["number"], "holds sessions": holding(it), "lines": it.get("lines", ""), "unsent": it["unsent"]}
@@ -297,7 +308,7 @@ def shown_status(told: Dict[str, Any]) -> str:
     journal = told.get("journal")
     return "\n".join([
         f"mi_service {told['version']}{since}: {told['depth']} sessions open, held by {holder}",
-        *([f"journal: {amount(journal['bytes'])}{FULL if journal['full'] else ''}"] if journal else []),
+        *([f"journal: {journal_shown(journal['bytes'], journal['full'], room)}"] if journal else []),
         "",
         table(connections, ["connection", "holds sessions", "lines", "unsent"]),
         "",
@@ -323,5 +334,6 @@ def main_status(words: Optional[List[str]] = None) -> int:
     if told is None:
         print("weltiyo: this server tells no status; mi_service does", file=sys.stderr)
         return 1
-    print(json.dumps(told, separators=(",", ":")) if options.json else shown_status(told))
+    room = process.room_beside(process.locked_file(process.listener(options.connect))) if told.get("journal") else None
+    print(json.dumps(told, separators=(",", ":")) if options.json else shown_status(told, room))
     return 0

@@ -133,7 +133,10 @@ class Services(unittest.TestCase):
             with open(self.journal, "rb") as file:
                 text = file.read()
             self.assertEqual(told, {"bytes": text.rindex(b"\n") + 1, "full": False})
-            self.assertIn(f"\nweltiyo_journal_bytes {told['bytes']}\n", kit.ran("metrics", "--connect", str(server.port)).stdout)
+            figures = kit.ran("metrics", "--connect", str(server.port)).stdout
+            self.assertIn(f"\nweltiyo_journal_bytes {told['bytes']}\n", figures)
+            self.assertIn("\nweltiyo_journal_disk_free_bytes ", figures)
+            self.assertIn(" free on its disk\n", kit.ran("status", "--connect", str(server.port)).stdout)
         with Server(service=SERVICE) as server, server.connect(10) as db:
             self.assertIsNone(service_lines.status(db)["journal"])
 
