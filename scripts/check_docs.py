@@ -18,6 +18,7 @@ their stored replies (`examples/NAME.out`), and the tests of the client and of t
 left out, of the tests too, is told in lines that begin with 'skipped: '. The last line is 'N passed, M failed'."""
 import argparse
 import collections
+import concurrent.futures
 import glob
 import os
 import re
@@ -26,6 +27,7 @@ import signal
 import subprocess
 import sys
 import tempfile
+import threading
 
 import library
 import program
@@ -124,14 +126,25 @@ class Documents:
     def __init__(self, path, folder):
         self.path, self.folder = path, folder
         self.talk, self.passed, self.failed, self.skipped = None, 0, 0, []
+        self.counting = threading.Lock()
 
     def check(self, place, call, *args):
+        why = None
         try:
             call(*args)
-            self.passed += 1
         except (Differs, Ended, OSError, subprocess.TimeoutExpired, ValueError) as error:
-            self.failed += 1
-            print(f"{place}: {error}")
+            why = error
+        with self.counting:
+            self.passed += why is None
+            self.failed += why is not None
+            if why is not None:
+                print(f"{place}: {why}", flush=True)
+
+    def side_by_side(self, *calls):
+        """Calls that wait for one another at no point."""
+        with concurrent.futures.ThreadPoolExecutor(len(calls)) as pool:
+            for it in [pool.submit(it) for it in calls]:
+                it.result()
 
     def schema(self, name):
         for folder in (self.folder, f"{TOP}/examples"):
@@ -298,6 +311,16 @@ class Documents:
 
     # Tests
 
+    def of_clients(self):
+        self.check("clients/python/tests", self.tests, f"{TOP}/clients/python/tests")
+        self.node()
+        self.bindings()
+
+    def of_scripts(self):
+        self.check("scripts/tests", self.tests, f"{TOP}/scripts/tests")
+        self.check("scripts/stress fuzz", self.stress, "fuzz", "--lines", "600")
+        self.check("scripts/stress stall", self.stress, "stall")
+
     def tests(self, folder):
         """The tests of a folder, one at least; those that are skipped are told by why."""
         env = {**os.environ, "MI_SERVER": self.path}
@@ -425,12 +448,7 @@ def main():
             checks.examples()
         if not options.files and not options.quick:
             print("== tests", flush=True)
-            checks.check("clients/python/tests", checks.tests, f"{TOP}/clients/python/tests")
-            checks.node()
-            checks.bindings()
-            checks.check("scripts/tests", checks.tests, f"{TOP}/scripts/tests")
-            checks.check("scripts/stress fuzz", checks.stress, "fuzz", "--lines", "600")
-            checks.check("scripts/stress stall", checks.stress, "stall")
+            checks.side_by_side(checks.of_clients, checks.of_scripts)
             checks.services()
             checks.window()
             checks.check("scripts/check_heads.py", checks.heads)
