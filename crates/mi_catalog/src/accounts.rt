@@ -1,5 +1,5 @@
 //! The schema that is served where no other is given: accounts by owner, balance, vip and class, and in a line.
-ghost use Rattle.std.specs.Prelude.{◌≡◌, true, false, IfOk};
+ghost use Rattle.std.specs.Prelude.{◌≡◌, ◌∷◌, ◌++◌, [], true, false, IfOk};
 ghost use Rattle.mi_catalog.specs.Accounts.{accounts};
 
 use crate::index::{Column, Index, IndexKind, Parts};
@@ -14,23 +14,6 @@ fn column(alloc: Global, name: &str, kind: ColumnType) -> Result<Column, AllocEr
     Ok(Column {
         name: Text::of(alloc, name)?,
         kind,
-    })
-}
-
-fn index(
-    alloc: Global,
-    name: &str,
-    kind: IndexKind,
-    unique: bool,
-    parts: &[KeyPart],
-) -> Result<Index, AllocError>
-    ensures { IfOk result (λ i. i ≡ record { name = name.now; kind = kind; «unique» = unique; parts = parts.now }) }
-{
-    Ok(Index {
-        name: Text::of(alloc, name)?,
-        kind,
-        unique,
-        parts: Parts::new(parts.to_vec(alloc)?),
     })
 }
 
@@ -61,28 +44,45 @@ fn columns(alloc: Global) -> Result<Vec<Column>, AllocError>
     Ok(vec![in alloc; owner, balance, vip]?)
 }
 
+/// Adds an index to those before it.
+fn add_index(
+    alloc: Global,
+    indexes: &mut Vec<Index>,
+    name: &str,
+    kind: IndexKind,
+    unique: bool,
+    parts: &[KeyPart],
+) -> Result<(), AllocError>
+    ensures { IfOk result (λ _. indexes.new.items ≡ indexes.old.items ++ record { name = name.now; kind = kind; «unique» = unique; parts = parts.now } ∷ []) }
+{
+    Ok(indexes.push(Index {
+        name: Text::of(alloc, name)?,
+        kind,
+        unique,
+        parts: Parts::new(parts.to_vec(alloc)?),
+    })?)
+}
+
 fn indexes(alloc: Global) -> Result<Vec<Index>, AllocError>
     ensures { IfOk result (λ is. is.items ≡ accounts.indexes) }
 {
-    let id = index(alloc, "id", IndexKind::Ranked, true, &[])?;
-    let by_owner = index(alloc, "by_owner", IndexKind::Hashed, true, &[ascending(0)])?;
-    let by_balance = index(
+    use IndexKind::{Hashed, Ordered, Ranked, Sequenced};
+    let class = [descending(2), ascending(1)];
+    let mut all = Vec::new(alloc);
+    add_index(alloc, &mut all, "id", Ranked, true, &[])?;
+    add_index(alloc, &mut all, "by_owner", Hashed, true, &[ascending(0)])?;
+    add_index(
         alloc,
+        &mut all,
         "by_balance",
-        IndexKind::Ranked,
+        Ranked,
         false,
         &[ascending(1)],
     )?;
-    let by_vip = index(alloc, "by_vip", IndexKind::Hashed, false, &[ascending(2)])?;
-    let by_class = index(
-        alloc,
-        "by_class",
-        IndexKind::Ordered,
-        false,
-        &[descending(2), ascending(1)],
-    )?;
-    let line = index(alloc, "line", IndexKind::Sequenced, false, &[])?;
-    Ok(vec![in alloc; id, by_owner, by_balance, by_vip, by_class, line]?)
+    add_index(alloc, &mut all, "by_vip", Hashed, false, &[ascending(2)])?;
+    add_index(alloc, &mut all, "by_class", Ordered, false, &class)?;
+    add_index(alloc, &mut all, "line", Sequenced, false, &[])?;
+    Ok(all)
 }
 
 /// The schema of accounts.
