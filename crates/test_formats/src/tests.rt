@@ -1,6 +1,5 @@
 //! Tables of what is read and written, and of random numbers.
 
-mod alike;
 mod bound;
 mod lines;
 mod random;

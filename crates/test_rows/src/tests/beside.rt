@@ -7,7 +7,8 @@ use mi_catalog::Catalog;
 use mi_hub::{Hub, Watched};
 use mi_plain::Plain;
 use mi_schema::read_catalog;
-use std::alloc::Global;
+use serde_json::Value as Json;
+use std::alloc::{AllocError, Global};
 use std::process::Abort;
 
 /// Two hubs that are asked the same, each with connection 1.
@@ -24,6 +25,21 @@ fn reply<D: Opens>(rt: &impl Abort, alloc: Global, hub: &mut Hub<D>, line: &[u8]
         .expect(rt, "a line is answered");
     let written = writer.inner().to_vec(alloc).expect(rt, "memory is there");
     String::from_utf8(written).expect(rt, "a reply is text")
+}
+
+/// A line as `serde_json` writes what it reads of it. What it refuses stays as it is, and so does a line that is too long.
+fn written_anew(alloc: Global, line: &[u8]) -> Result<Vec<u8>, AllocError> {
+    if line.len() > 65_536 {
+        return line.to_vec(alloc);
+    }
+    match Json::from_slice(alloc, line) {
+        Ok(value) => {
+            let mut text = value.to_string(alloc)?;
+            text.push_str("\n")?;
+            Ok(text.into_bytes())
+        }
+        Err(_) => line.to_vec(alloc),
+    }
 }
 
 /// A hub with connection 1 over the tables of a catalog.
@@ -52,9 +68,10 @@ impl<A: Opens, B: Opens> Both<A, B> {
         self.ask_bytes(rt, alloc, line.as_bytes())
     }
 
-    /// The same for a line that may be no text.
+    /// The same for a line that may be no text. The first is asked it written anew, so all that means the same is answered alike.
     pub(super) fn ask_bytes(&mut self, rt: &impl Abort, alloc: Global, line: &[u8]) -> String {
-        let got = reply(rt, alloc, &mut self.one, line);
+        let anew = written_anew(alloc, line).expect(rt, "memory is there");
+        let got = reply(rt, alloc, &mut self.one, anew.as_slice());
         let want = reply(rt, alloc, &mut self.other, line);
         assert_eq!(rt; got.as_str(), want.as_str(), "to {line:?}");
         got
