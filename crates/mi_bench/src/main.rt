@@ -1,6 +1,6 @@
-//! The calls of the container in loops, which `bench/container.py` measures. Each line of its input is a workload and a number of calls;
-//! each line that it prints says how many of them did what they were asked to, and a sum by which another container's work is seen to
-//! be the same. The workload `clock` prints the nanoseconds that the one before it was on a processor.
+//! The calls of the container in loops, which `bench/container.py` measures. Each line of its input is a workload and a number of calls.
+//! Each line that it prints says how many of them did what they were asked to. It also has a sum, by which another container's work is seen
+//! to be the same. The workload `clock` prints the nanoseconds that the one before it was on a processor.
 #![tactic(auto)]
 
 mod accounts;

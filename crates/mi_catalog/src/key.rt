@@ -40,8 +40,8 @@ fn compare_id_key(key: &[Value], id: u64) -> Ordering
     }
 }
 
-/// A key, or the first values of one, against the key of the row with this id and record, by an index with these parts: on as
-/// many values as the key has, so one without values is equal to every row. An index without parts goes by the id, which a
+/// A key, or the first values of one, against the key of the row with this id and record, by an index with these parts. As many
+/// values count as the key has, so one without values is equal to every row. An index without parts goes by the id, which a
 /// value is compared with as a whole number; further values make a key greater.
 pub fn compare_to_row(parts: &[KeyPart], key: &[Value], id: u64, row: &Record) -> Ordering
     ensures { result ≡ meaning.compare_to_row parts.now key.now (id, row.now) }

@@ -30,8 +30,8 @@ const FIRST_BUCKETS: usize = 16;
 ///
 /// A node's link keeps, as its tag, the hash of its key and its stamp, so neither is asked of a value again. A node
 /// stands in the bucket of its hash. In the bucket's chain the nodes of one key stand together as a group, in the order
-/// of their stamps: each node's link leads forth to the next one of the chain and back to the one before in its group,
-/// and the first of a group leads back to the last. So passing a group costs the same however many nodes it has. With
+/// of their stamps. Each node's link leads forth to the next one of the chain and back to the one before in its group.
+/// The first of a group leads back to the last. So passing a group costs the same however many nodes it has. With
 /// as many buckets as groups, which [`Chains::make_room`] sees to, a bucket has few groups; with fewer buckets each only
 /// has more of them.
 #[derive(Drop)]

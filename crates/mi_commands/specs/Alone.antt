@@ -1,8 +1,8 @@
 -- What a table by itself answers, with sessions of its own and a holder: a server that knows no catalog. Its commands have no member
--- `table`, and it has no refusal `table`. What is below it and knows no catalog either is taken as it is: JSON, the other members of
--- commands, rows and keys over a schema, changes and look-ups of a table, holders.
+-- `table`, and it has no refusal `table`. What is below it and knows no catalog either is taken as it is. That is JSON, the other members
+-- of commands, rows and keys over a schema, changes and look-ups of a table, and holders.
 --
--- The law: where a catalog has one table, a line without a member `table` is answered as that table by itself answers it. The bytes of the
+-- The law is of a catalog with one table. A line without a member `table` is answered as that table by itself answers it. The bytes of the
 -- reply are the same, and so are the table, its sessions, the revision and the holder that it leaves.
 use Rattle.std.specs.Prelude.{◌≡◌, ◌⊎◌, ◌↔◌, ℕ, List, [], ◌∷◌, ◌++◌, length, true, ◌&&◌, if◌then◌else◌}
 use Rattle.std.specs.Prelude.{Option, Some, None, option_and_then, Result, Ok, Err, codes, decimal}

@@ -1,5 +1,5 @@
--- Undos take back all that came since a start, whoever asked it and whatever was answered: after a start, an insert, a second start, an
--- erase and a look-up, two lines {"cmd":"undo"} give back the tables and the revision that the first start began with.
+-- Undos take back all that came since a start, whoever asked it and whatever was answered. An example: a start, an insert, a second start,
+-- an erase and a look-up. Two lines {"cmd":"undo"} then give back the tables and the revision that the first start began with.
 use Rattle.std.specs.Prelude.{◌≡◌, ◌⊎◌, ℕ, zero, suc, ◌+◌, ◌-◌, ◌≤◌, List, [], ◌∷◌, length, map, false, codes}
 use Rattle.mi_value.specs.declared.refusal.Refusal.{Refusal}
 use Rattle.mi_catalog.specs.Shape.{CatalogShape}

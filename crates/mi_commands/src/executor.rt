@@ -110,9 +110,9 @@ impl<D: Sessions + Drop> Executor<D> {
     }
 
     /// Answers a line of a connection: the output has its reply then, and nothing else. It says whether tables, sessions or holder may have
-    /// changed; where they haven't, all is as before. `memory` may stand in the place of any answer, and then nothing has changed; but not to
-    /// an over-long line, nor to one of a session command other than `start`, of `revision`, of `size` or of `rank` that is written
-    /// without spaces.
+    /// changed; where they haven't, all is as before. `memory` may stand in the place of any answer, and then nothing has changed. It never
+    /// answers an over-long line, nor some that are written without spaces: `revision`, `size`, `rank`, and session commands other than
+    /// `start`.
     pub fn answer(&mut self, conn: u64, line: Line<'_>, out: &mut Output) -> bool
         ensures given { MayGive conn self.old (asked_of line.entry) out.new self.new }
         ensures changed { MayAnswer conn self.old (asked_of line.entry) out.new result self.new }

@@ -1,6 +1,6 @@
--- A call is answered as its line. A line is a call's where its names are of the call's tables and indexes, or of none as the call's numbers are, and its
+-- A call is answered as its line. A line is a call's where its names are of the call's tables and indexes, or of none as the call's numbers are. Its
 -- row, key, bounds and edits are the values of the call's cells, or as little fit. Such a line is refused first for the same reason, or is the same
--- command; so both are answered the same, and leave the same.
+-- command. So both are answered the same, and leave the same.
 use Rattle.std.specs.Prelude.{◌≡◌, ℕ, true, false, List, length, Option, Some, None, Ok}
 use Rattle.std.specs.Option.{ok_or}
 use Rattle.mi_value.specs.declared.refusal.Refusal.TheVariants.{Index}

@@ -152,8 +152,8 @@ impl Engine {
     /// another, and their texts one behind another. At most as many rows as there is room for ids, and at most 1,000. Tells how many they are, and
     /// whether others remain. Without room for the values or their texts it tells what is wanted, and nothing is said of ids, cells and bytes.
     ///
-    /// Refusals, in this order: `NoTable`, `Index`, `Kind` (a hashed or sequenced index), `Key` (of the lower end, of the upper one, or a number that
-    /// is none of an end), and `Memory`; then ids, cells and bytes stay as they are.
+    /// Refusals, in this order: `NoTable`, `Index`, `Kind` (a hashed or sequenced index), `Key` and `Memory`. A `Key` is of the lower end, of the
+    /// upper one, or of a number that is none of an end. Then ids, cells and bytes stay as they are.
     pub fn range(
         &self,
         table: usize,

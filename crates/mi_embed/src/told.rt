@@ -18,8 +18,8 @@ pub struct Told {
     pub status: u32,
     /// Of a conflict the number of the index; of a page 1 where others remain, and else 0; of an answer without room the cells that it wants.
     pub index: u32,
-    /// Of an accepted call an id, a count, a rank or a revision; of a page how many rows it has; of a conflict the id of the other record; of an answer without room the bytes that
-    /// its texts want.
+    /// Of an accepted call an id, a count, a rank or a revision; of a page how many rows it has; of a conflict the id of the other record. Of an
+    /// answer without room it is the bytes that its texts want.
     pub number: u64,
 }
 

@@ -44,8 +44,8 @@ impl Nodes {
         })
     }
 
-    /// Puts a value into a new node, and the node into every index: by its key and this stamp, in the list of the index
-    /// that is given directly before the node that is given, and last in each other list. `n` is how many nodes there will
+    /// Puts a value into a new node, and the node into every index: by its key and this stamp, and last in each list. In the
+    /// list of the index that is given it stands directly before the node that is given. `n` is how many nodes there will
     /// be: chains get room for as many keys. It is the one call that takes memory, before anything is altered.
     ///
     /// Where memory is refused, the value comes back, and every index has the nodes that it had.

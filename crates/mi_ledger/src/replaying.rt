@@ -58,8 +58,8 @@ fn judge(changed: bool, reply: &[u8]) -> Result<(), LineFault>
     Err(LineFault::Refused)
 }
 
-/// Asks a line of a journal, with its newline, as the one connection that asks them, which is attached: the hub is left as the line leaves it
-/// where it is answered by the definition, and the line is one of a journal. So the lines of a journal, asked one after another, leave what its
+/// Asks a line of a journal, with its newline, as the one connection that asks them, which is attached. The hub is left as the line leaves it
+/// where it is answered by the definition. The line is then one of a journal. So the lines of a journal, asked one after another, leave what its
 /// run left.
 pub fn replay_line<D: Sessions + Drop>(
     alloc: Global,

@@ -1,4 +1,4 @@
-//! Hashes of keys under a secret, which counts from the first step on: a key is a list of words of eight bytes, and each is
+//! Hashes of keys under a secret, which counts from the first step on. A key is a list of words of eight bytes. Each is
 //! folded into a number that begins as the secret, by a factor that the secret chooses. So which keys have one hash can't be
 //! told without the secret. It reads values and records, and takes no memory.
 ghost use Rattle.std.specs.Prelude.{◌≡◌, fold, map, slice_get};

@@ -22,8 +22,8 @@ pub fn journals_join()
     ensures { JournalsJoin }
 {}
 
-/// The lines of a journal, asked again by one connection of the database that the run began with, give the run's database and as
-/// many sessions held; and once that connection is gone, the database that the run leaves once its holder is gone.
+/// The lines of a journal are asked again by one connection of the database that the run began with. They give the run's database and as
+/// many sessions held. Once that connection is gone, they give the database that the run leaves once its holder is gone.
 pub fn journals_replay()
     ensures same { JournalsReplay }
     ensures ended { ReplaysEndAsRuns }
@@ -34,9 +34,9 @@ pub fn replays_are_runs()
     ensures { ReplaysAreRuns }
 {}
 
-/// A front of a journal in whole lines gives the database and the number held at a front of the run; where it ends between the undos
-/// of a holder that goes away, less the sessions undone by then, and so the same once nobody holds any. A part of the run whose
-/// whole journal is there is in that front. The same of a file of the lines that is cut anywhere.
+/// A front of a journal in whole lines gives the database and the number held at a front of the run. Where it ends between the undos
+/// of a holder that goes away, it gives these less the sessions undone by then, and so the same once nobody holds any. A part of the run
+/// whose whole journal is there is in that front. The same of a file of the lines that is cut anywhere.
 pub fn fronts_replay()
     ensures lines { FrontsReplay }
     ensures bytes { TornFilesReplay }

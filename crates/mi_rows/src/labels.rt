@@ -1,6 +1,6 @@
-//! What is the same in each row of a reply: the members in the order of their names, each as a label, the bytes that stand before its
-//! value, the row's bracket or the comma among them, and which cell has the value. They are made without memory, and kept with a copy of
-//! the columns that they were made of.
+//! What is the same in each row of a reply: the members in the order of their names, each as a label. A label is the bytes that stand before
+//! a member's value, the row's bracket or the comma among them, and which cell has the value. They are made without memory, and kept with a
+//! copy of the columns that they were made of.
 ghost use Rattle.std.specs.Prelude.{◌≡◌, ◌≤◌, length, false, IfOk, IfSome};
 ghost use Rattle.std.specs.List.{All};
 ghost use Rattle.arrayvec.specs.ArrayVec.{array_vec_len};

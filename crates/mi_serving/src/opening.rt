@@ -327,8 +327,8 @@ pub fn without<F: JournalFile + Drop, D: Sessions + Drop>(hub: Hub<D>) -> Journa
 /// byte. Behind that it is seen under its path. Then what stands behind its whole lines is cut off, or the header is appended where it has none.
 /// The sessions that were held at its end are undone, by lines that are appended, and what it has stays, its name too.
 ///
-/// `JournalLocked` where another process has the file; `JournalFile` where it can't be opened, read or cut, was moved meanwhile, or has a zero
-/// byte behind a header's beginning; `JournalSchema` and `JournalLine` where it is no journal of this header; `Journal` where it can't be
+/// `JournalLocked` where another process has the file. `JournalFile` where it can't be opened, read or cut, was moved meanwhile, or has a zero
+/// byte behind a header's beginning. `JournalSchema` and `JournalLine` where it is no journal of this header. `Journal` where it can't be
 /// appended to or made to stay. The file is as it was then, but that it may lack what stands behind its whole lines or have the header's begin.
 pub fn opened<P: JournalFiles, D: Sessions + Drop>(
     alloc: Global,

@@ -103,7 +103,7 @@ fn accept_all<D: Sessions + Drop, L: Log + Drop>(
 /// are the replies to its own lines, whole and in their order. A connection keeps its number and its stream, and once its bytes have ended
 /// and its lines are asked nothing of it is held. A status says that so many seconds have passed since the start.
 ///
-/// `Memory` where memory for a reply or for the row is refused, or one that goes holds sessions still once 1,025 lines undid some;
+/// `Memory` where memory for a reply or for the row is refused, or one that goes holds sessions still once 1,025 lines undid some.
 /// `Journal` where a line can't be appended whole, or what was appended can't be made to stay. Nothing is said of the hub then, and
 /// the service ends.
 pub fn take_turn<D: Sessions + Drop, L: Log + Drop>(

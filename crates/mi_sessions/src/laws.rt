@@ -12,7 +12,7 @@ pub fn undos_take_back()
     ensures { UndosTakeBack }
 {}
 
-/// With d sessions open at revision r they have the numbers r - d + 1 to r, from the oldest to the newest; and a commit
+/// With d sessions open at revision r they have the numbers r - d + 1 to r, from the oldest to the newest. A commit
 /// up to x ends those whose number is at most x, and no other.
 pub fn sessions_are_numbered()
     ensures numbers { SessionsAreNumbered }
@@ -26,8 +26,8 @@ pub fn sessions_keep_their_numbers()
     ensures kept { SessionsKeepTheirNumbers }
 {}
 
-/// After any commands from an opened database it is well formed: in each table, also in those at the starts of open
-/// sessions, ids rise and are below the next one, and each index has each of them once.
+/// After any commands from an opened database it is well formed. In each table, also in those at the starts of open
+/// sessions, ids rise and are below the next one. Each index has each of them once.
 pub fn tables_stay_well_formed()
     ensures { TablesStayWellFormed }
 {}
@@ -52,8 +52,8 @@ pub fn commands_answer_alike()
     ensures several { RunsAnswerAlike }
 {}
 
-/// What fits a schema meets what the two laws above ask: a key that fits an index whole is a whole key, one that fits it as
-/// look-ups are asked is one that it is asked by, and a record that fits has a value for each part of each index.
+/// What fits a schema meets what the two laws above ask. A key that fits an index whole is a whole key. One that fits it as
+/// look-ups are asked is one that it is asked by. A record that fits has a value for each part of each index.
 pub fn what_fits_is_asked()
     ensures keys { WhatFitsIsAsked }
     ensures records { RecordsThatFitHaveWholeKeys }

@@ -1,4 +1,4 @@
--- A run of bytes that pass a test, seen some bytes at a time by the mask of those that fail it; and a mask that is made lane by lane,
+-- A run of bytes that pass a test, seen some bytes at a time by the mask of those that fail it. And a mask that is made lane by lane,
 -- held to the test at each of the 256 bytes.
 use Rattle.std.proofs.Common.{◌≡◌, ℕ, zero, suc, ◌+◌, ◌*◌, ◌%◌, ◌^◌, ◌<◌, ◌≤◌, ltb, Bool, true, false, not, ◌&&◌, cond, eqb, T, List, [], ◌∷◌, map, length, drop, ◌⊎◌, inl, inr}
 use Rattle.std.proofs.Common.{refl, sym, ap, ap₂, ◌∙◌, subst, arith, w8, Fits, not-suc-le-zero}

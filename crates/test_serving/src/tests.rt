@@ -1,4 +1,4 @@
-//! A journal that is asked again: torn lines at each byte, a reserve, a damaged line, another header, and none; and its file, which is taken by another
+//! A journal that is asked again: torn lines at each byte, a reserve, a damaged line, another header, and none. Its file is taken by another
 //! process, moved while it is read, or longer than what was read of it.
 ghost use Rattle.std.specs.Prelude.{◌≡◌, [], IfOk};
 

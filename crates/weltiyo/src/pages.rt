@@ -45,7 +45,7 @@ fn ranged(
 }
 
 /// Puts the rows between two bounds of an ordered or ranked index into ids, cells and bytes, and tells how many they are and whether others
-/// remain. An end is open (0), at its key (1) or beyond it (2); `reverse` is 0 for the order of the index, and any other number for the reverse.
+/// remain. An end is open (0), at its key (1) or beyond it (2). `reverse` is 0 for the order of the index, and any other number for the reverse.
 #[unsafe(no_mangle)]
 pub unsafe extern "C" fn weltiyo_range(
     at: *mut u8,
@@ -101,8 +101,8 @@ fn listed(
     engine.list(table, index, given(has_after, after), ids, cells, texts)
 }
 
-/// Puts the rows of a sequenced index behind the record `after`, or where `has_after` is 0 from the first on, into ids, cells and bytes, and
-/// tells how many they are and whether others remain.
+/// Puts the rows of a sequenced index behind the record `after` into ids, cells and bytes, and tells how many they are and whether others
+/// remain. Where `has_after` is 0 they are from the first on.
 #[unsafe(no_mangle)]
 pub unsafe extern "C" fn weltiyo_list(
     at: *mut u8,

@@ -218,7 +218,7 @@ fn plain_has_sessions(rt: HostRuntime) {
 }
 
 /// In the database that is served a start, a replacement, an erase and an undo behind a reserve for two changes and a session are
-/// never refused; by itself this test has memory, and `make faults` runs it with each request behind the mark refused.
+/// never refused. By itself this test has memory, and `make faults` runs it with each request behind the mark refused.
 #[test]
 fn a_reserved_block_needs_no_memory(rt: HostRuntime) {
     check_form::<Linked<MultiIndex>>(&rt, rt.alloc());

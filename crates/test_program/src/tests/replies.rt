@@ -15,7 +15,7 @@ use std::process::Abort;
 use std::test::Fail;
 
 /// What one client and the server have exchanged: the lines that were asked, the replies that were written, and those of them that were
-/// flushed; how many flushes the client takes; and whether its stream was told to send at once.
+/// flushed. Beside these it has how many flushes the client takes, and whether its stream was told to send at once.
 #[derive(Drop)]
 struct Talk {
     asked: Cell<usize>,
