@@ -1,11 +1,13 @@
 #!/usr/bin/env python3
 """Whether files open with what they are: each source file with a head, each file of lemmas, laws or answers with what it proves, in words;
-and whether `docs/DEFINITIONS.md` names each file of definitions.
+whether each file of lemmas or laws says who cites it; and whether `docs/DEFINITIONS.md` names each file of definitions.
 
     check_heads.py [FOLDER ..]
+    check_heads.py --mend           writes who cites each file of lemmas or laws, as it is now
 
 A source file of a crate (`crates/*/src/**/*.rt`) opens with `//!`. The files `crates/*/proofs/*.antt`, but for `Lib.antt`, and
-`crates/*/proofs/**/Answers.antt` open with a line `-- ..`. A file of definitions (`crates/*/specs/X.antt`, but for those of tests) stands in
+`crates/*/proofs/**/Answers.antt` open with a line `-- ..`. The last line of the head of the former is `-- Cited by ..`: functions, lemmas and
+definitions of its crate, five at most, and other crates. A file of definitions (`crates/*/specs/X.antt`, but for those of tests) stands in
 the document as `X` in backquotes, by its crate; and what stands there so is a file. Each that lacks this is named on a line of its own; the
 status is 1 then, else 0. Without folders all crates are looked at. Where a folder has no such file the status is 2."""
 import os
@@ -18,6 +20,9 @@ OPENS = {".rt": "//! ", ".antt": "-- "}
 CODE = re.compile(r"`([^`]+)`")
 NAME = re.compile(r"[A-Z]\w*$")
 OF = re.compile(r"`(\w+)` of `(\w+)")
+CITES = re.compile(r"(?:\bRattle\.(\w+)\.proofs\.|\bcrate::proofs::)(\w+)")
+CITED = re.compile(r"-- (Cited by .*|Nobody cites it)\.$")
+MOST_NAMED = 5
 
 
 def files_in(folder):
@@ -34,6 +39,87 @@ def files_in(folder):
 def lacks_head(file):
     with open(file, encoding="utf-8") as it:
         return not it.readline().startswith(OPENS[os.path.splitext(file)[1]])
+
+
+def lemmas_in(crates):
+    """The files of lemmas and laws of all crates, each by its crate and its name."""
+    found = {}
+    for crate in sorted(os.listdir(crates)):
+        for file in files_in(f"{crates}/{crate}"):
+            if os.path.dirname(file) == f"{crates}/{crate}/proofs":
+                found[crate, os.path.basename(file)[:-5]] = file
+    return found
+
+
+def citer(crates, file):
+    """The crate of a file, and how one that it cites names it: a function by its module or type, a file of lemmas or definitions by its own name."""
+    crate, kind, *inside = os.path.relpath(file, crates).split(os.sep)
+    name = os.path.splitext(inside[-1])[0]
+    if kind == "src":
+        return crate, "::".join([*inside[:-1], name])
+    return crate, "::".join(inside[-3:-1]) if len(inside) > 1 else name
+
+
+def citers(crates):
+    """Who cites each file of lemmas or laws: a list of crates with names."""
+    found = {it: set() for it in lemmas_in(crates)}
+    for at, folders, names in os.walk(crates):
+        folders[:] = sorted(it for it in folders if it not in ("out", "must-fail", "further-edits"))
+        for name in sorted(names):
+            file = os.path.join(at, name)
+            if not name.endswith((".antt", ".rt")) or name == "Lib.antt":
+                continue
+            with open(file, encoding="utf-8") as it:
+                text = it.read()
+            own = os.path.relpath(file, crates).split(os.sep)[0]
+            for crate, lemmas in {(it[0] or own, it[1]) for it in CITES.findall(text)}:
+                if (crate, lemmas) in found and found_file(crates, crate, lemmas) != file:
+                    found[crate, lemmas].add(citer(crates, file))
+    return found
+
+
+def found_file(crates, crate, lemmas):
+    return os.path.join(crates, crate, "proofs", f"{lemmas}.antt")
+
+
+def cited_line(crate, citing):
+    """The line of a head that says who cites it."""
+    own = sorted({name for of, name in citing if of == crate}, key=lambda it: ("::" not in it, it))
+    names = [f"`{it}`" for it in own[:MOST_NAMED]]
+    more = len(own) - len(names)
+    others = [f"`{it}`" for it in sorted({of for of, _ in citing} - {crate})]
+    if more:
+        names.append(f"{more} more")
+    parts = names + others
+    if not parts:
+        return "-- Nobody cites it."
+    return "-- Cited by " + (", ".join(parts[:-1]) + " and " if parts[1:] else "") + parts[-1] + "."
+
+
+def with_cited(text, line):
+    """A file's text with this line at the end of its head."""
+    lines = text.split("\n")
+    end = next(n for n, it in enumerate(lines) if not it.startswith("--"))
+    head = [it for it in lines[:end] if not CITED.match(it)]
+    return "\n".join([*head, line, *lines[end:]])
+
+
+def uncited(crates, mend):
+    """The files whose heads don't say who cites them, as it is; they do then, with `mend`. And those that nobody cites."""
+    wrong, unused = [], []
+    for (crate, lemmas), citing in citers(crates).items():
+        file = found_file(crates, crate, lemmas)
+        with open(file, encoding="utf-8") as it:
+            text = it.read()
+        wanted = with_cited(text, cited_line(crate, citing))
+        if not citing:
+            unused.append(file)
+        if wanted != text:
+            wrong.append(file)
+            if mend:
+                with open(file, "w", encoding="utf-8") as it:
+                    it.write(wanted)
+    return wrong, unused
 
 
 def definitions_in(folder):
@@ -74,6 +160,10 @@ def named_in(text, crates):
 
 def main(given):
     crates = f"{TOP}/crates"
+    if given == ["--mend"]:
+        wrong, unused = uncited(crates, True)
+        print(f"{len(wrong)} files were mended" + "".join(f"\nnobody cites {os.path.relpath(it, TOP)}" for it in unused))
+        return 0
     folders = given or [f"{crates}/{name}" for name in sorted(os.listdir(crates))]
     empty = [it for it in folders if not any(files_in(it))]
     for folder in empty:
@@ -92,7 +182,12 @@ def main(given):
     absent = [(name, of) for name, of in wanted if of and not any(os.path.isfile(f"{crates}/{it}/specs/{name}.antt") for it in of)]
     for name, of in absent:
         print(f"docs/DEFINITIONS.md: names {name}, which isn't in the definitions of {', '.join(of)}")
-    return 1 if missing or unnamed or absent else 0
+    wrong, unused = ([], []) if given else uncited(crates, False)
+    for file in wrong:
+        print(f"{os.path.relpath(file, TOP)}: its head doesn't say who cites it; `check_heads.py --mend` writes it")
+    for file in unused:
+        print(f"{os.path.relpath(file, TOP)}: nobody cites it")
+    return 1 if missing or unnamed or absent or wrong or unused else 0
 
 
 if __name__ == "__main__":

@@ -14,9 +14,9 @@ import check_heads  # noqa: E402
 
 WELL = {
     "crates/mi_one/src/lib.rt": "//! What it is.\n",
-    "crates/mi_one/proofs/OneLemmas.antt": "-- What it proves.\n",
+    "crates/mi_one/proofs/OneLemmas.antt": "-- What it proves.\n-- Cited by `one`.\n",
     "crates/mi_one/proofs/Lib.antt": "pub mod OneLemmas\n",
-    "crates/mi_one/proofs/one/Answers.antt": "-- What it proves.\n",
+    "crates/mi_one/proofs/one/Answers.antt": "-- What it proves.\nuse Rattle.mi_one.proofs.OneLemmas.{it}\n",
     "crates/mi_one/proofs/one/Invariants.antt": "'row = refl\n",
     "crates/mi_one/specs/Shape.antt": "-- What it defines.\n",
     "docs/DEFINITIONS.md": "## Words (`mi_one/specs`)\n\n| `Shape` | its shape |\n",
@@ -40,7 +40,24 @@ class Heads(unittest.TestCase):
 
     def test_a_file_without_a_head(self):
         for name in ("crates/mi_one/src/lib.rt", "crates/mi_one/proofs/OneLemmas.antt", "crates/mi_one/proofs/one/Answers.antt"):
-            self.assertEqual(self.said(**{name: "use it\n"}), (1, f"{name}: it doesn't open with what it is\n"))
+            status, said = self.said(**{name: "use it\n"})
+            self.assertEqual((status, said.splitlines()[0]), (1, f"{name}: it doesn't open with what it is"))
+
+    def test_who_cites_it(self):
+        lemmas, more = "crates/mi_one/proofs/OneLemmas.antt", "crates/mi_one/proofs/two/Answers.antt"
+        told = f"{lemmas}: its head doesn't say who cites it; `check_heads.py --mend` writes it\n"
+        self.assertEqual(self.said(**{lemmas: "-- What it proves.\n"}), (1, told))
+        self.assertEqual(self.said(**{more: "-- Two.\nuse Rattle.mi_one.proofs.OneLemmas.{it}\n"}), (1, told))
+        status, said = self.said(**{"crates/mi_one/proofs/one/Answers.antt": "-- What it proves.\n"})
+        self.assertEqual((status, said), (1, f"{told}{lemmas}: nobody cites it\n"))
+
+    def test_lines_of_who_cites(self):
+        some = {("mi_one", "a::one"), ("mi_one", "TwoLemmas"), ("mi_two", "b::two")}
+        self.assertEqual(check_heads.cited_line("mi_one", some), "-- Cited by `a::one`, `TwoLemmas` and `mi_two`.")
+        many = {("mi_one", f"f{n}") for n in range(7)}
+        self.assertEqual(check_heads.cited_line("mi_one", many), "-- Cited by `f0`, `f1`, `f2`, `f3`, `f4` and 2 more.")
+        text = "-- What it proves,\n-- in words.\n-- Cited by `old`.\nuse it\n"
+        self.assertEqual(check_heads.with_cited(text, "-- Cited by `new`."), text.replace("old", "new"))
 
     def test_definitions_that_are_not_named(self):
         status, said = self.said(**{"docs/DEFINITIONS.md": "## Words (`mi_one/specs`)\n"})

@@ -32,7 +32,6 @@ pub mod LookUpLemmas
 pub mod ProbeLemmas
 pub mod CallLemmas
 pub mod KeyCallLemmas
-pub mod KeptNodeLemmas
 pub mod RelocateCallLemmas
 pub mod OldRecordPlaceLemmas
 pub mod TakeBackPutLemmas
