@@ -22,7 +22,7 @@ NAME = re.compile(r"[A-Z]\w*$")
 OF = re.compile(r"`(\w+)` of `(\w+)")
 CITES = re.compile(r"(?:\bRattle\.(\w+)\.proofs\.|\bcrate::proofs::)(\w+)")
 CITED = re.compile(r"-- (Cited by .*|Nobody cites it)\.$")
-MOST_NAMED = 5
+MOST_NAMED, LONGEST_LINE = 5, 140
 
 
 def files_in(folder):
@@ -83,14 +83,16 @@ def found_file(crates, crate, lemmas):
 
 
 def cited_line(crate, citing):
-    """The line of a head that says who cites it."""
+    """The line of a head that says who cites it, with as many names as it has room for."""
     own = sorted({name for of, name in citing if of == crate}, key=lambda it: ("::" not in it, it))
-    names = [f"`{it}`" for it in own[:MOST_NAMED]]
-    more = len(own) - len(names)
     others = [f"`{it}`" for it in sorted({of for of, _ in citing} - {crate})]
-    if more:
-        names.append(f"{more} more")
-    parts = names + others
+    lines = [line_naming([f"`{it}`" for it in own[:most]], len(own) - most, others) for most in range(MOST_NAMED, 0, -1)]
+    return next((it for it in lines if len(it) <= LONGEST_LINE), lines[-1])
+
+
+def line_naming(names, more, others):
+    """The line that names these, says how many more there are of the same crate, and names other crates."""
+    parts = names + ([f"{more} more"] if more > 0 else []) + others
     if not parts:
         return "-- Nobody cites it."
     return "-- Cited by " + (", ".join(parts[:-1]) + " and " if parts[1:] else "") + parts[-1] + "."
