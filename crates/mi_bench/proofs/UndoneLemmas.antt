@@ -1,4 +1,5 @@
 -- What taking back asks of the inverse of a change that was just made.
+-- Cited by `Accounts::add_and_unwind` and `Accounts::erase_and_unwind`.
 use Rattle.std.proofs.Common.{◌≡◌, ℕ, sym, subst}
 use Rattle.std.specs.declared.option.Option.{Option}
 use Rattle.std.specs.declared.option.Option.TheVariants.{None, Some}

@@ -1,4 +1,5 @@
 -- A key against an id.
+-- Cited by `key::compare_to_row` and `key::compare_values`.
 use Rattle.std.proofs.Common.{◌≡◌, ℕ, pos, true, false, List, [], ◌∷◌, length, refl, arith}
 use Rattle.std.proofs.lemmas.Bool.{eqb-true, eqb-false}
 use Rattle.std.specs.Prelude.{◌==◌}

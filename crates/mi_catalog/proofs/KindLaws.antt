@@ -1,4 +1,5 @@
 -- Kinds of index by what they can do.
+-- Cited by `mi_multi` and `mi_protocol`.
 use Rattle.std.proofs.Common.{◌≡◌, true, false, refl}
 use Rattle.mi_catalog.specs.declared.index.IndexKind.{IndexKind}
 use Rattle.mi_catalog.specs.declared.index.IndexKind.TheVariants.{Ordered, Ranked, Hashed, Sequenced}

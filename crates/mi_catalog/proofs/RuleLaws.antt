@@ -1,4 +1,5 @@
 -- What follows from the rules of a schema and of a catalog.
+-- Cited by `Catalog::first_revision`, `Schema::first_arrival`, `Schema::first_id`, 3 more, `mi_database`, `mi_index` and `mi_multi`.
 use Rattle.std.proofs.Common.{◌≡◌, ℕ, zero, suc, ◌<◌, ◌≤◌, true, false, List, [], ◌∷◌, length, slice_index_or, ap, subst, arith}
 use Rattle.std.specs.Prelude.{◌==◌, bytes_eq, codes}
 use Rattle.std.specs.List.{list_all}

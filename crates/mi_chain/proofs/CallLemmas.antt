@@ -1,4 +1,5 @@
 -- The same by keys and pools: what the calls of the chains cite.
+-- Cited by `Chains::first_of`, `Chains::insert`, `Chains::next_of`, `Chains::prev_of`, 5 more, `mi_index` and `test_storage`.
 use Rattle.std.proofs.Common.{◌≡◌, ℕ, ◌+◌, ◌-◌, ◌==◌, ◌<◌, ◌≤◌, ◌%◌, ◌^◌, ◌⊎◌, inl, inr, Bool, true, false, not, cond, List, [], ◌∷◌, ◌++◌}
 use Rattle.std.proofs.Common.{length, slice_index_or, vec_len, Option, Some, None, refl, sym, ap, ◌∙◌, subst, arith, length-append}
 use Rattle.std.specs.List.{filter}

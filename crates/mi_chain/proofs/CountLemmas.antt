@@ -1,4 +1,5 @@
 -- How many keys there are, when a node is put in or taken out.
+-- Cited by `CallLemmas`.
 use Rattle.std.proofs.Common.{◌≡◌, ◌+◌, ◌≤◌, ◌<◌, Bool, true, false, cond, List, [], ◌∷◌, ◌++◌, length, refl, sym, ap, ◌∙◌, arith}
 use Rattle.std.specs.List.{filter}
 use Rattle.mi_node.specs.Refs.{Ref}

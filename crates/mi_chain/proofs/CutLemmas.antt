@@ -1,4 +1,5 @@
 -- A bucket's chain is cut around a place, changed at both sides of it, and put together.
+-- Cited by `CallLemmas`, `ChangeLemmas`, `MoveLemmas`, `SearchLemmas` and `StandingLemmas`.
 use Rattle.std.proofs.Common.{◌≡◌, ℕ, List, [], ◌∷◌, ◌++◌, Option, Some, None, refl, sym, ap, ◌∙◌, subst, append_assoc}
 use Rattle.mi_node.specs.Pool.{Pooled, link_of, IsHeld, IsHeldIf, Keeps, with_link}
 use Rattle.mi_node.specs.Neighbours.{AreHeld, IsLinked, with_back_if, with_forth_if, with_back, with_forth, joined}

@@ -4,6 +4,7 @@
 --     chained_elsewhere      for a pool after `take`, `give` or `swap_value`, or after a call on another structure
 --     chained_taken      for a pool with one more node
 --     chained_swapped      for a pool after a value was exchanged for one of an equal key
+-- Cited by `laws::chains_stand_where_swapped`, `mi_index` and `test_storage`.
 use Rattle.std.proofs.Common.{◌≡◌, ℕ, ◌+◌, ◌<◌, ◌%◌, ◌==◌, Bool, true, false, not, cond, option_map, List}
 use Rattle.std.proofs.Common.{[], ◌∷◌, ◌++◌, Option, Some, None, vec_len, refl, sym, ap, ◌∙◌, subst, arith}
 use Rattle.std.specs.List.{filter}

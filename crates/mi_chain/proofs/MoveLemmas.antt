@@ -1,4 +1,5 @@
 -- Groups move from old buckets to new ones.
+-- Cited by `Chains::make_room`, `Chains::move_all`, `Chains::move_bucket` and `Chains::move_group`.
 use Rattle.std.proofs.Common.{◌≡◌, ℕ, ◌==◌, ◌<◌, ◌%◌, ◌+◌, Bool, true, false, not, cond, List, [], ◌∷◌, length, slice_index_or}
 use Rattle.std.proofs.Common.{slice_set, vec_len, replicate, Vec, Global, Option, Some, None, refl, sym, ap, ◌∙◌, subst, arith}
 use Rattle.std.specs.List.{filter}

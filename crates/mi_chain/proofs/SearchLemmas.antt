@@ -1,6 +1,7 @@
 -- What the searches in a chain keep, and that they end.
 --     Walked      the groups so far were passed
 --     Gapped      the nodes so far, from the newest on, have no lower stamp
+-- Cited by `look::gap_for`, `look::group_ending`, `look::group_of`, `look::group_of_key`, `CallLemmas` and 2 more.
 use Rattle.std.proofs.Common.{◌≡◌, ◌⊎◌, inl, inr, ℕ, zero, suc, ◌+◌, ◌==◌, ◌<◌, ◌≤◌, Bool, true, false, cond, List, [], ◌∷◌}
 use Rattle.std.proofs.Common.{◌++◌, length, Option, Some, None, refl, sym, ap, ◌∙◌, subst, append_assoc, arith, length-append}
 use Rattle.std.proofs.lemmas.List.{append-nil}

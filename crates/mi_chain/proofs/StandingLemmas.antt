@@ -1,4 +1,5 @@
 -- Chains as a whole: what a search in one bucket tells of all nodes, and what a change of one bucket leaves.
+-- Cited by `Chains::first_of`, `Chains::head`, `Chains::move_bucket`, `CallLemmas`, `ChangeLemmas` and 1 more.
 use Rattle.std.proofs.Common.{◌≡◌, ℕ, zero, suc, ◌==◌, ◌<◌, ◌%◌, Bool, true, false, not, cond, List, [], ◌∷◌}
 use Rattle.std.proofs.Common.{◌++◌, length, slice_index_or, Option, Some, None, refl, sym, ap, ◌∙◌, subst, arith}
 use Rattle.std.specs.List.{filter}

@@ -1,4 +1,5 @@
 -- The connection beside those of a row: it is read, a line of it is answered, and what it is owed is sent.
+-- Cited by `Beside::judge`, `Beside::serve`, `beside::answer`, `beside::attend` and `beside::turn_away`.
 use Rattle.std.proofs.Common.{◌≡◌, ◌⊎◌, inl, inr, ◌<◌, ◌≤◌, ℕ, Bool, true, false, not, cond, List, [], ◌∷◌, ◌++◌, length, Option, Some, None, refl, sym, ap, subst, ◌∙◌, append-nil, arith}
 use Rattle.std.specs.Io.KnownBytes.{Consumes, Keeps, IsAtEnd}
 use Rattle.mi_hub.specs.Ended.{ended}

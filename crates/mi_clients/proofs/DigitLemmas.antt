@@ -1,4 +1,5 @@
 -- What `parse` reads of decimal digits; `service_lines` cites it.
+-- Cited by `service_lines::number_in`.
 use Rattle.std.proofs.Common.{◌≡◌, ◌<◌, ℕ, List, [], ◌∷◌, length, drop, Bool, true, false, cond, ◌&&◌, ◌==◌, nat_eq, nat_lt, Option, Some, None, Result, Ok, Err, refl, sym, ap, ◌∙◌, subst, arith}
 use Rattle.std.specs.Result.{result_ok}
 use Rattle.std.specs.List.{starts_with}

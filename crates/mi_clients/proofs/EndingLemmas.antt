@@ -1,4 +1,5 @@
 -- Those of a row that have asked to end others, and those that are ended; `ending` cites them.
+-- Cited by `ending::end_asked`, `ending::end_one` and `ending::next_end`.
 use Rattle.std.proofs.Common.{◌≡◌, ◌⊎◌, cond, inl, inr, ◌+◌, ◌<◌, ◌≤◌, ℕ, zero, suc, List, [], ◌∷◌, length, slice_set, true, false, Option, Some, None, refl, sym, ap, ◌∙◌, subst, arith}
 use Rattle.std.specs.Prelude.{slice_index_or, MatchOption, is_some}
 use Rattle.std.specs.List.{AllZip}

@@ -1,4 +1,5 @@
 -- What is heard of bytes, by where their newlines stand.
+-- Cited by `Client::read`, `Input::fill`, `lines::first_line` and `lines::heard_of`.
 use Rattle.std.proofs.Common.{◌≡◌, ℕ, zero, suc, ◌<◌, List, [], ◌∷◌, ◌++◌, length, take, get_or, Bool, true, false, ◌&&◌, cond, nat_eq, inl, inr, refl, sym, ap, subst, ◌∙◌}
 use Rattle.std.proofs.Common.{arith, append-nil}
 use Rattle.mi_hub.specs.Ended.{ended, put_front, if_none}

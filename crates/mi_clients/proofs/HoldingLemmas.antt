@@ -1,4 +1,5 @@
 -- No command leaves a holder that holds none.
+-- Cited by `laws::holders_hold_some`.
 use Rattle.std.proofs.Common.{◌≡◌, inl, inr, ℕ, ◌-◌, ◌<◌, List, [], ◌∷◌, Bool, true, false, cond, min, nat_eq, nat_le, Option, Some, None, Result, Ok, Err}
 use Rattle.std.proofs.Common.{refl, sym, subst, arith}
 use Rattle.mi_commands.specs.Asked.{Asked, text, too_long}

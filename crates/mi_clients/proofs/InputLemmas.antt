@@ -1,4 +1,5 @@
 -- Bytes that wait, and the lines that they are.
+-- Cited by `Input::line`, `Input::pass`, `asking::ask_line`, `asking::ask_lines`, `beside::answer` and 10 more.
 use Rattle.std.proofs.Common.{◌≡◌, ℕ, zero, suc, ◌+◌, ◌-◌, ◌<◌, ◌≤◌, List, [], ◌∷◌, ◌++◌, length, take, drop, get_or, Bool, true, false, ◌&&◌, cond, nat_eq, nat_lt}
 use Rattle.std.proofs.Common.{Some, None, refl, sym, ap, ◌∙◌, arith, append_assoc, option_to_list}
 use Rattle.std.proofs.Math.Seq.{take-append_seam, get_or-append_seam}

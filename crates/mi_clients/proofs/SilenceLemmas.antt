@@ -1,4 +1,5 @@
 -- Those that are silent in a row.
+-- Cited by `silence::give_up_silent`.
 use Rattle.std.proofs.Common.{◌≡◌, inl, inr, ◌≤◌, ℕ, List, [], ◌∷◌, length, Option, refl, sym, ap, ◌∙◌, subst}
 use Rattle.std.specs.List.{AllZip}
 use Rattle.mi_clients.specs.Row.{ids}

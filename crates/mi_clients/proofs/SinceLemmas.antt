@@ -1,4 +1,5 @@
 -- With which of its lines a connection last began to hold sessions, over steps one behind another.
+-- Cited by `asking::ask_lines`, `row::serve`, `ServedLemmas` and `TellLemmas`.
 use Rattle.std.proofs.Common.{◌≡◌, ℕ, List, [], ◌∷◌, ◌++◌, Bool, true, false, ◌&&◌, cond, nat_eq, refl, sym, ap, ◌∙◌}
 use Rattle.mi_clients.specs.Client.{KnowsSince}
 use Rattle.mi_clients.specs.Input.{count_on}

@@ -1,4 +1,5 @@
 -- The streams of connections: each keeps its own, and one that has failed breaks its connection.
+-- Cited by `laws::numbers_keep_streams`, `row::ask_all`, `row::send_all`, `row::serve`, `row::serve_all`, 2 more and `mi_serving`.
 use Rattle.std.proofs.Common.{◌≡◌, inl, inr, ℕ, ℤ, ◌<◌, ◌≤◌, List, [], ◌∷◌, ◌++◌, length, map, Bool, true, false, cond, nat_eq, refl, sym, ap, ◌∙◌, subst, arith}
 use Rattle.std.specs.Prelude.{⊤, Option}
 use Rattle.std.specs.List.{All, AllZip, Contains}

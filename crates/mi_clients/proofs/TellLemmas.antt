@@ -1,4 +1,5 @@
 -- What the service tells, one step behind another, and over a row.
+-- Cited by `Client::service_line`, `asking::ask_line`, `beside::answer`, `beside::turn_away`, `row::ask_all`, 11 more and `mi_serving`.
 use Rattle.std.proofs.Common.{◌≡◌, ◌⊎◌, inl, inr, ℕ, ℤ, ◌<◌, List, [], ◌∷◌, ◌++◌, length, codes, nat_eq, cond, Bool, true, false, Option, is_some, Result, Ok, Err, refl, sym, ap, ◌∙◌, subst, append-nil, append_assoc, arith}
 use Rattle.std.specs.Prelude.{IfOk, IfSome, OnOk, is_ok}
 use Rattle.std.specs.Result.{result_ok}

@@ -1,4 +1,5 @@
 -- A holder's sessions are undone one by one: what its leaving would leave stays the same, and is there once it holds none.
+-- Cited by `asking::part` and `asking::undo_all`.
 use Rattle.std.proofs.Common.{◌≡◌, inl, inr, ℕ, suc, ◌-◌, ◌<◌, List, [], ◌∷◌, Bool, true, false, not, cond, nat_eq, nat_le, codes}
 use Rattle.std.proofs.Common.{Option, Some, None, Result, Ok, Err, refl, sym, ap, ◌∙◌, subst, arith}
 use Rattle.mi_value.specs.declared.refusal.Refusal.TheVariants.{Busy}

@@ -1,4 +1,5 @@
 -- A catalog of one table answers a line without a member `table` as that table by itself answers it.
+-- Cited by `laws::one_table_answers_alone`.
 use Rattle.std.proofs.Common.{◌≡◌, ℕ, zero, suc, List, [], ◌∷◌, length, Bool, true, false, cond, not, ◌&&◌, ◌||◌, Option, Some, None}
 use Rattle.std.proofs.Common.{Result, Ok, Err, IfSome, IfOk, codes, refl, sym, ap, ◌∙◌, inl, inr, true≢false}
 use Rattle.std.specs.Option.{option_and_then, ok_or}

@@ -1,4 +1,5 @@
 -- The refusals of a change name an index that is there.
+-- Cited by `Executor::insert`, `Executor::modify` and `Executor::replace`.
 use Rattle.std.proofs.Common.{◌≡◌, ℕ, ◌+◌, ◌<◌, ◌≤◌, List, [], ◌∷◌, length, drop, Bool, true, false, cond, not, ◌||◌}
 use Rattle.std.proofs.Common.{◌==◌, Option, Some, None, Result, Ok, Err, refl, sym, ap, ◌∙◌, subst, arith, inl, inr, ◌⊎◌}
 use Rattle.std.specs.Option.{option_map, option_map_or, option_or}

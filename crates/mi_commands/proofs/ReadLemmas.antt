@@ -1,4 +1,5 @@
 -- From the command that a line is to its answer.
+-- Cited by `Executor::answer_read`, `Executor::answer_text` and `Executor::ask_numbers`.
 use Rattle.std.proofs.Common.{◌≡◌, ℕ, List, Bool, true, false, cond, ◌&&◌, Option, Some, Result, Ok, Err, refl, sym, ap, ◌∙◌, inl, inr, subst, true≢false}
 use Rattle.std.specs.Prelude.{IfOk}
 use Rattle.mi_value.specs.declared.refusal.Refusal.{Refusal}

@@ -1,5 +1,6 @@
 -- Undos take back all since a start: what lines, and connections that go away, leave of a database is what commands leave, so the law of
 -- commands speaks of them.
+-- Cited by `Executor::release`, `Executor::undo_all`, `laws::undo_lines_take_back` and `ToldLemmas`.
 use Rattle.std.proofs.Common.{◌≡◌, ℕ, zero, suc, ◌+◌, ◌-◌, ◌<◌, ◌≤◌, List, [], ◌∷◌, length, take, Bool, true, false, cond, nat_le, Option, Some, None}
 use Rattle.std.proofs.Common.{Result, Ok, Err, codes, refl, sym, ap, ◌∙◌, subst, ◌⊎◌, inl, inr, arith}
 use Rattle.std.specs.Prelude.{◌==◌, if◌then◌else◌}

@@ -1,4 +1,5 @@
 -- Another content in a node, and the old one put back.
+-- Cited by `DataLemmas`, `GroupLemmas`, `InverseLemmas`, `RestampLemmas`, `RestoreLemmas`, 1 more and `mi_multi`.
 use Rattle.std.proofs.Common.{◌≡◌, ◌≢◌, ℕ, true, false, cond, List, [], ◌∷◌, refl, ap, sym, ◌∙◌}
 use Rattle.std.specs.Prelude.{◌==◌}
 use Rattle.std.specs.declared.option.Option.TheVariants.{Some}

@@ -1,4 +1,5 @@
 -- Each change keeps what holds of data, and a container opens with data.
+-- Cited by `RunLemmas`.
 use Rattle.std.proofs.Common.{◌≡◌, ◌≢◌, ℕ, ◌+◌, ◌<◌, zero, suc, true, cond, ◌⊎◌, inl, inr, List}
 use Rattle.std.proofs.Common.{[], ◌∷◌, ◌++◌, map, length, get_or, set, ap, sym, ◌∙◌, subst, arith}
 use Rattle.std.specs.Ordering.{is_eq}

@@ -1,4 +1,5 @@
 -- Lists of inverses that fit: one more, one taken back, the oldest settled.
+-- Cited by `LawLemmas`, `MadeLemmas`, `RunLemmas`, `mi_database` and `mi_multi`.
 use Rattle.std.proofs.Common.{◌≡◌, ◌≢◌, ℕ, ◌+◌, cond, inl, inr, List, [], ◌∷◌, ◌++◌, refl, ap, sym, ◌∙◌, subst, arith}
 use Rattle.std.specs.Prelude.{◌==◌}
 use Rattle.std.specs.List.{AllByRecursion}

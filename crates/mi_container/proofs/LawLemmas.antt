@@ -1,4 +1,5 @@
 -- The laws as their contracts state them.
+-- Cited by `laws::change_fits`, `laws::change_is_tables`, `laws::change_is_undone`, 6 more, `mi_multi` and `test_container`.
 use Rattle.std.proofs.Common.{ℕ, [], ◌∷◌, ◌++◌, refl, subst}
 use Rattle.std.specs.declared.option.Option.{Option}
 use Rattle.std.specs.declared.option.Option.TheVariants.{None, Some}

@@ -1,4 +1,5 @@
 -- A change that was made can be taken back or settled.
+-- Cited by `laws::made_is_undone` and `mi_bench`.
 use Rattle.std.proofs.Common.{◌≡◌, sym, ◌∙◌, subst}
 use Rattle.mi_container.specs.Data.{Data, IsData}
 use Rattle.mi_container.specs.Inverse.{Inverse, taken_back}

@@ -1,4 +1,5 @@
 -- The names of live nodes differ after each change.
+-- Cited by `DataLemmas`, `InverseLemmas` and `RestampLemmas`.
 use Rattle.std.proofs.Common.{◌≡◌, ◌≢◌, ℕ, true, false, cond, not, List, [], ◌∷◌, ◌++◌, ap, sym, ◌∙◌}
 use Rattle.std.specs.Prelude.{◌==◌}
 use Rattle.std.specs.List.{AllByRecursion}

@@ -1,4 +1,5 @@
 -- What a container opens with is the data of an empty table.
+-- Cited by `LawLemmas` and `mi_database`.
 use Rattle.std.proofs.Common.{◌≡◌, Bool, true, ℕ, suc, List, [], ◌∷◌, map, refl, ap, sym, ◌∙◌, subst}
 use Rattle.std.specs.List.{list_all}
 use Rattle.std.proofs.lemmas.Bool.{and_parts, eqb-true, false≢true}

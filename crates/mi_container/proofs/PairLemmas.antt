@@ -1,4 +1,5 @@
 -- Lists of pairs with ids: what is looked up, left out and entered.
+-- Cited by `ContentLemmas`, `DataLemmas`, `FitLemmas`, `GroupLemmas`, 8 more, `mi_database`, `mi_multi` and `test_container`.
 use Rattle.std.proofs.Common.{◌≡◌, ◌≢◌, ℕ, ◌+◌, ◌<◌, ◌≤◌, true, false, cond, not, inl, inr, List, [], ◌∷◌, ◌++◌, refl, ap, sym, ◌∙◌, subst, arith}
 use Rattle.std.specs.Prelude.{◌==◌, nat_lt}
 use Rattle.std.specs.List.{AllByRecursion}

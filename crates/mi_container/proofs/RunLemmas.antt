@@ -1,4 +1,5 @@
 -- Runs of changes unwind.
+-- Cited by `laws::runs_unwind`, `LawLemmas` and `mi_database`.
 use Rattle.std.proofs.Common.{◌≡◌, List, [], ◌∷◌, ◌++◌, refl, ap, ◌∙◌}
 use Rattle.mi_catalog.specs.Shape.{Shape}
 use Rattle.mi_model.specs.Table.{Table}

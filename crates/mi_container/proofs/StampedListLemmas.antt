@@ -1,4 +1,5 @@
 -- The list of an index that goes by stamps, after each change.
+-- Cited by `DataLemmas`, `GroupLemmas`, `InverseLemmas`, `RestampLemmas` and `TableLemmas`.
 use Rattle.std.proofs.Common.{◌≡◌, ◌≢◌, ℕ, ◌+◌, ◌<◌, ◌≤◌, zero, suc, true, false, cond, not, inl, inr}
 use Rattle.std.proofs.Common.{List, [], ◌∷◌, ◌++◌, length, get_or, refl, ap, sym, ◌∙◌, subst, arith}
 use Rattle.std.specs.Prelude.{◌==◌}

@@ -1,4 +1,5 @@
 -- One change of one container, as the code comes to it.
+-- Cited by `Linked::erase_row`, `LinkedSessions::insert`, `LinkedSessions::modify`, `LinkedSessions::relocate` and 1 more.
 use Rattle.std.proofs.Common.{◌≡◌, ℕ, ◌<◌, List, [], map, length, set, get_or, ap, sym, ◌∙◌, subst}
 use Rattle.std.specs.declared.result.Result.{Result}
 use Rattle.std.specs.declared.option.Option.TheVariants.{None}

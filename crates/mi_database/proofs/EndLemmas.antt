@@ -1,4 +1,5 @@
 -- Sessions that end, and how a linked database is a database.
+-- Cited by `Linked::at`, `LinkedSessions::commit`, `LinkedSessions::keeps_rules`, `LinkedSessions::squash` and 2 more.
 use Rattle.std.proofs.Common.{◌≡◌, ◌≢◌, cond, ℕ, suc, min, ◌+◌, ◌-◌, ◌<◌, ◌≤◌, List, [], ◌∷◌, length, take, get_or, refl, ap, ap₂, sym, ◌∙◌, subst, arith}
 use Rattle.std.proofs.lemmas.List.{take-take, length-take-le, take_all}
 use Rattle.std.specs.declared.result.Result.{Result}

@@ -1,4 +1,5 @@
 -- Each step of containers under a journal is the step of the database that they mean.
+-- Cited by `LinkedSessions::depth`, `LinkedSessions::undo_all`, `EndLemmas`, `KeptLemmas`, `LinkedDataLemmas` and 2 more.
 use Rattle.std.proofs.Common.{◌≡◌, ◌≢◌, ℕ, ◌+◌, ◌-◌, ◌<◌, zero, suc, cond, inl, inr, List}
 use Rattle.std.proofs.Common.{[], ◌∷◌, ◌++◌, map, length, set, take, refl, ap, sym, ◌∙◌, subst, arith}
 use Rattle.std.specs.Prelude.{◌==◌, slice_index_or}

@@ -1,4 +1,5 @@
 -- How the kept rows move.
+-- Cited by `Linked::erase_first`, `Linked::erase_row`, `Linked::keeps_nodes`, `LinkedSessions::commit` and 6 more.
 use Rattle.std.proofs.Common.{◌≡◌, ◌≢◌, Bool, true, false, cond, Option, Some, None, ℕ, ◌+◌, ◌-◌, ◌<◌, List}
 use Rattle.std.proofs.Common.{[], ◌∷◌, ◌++◌, map, length, take, refl, ap, ap₂, sym, ◌∙◌, subst, arith}
 use Rattle.std.proofs.lemmas.List.{take-map, append-nil, append_assoc, nil_from_length, get_or-set_same}

@@ -1,4 +1,5 @@
 -- Erasing the rows of a key one by one, the first of them each time.
+-- Cited by `Linked::erase_first`, `LinkedSessions::erase_key` and `KeptLemmas`.
 use Rattle.std.proofs.Common.{◌≡◌, ◌≢◌, true, cond, Option, Some, None, ℕ, suc, ◌+◌, ◌<◌, ◌≤◌, List, [], ◌∷◌, length, refl, ap, sym, ◌∙◌, subst, arith}
 use Rattle.std.specs.Prelude.{slice_get, ◌==◌}
 use Rattle.std.proofs.lemmas.List.{set-set, get_or-set_same}

@@ -1,4 +1,5 @@
 -- What a change of one container, with its inverse noted or settled, leaves.
+-- Cited by `Linked::erase_row`, `Linked::settle_one`, `Linked::unwind_one`, `LinkedSessions::insert`, `LinkedSessions::modify` and 6 more.
 use Rattle.std.proofs.Common.{◌≡◌, Option, None, Some, ℕ, zero, suc, ◌<◌, List, [], ◌∷◌, map, length, set, get_or, refl, ap, ap₂, sym, ◌∙◌, subst, arith}
 use Rattle.std.proofs.lemmas.List.{map-set, length-set, get_or-map, set-set, get_or-set_same, set-get_or, length-map}
 use Rattle.mi_catalog.specs.Shape.{Shape, CatalogShape, schema_at}

@@ -1,4 +1,5 @@
 -- One entry taken back, and one settled.
+-- Cited by `Linked::end_oldest`, `Linked::settle_one`, `Linked::unwind_newest`, `Linked::unwind_one`, `LinkedSessions::squash` and 1 more.
 use Rattle.std.proofs.Common.{◌≡◌, true, false, inl, inr, ℕ, ◌+◌, ◌-◌, ◌<◌, ◌≤◌, Some, None, List, []}
 use Rattle.std.proofs.Common.{◌∷◌, ◌++◌, map, length, take, set, get_or, refl, ap, ap₂, sym, ◌∙◌, subst, arith}
 use Rattle.std.proofs.lemmas.List.{map-set, length-set, length-map, length_push, take_at, append-nil, append_assoc}

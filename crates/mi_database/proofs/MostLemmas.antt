@@ -1,4 +1,5 @@
 -- How many places the inverse of a change has, and how many indexes beside `id` a table has.
+-- Cited by `linked::keyed_indexes`, `linked::most_keyed_indexes` and `ChangeLemmas`.
 use Rattle.std.proofs.Common.{◌≡◌, ◌∙◌, ℕ, zero, suc, ◌+◌, ◌<◌, ◌≤◌, ◌==◌, ◌⊎◌, inl, inr, Bool, true, false, Option, None, Some, List, [], ◌∷◌, length}
 use Rattle.std.proofs.Common.{take, get_or, add-one, refl, ap, sym, subst, arith}
 use Rattle.std.specs.Prelude.{if◌then◌else◌}

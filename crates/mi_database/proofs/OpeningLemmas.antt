@@ -1,4 +1,5 @@
 -- What a catalog opens with holds.
+-- Cited by `Linked::new`.
 use Rattle.std.proofs.Common.{◌≡◌, true, ℕ, ◌<◌, ◌≤◌, zero, suc, List, [], ◌∷◌, map, length, refl, ap, ap₂, sym, ◌∙◌, subst, arith}
 use Rattle.std.proofs.lemmas.List.{length-map, get_or-map}
 use Rattle.mi_value.specs.declared.limits.TheConstants.{LAST_COUNT}

@@ -1,4 +1,5 @@
 -- From what a container answers to what the database does.
+-- Cited by `Linked::at`, `Linked::keeps_nodes` and `ChangeLemmas`.
 use Rattle.std.proofs.Common.{◌≡◌, ℕ, ◌<◌, List, [], map, length, set, get_or, ap, sym, ◌∙◌, subst}
 use Rattle.std.proofs.lemmas.List.{map-set, length-map, set-get_or, get_or-map}
 use Rattle.std.specs.declared.result.Result.{Result}

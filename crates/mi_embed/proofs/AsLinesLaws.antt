@@ -1,4 +1,5 @@
 -- What a line and a call ask is bound alike, part by part.
+-- Cited by `laws::calls_answer_as_lines`.
 use Rattle.std.proofs.Common.{◌≡◌, ℕ, Bool, true, false, ◌&&◌, not, cond, nat_lt, List, length, Option, Some, None, Result, Ok, Err, refl, ap, ap₂, ◌∙◌}
 use Rattle.std.specs.Option.{ok_or}
 use Rattle.mi_value.specs.declared.value.Value.{Value}

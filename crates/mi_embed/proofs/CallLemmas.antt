@@ -1,4 +1,5 @@
 -- What is told of what a call asks is told of the call.
+-- Cited by `Engine::modify_add`, `Engine::told`, `changes` and `sessions`.
 use Rattle.std.proofs.Common.{◌≡◌, ℕ, true, false, cond, Result, Ok, Err, inl, inr, refl, sym, ap, ◌∙◌, subst}
 use Rattle.mi_value.specs.declared.refusal.Refusal.{Refusal}
 use Rattle.mi_value.specs.declared.refusal.Refusal.TheVariants.{Busy, Memory}

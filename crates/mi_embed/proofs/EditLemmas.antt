@@ -1,4 +1,5 @@
 -- Edits of different columns.
+-- Cited by `edits::edits_for`.
 use Rattle.std.proofs.Common.{◌≡◌, ℕ, List, [], ◌∷◌, Bool, true, false, true≢false, ◌==◌, ◌||◌, ◌&&◌, not, refl, sym}
 use Rattle.std.proofs.lemmas.Bool.{eqb-false}
 use Rattle.mi_value.specs.declared.edit.Edit.{Edit}

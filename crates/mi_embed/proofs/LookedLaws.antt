@@ -1,4 +1,5 @@
 -- Look-ups tell the answers of their commands, case by case: the table, the index and its kind, the key.
+-- Cited by `laws::look_ups_answer`.
 use Rattle.std.proofs.Common.{◌≡◌, ℕ, Bool, true, false, cond, nat_lt, List, length, Option, Some, None, Result, Ok, Err, refl}
 use Rattle.std.specs.Option.{ok_or}
 use Rattle.mi_value.specs.declared.bound.Lower.{Lower}

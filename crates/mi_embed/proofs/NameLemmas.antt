@@ -1,4 +1,5 @@
 -- Bytes that are a text are looked for among names, and others are the name of nothing. What `names.rt` finds by is proved with it.
+-- Cited by `names::column_in`, `names::index_in` and `names::table_in`.
 use Rattle.std.proofs.Common.{◌≡◌, ℕ, List, Bool, Option, None, cond, ap, inl, inr}
 use Rattle.std.specs.Str.{IsUtf8, is_utf8}
 use Rattle.std.proofs.lemmas.Str.{IsUtf8-from_is_utf8, is_utf8-from_IsUtf8}

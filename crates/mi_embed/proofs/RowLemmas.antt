@@ -1,4 +1,5 @@
 -- Rows that are put one behind another, and what they want.
+-- Cited by `Engine::range_page`, `room::put_rows` and `room::wanted`.
 use Rattle.std.proofs.Common.{◌≡◌, ◌≤◌, ◌<◌, ℕ, ◌+◌, ◌∙◌, ◌&&◌, nat_le, suc, List, [], ◌∷◌, ◌++◌, length, map, take, drop, get_or, Bool, true, false, refl, sym, ap, ap₂}
 use Rattle.std.proofs.Common.{true≢false, set, append_assoc, append-nil, length-append, take-append-drop, arith, Result, Ok, Err, length-take}
 use Rattle.std.specs.Result.{IfOk}

@@ -1,4 +1,5 @@
 -- Whoever holds sessions is attached: each answer keeps that, and so does each event.
+-- Cited by `Hub::ask`, `Hub::attach`, `Hub::close`, `Hub::feed` and `Hub::leave`.
 use Rattle.std.proofs.Common.{◌≡◌, ℕ, ◌-◌, min, List, [], ◌∷◌, ◌++◌, Bool, true, false, cond, nat_eq, nat_le, get_or, set, remove}
 use Rattle.std.proofs.Common.{Option, Some, None, IsSome, is_some, Result, Ok, Err, OnOk, OnErr, refl, sym, ap, ◌∙◌, subst, inl, inr, arith}
 use Rattle.mi_value.specs.declared.refusal.Refusal.{Refusal}

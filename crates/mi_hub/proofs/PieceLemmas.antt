@@ -1,4 +1,5 @@
 -- Pieces of one connection, one after another, come together to one.
+-- Cited by `laws::pieces_cut_in_two`, `stream::serve_stream`, `turn::close_at_end`, `turn::feed_piece`, 4 more and `mi_program`.
 use Rattle.std.proofs.Common.{◌≡◌, ◌↔◌, ◌⊎◌, ℕ, List, [], ◌∷◌, ◌++◌, Option, Some, None, IsSome, IfSome, is_some, true, false}
 use Rattle.std.proofs.Common.{Result, Ok, Err, OnOk, OnErr, refl, sym, ap, ◌∙◌, subst, append-nil, append_assoc, inl, inr}
 use Rattle.mi_hub.specs.declared.fault.HubFault.{HubFault}

@@ -1,4 +1,5 @@
 -- What a run leaves of a connection that stays: the rest of all its bytes joined.
+-- Cited by `laws::rest_of_all_bytes`.
 use Rattle.std.proofs.Common.{◌≡◌, ◌⊎◌, ℕ, List, [], ◌∷◌, ◌++◌, Bool, true, false, cond, nat_eq, Some, refl, sym, ap, ◌∙◌, append-nil, inl, inr, arith}
 use Rattle.mi_hub.specs.Ended.{ended}
 use Rattle.mi_hub.specs.Lines.{Rest, rest_from}

@@ -1,4 +1,5 @@
 -- From what a call does to one connection, to the event that it is.
+-- Cited by `Hub::attach`, `Hub::close`, `Hub::cut`, `Hub::feed` and `HolderLemmas`.
 use Rattle.std.proofs.Common.{◌≡◌, ℕ, zero, suc, List, [], ◌∷◌, get_or, set, remove, Option, Some, None}
 use Rattle.std.proofs.Common.{is_some, true, MatchOption, option_to_list, refl, sym, ap, ◌∙◌, subst}
 use Rattle.mi_hub.specs.Lines.{Rest, lines_from, rest_from, last_line}

@@ -1,4 +1,5 @@
 -- How lines asked one after another come together.
+-- Cited by `serve::serve_line`, `serve::serve_piece`, `OneLineLemmas`, `PieceLemmas` and `mi_replay`.
 use Rattle.std.proofs.Common.{◌≡◌, ℕ, ◌<◌, List, [], ◌∷◌, ◌++◌, option_to_list, length, take, refl, sym, ap, ◌∙◌, subst, append_assoc, append-nil, Some}
 use Rattle.std.proofs.lemmas.Grind.{flat_map-append}
 use Rattle.mi_hub.specs.Ended.{ended}

@@ -1,4 +1,5 @@
 -- What a turn was, by what it answered.
+-- Cited by `stream::read_turn`, `stream::serve_stream`, `turn::take_turn` and `mi_program`.
 use Rattle.std.proofs.Common.{◌≡◌, ◌↔◌, ◌||◌, ◌∙◌, ◌⊎◌, ℕ, ◌<◌, ◌≤◌, List, [], ◌∷◌, ◌++◌, length, take, Bool, true}
 use Rattle.std.proofs.Common.{false, Option, Some, None, Result, Ok, Err, OnErr, refl, sym, ap, subst, inl, inr, arith}
 use Rattle.std.specs.Io.KnownBytes.{IsAtEnd}

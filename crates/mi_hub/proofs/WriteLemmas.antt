@@ -1,4 +1,5 @@
 -- What several writes append together.
+-- Cited by `send::send`, `stream::serve_stream` and `mi_program`.
 use Rattle.std.proofs.Common.{◌≡◌, ℕ, ◌+◌, Option, List, ◌++◌, length, take, Bool, true, false, ◌||◌, ◌&&◌}
 use Rattle.std.proofs.Common.{nat_eq, ◌<◌, refl, sym, subst, ap, ◌∙◌, arith, length-append, append-nil, []}
 use Rattle.std.proofs.Math.Seq.{take-append-add}

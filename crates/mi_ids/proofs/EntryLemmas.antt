@@ -1,6 +1,7 @@
 -- What a call on the ids gives of each id, for a caller's proofs.
 --     get-put, get-out, get-with_live      what an id has after `insert`, `remove`, and `keep` or `revive`
 --     out_of_put, revived                  removing a new id takes its insertion back, and reviving a live one takes back that it was kept
+-- Cited by `Ids::insert`, `Ids::remove`, `Ids::set_live`, `laws::insert_is_taken_back`, `laws::keep_is_taken_back` and 2 more.
 use Rattle.std.proofs.Common.{◌≡◌, ℕ, ◌+◌, ◌-◌, ◌≤◌, ◌==◌, Bool, true, false, cond, option_map, Option, Some, None, refl, sym, ap, ◌∙◌, arith}
 use Rattle.std.specs.Prelude.{is_some}
 use Rattle.std.specs.Ordering.{nat_cmp}

@@ -2,6 +2,7 @@
 --     got-none, got-some      what is read
 --     put-used        a page with an entry has a bit
 --     put-slot, taken-slot, revived-slot, kept-slot, first-slot, no-slot      each place after a write
+-- Cited by `Page::get`, `Page::is_empty`, `Page::new`, `Page::put`, `Page::set_live` and 1 more.
 use Rattle.std.proofs.Common.{◌≡◌, ℕ, zero, suc, [], ◌∷◌, ◌-◌, ◌*◌, ◌/◌, ◌%◌, ◌^◌, ◌<◌, ◌==◌, Bool, true, false, cond, option_map, Some, None, List, length, refl, sym, ap, ◌∙◌, arith, bit_and, bit_or, slice_index_or, slice_set, w64}
 use Rattle.std.specs.Int.{bit_at}
 use Rattle.std.proofs.lemmas.Nat.Bits.{shr_and_one, bit_at-lt, bit_at-zero, bit_at_set_same, bit_at_set_other, bit_at_clear_same, bit_at_clear_other}

@@ -2,6 +2,7 @@
 --     get-pages       what an id has: what its page says of its place
 --     pages-changed   pages that say the same but of one id
 --     used-put, used-dropped      none of them is empty
+-- Cited by `Ids::new`, `pages::entry_in`, `pages::put_in`, `pages::searched`, `pages::set_in` and 1 more.
 use Rattle.std.proofs.Common.{◌≡◌, ℕ, zero, suc, ◌+◌, ◌*◌, ◌/◌, ◌%◌, ◌<◌, ◌==◌, Bool, true, false, cond, option_map, Option, Some, None, List, [], ◌∷◌, refl, sym, ap, subst, ◌∙◌, arith}
 use Rattle.std.specs.Prelude.{is_some}
 use Rattle.std.specs.Ordering.{nat_cmp}

@@ -1,6 +1,7 @@
 -- The structure of an index stands wherever its nodes are alike to it.
 --     stands_alike      nodes have the same reference and the same link in its slot, and values that compare Equal
 --     Agree, stands_same      all references, all values and all links of its slot are the same
+-- Cited by `laws::structures_stand_where_alike`, `OtherNodeLemmas`, `PassLemmas`, `RekeyLemmas`, `StayLemmas` and `mi_multi`.
 use Rattle.std.proofs.Common.{◌≡◌, ℕ, ◌<◌, List, [], ◌∷◌, Option, Some, None, refl, sym, ap, ◌∙◌, subst, arith}
 use Rattle.std.specs.declared.cmp.Ordering.{Ordering}
 use Rattle.std.specs.declared.cmp.Ordering.TheVariants.{Equal}

@@ -1,6 +1,7 @@
 -- A new node comes into every index.
 --     like_both      what is like a like one is like it
 --     can_insert, is_inserted      from chains that have grown and a node that was taken
+-- Cited by `Nodes::link_in`, `Nodes::rekey`, `Nodes::rekey_back`, `Nodes::restamp`, `Structures::grow` and 5 more.
 use Rattle.std.proofs.Common.{◌≡◌, ℕ, ◌+◌, ◌==◌, false, cond, List, [], ◌∷◌, length, Option, Some, None, Vec, Global, refl, sym, ap, ◌∙◌, subst, arith}
 use Rattle.std.specs.Vec.{with_items}
 use Rattle.std.proofs.lemmas.List.{with_items_is}

@@ -3,6 +3,7 @@
 --     tree_with      a tree in which a node was put
 --     chain_placed, fits_again      where a node may join chains, and where it may come back to
 --     chains_stand      chains after a change
+-- Cited by `structure::link_chains`, `structure::link_tree`, `structure::move_in_list`, `structure::relink_chains`, 6 more and `mi_multi`.
 use Rattle.std.proofs.Common.{◌≡◌, ℕ, ◌<◌, ◌≤◌, ◌+◌, ◌^◌, ◌==◌, nat_lt, ◌⊎◌, inl, inr, Bool, true, false}
 use Rattle.std.proofs.Common.{cond, List, [], ◌∷◌, ◌++◌, length, refl, sym, ap, ◌∙◌, subst, arith}
 use Rattle.std.proofs.lemmas.Bool.{ltb-true, ltb-false}

@@ -3,6 +3,7 @@
 --     kept_stamped      the node has the stamp in the end
 --     flagged_as, flagged_past      what a flag says, and where there is none
 --     retagged_from      the node's links, seen from another pool
+-- Cited by `Nodes::rekey`, `Nodes::rekey_back`, `all::+retag_all`, `all::keeps_one` and `RekeyLemmas`.
 use Rattle.std.proofs.Common.{◌≡◌, ◌↔◌, ℕ, ◌+◌, ◌<◌, ◌≤◌, ◌==◌, Bool, true, false, cond, List, [], ◌∷◌, ◌++◌, length, set}
 use Rattle.std.proofs.Common.{Option, Some, None, option_map, IsTrue, refl, sym, ap, ◌∙◌, subst, arith}
 use Rattle.std.proofs.lemmas.List.{get_or-set_same, get_or-set_other, get_or_past}

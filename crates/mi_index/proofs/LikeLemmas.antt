@@ -1,5 +1,6 @@
 -- Structures that are alike: of one kind, slot and key.
 --     by_kind      what holds of two that are alike for each kind holds of any two that are alike
+-- Cited by `InsertLemmas`, `KeepingLemmas`, `PassLemmas`, `RekeyLemmas` and `mi_multi`.
 use Rattle.std.proofs.Common.{◌≡◌}
 use Rattle.mi_list.specs.declared.list.List.{List as Listing}
 use Rattle.mi_tree.specs.declared.tree.Tree.{Tree}

@@ -1,6 +1,7 @@
 -- A pass in a loop: what those structures owe that are still to come, and what the whole pass is once they have paid.
 --     begun, stepped, finished      before the first step, after each, and after the last
 --     left_alone      where the loop stops and those to come stay as they are
+-- Cited by `all::link_all`, `all::make_room_all`, `all::relink_all`, `all::relocate_all`, `all::unlink_all` and 1 more.
 use Rattle.std.proofs.Common.{◌≡◌, ℕ, ◌+◌, ◌<◌, ◌≤◌, List, [], ◌∷◌, ◌++◌, length, take, drop, set, get_or, refl, sym, ap, ◌∙◌, subst, arith}
 use Rattle.std.proofs.lemmas.List.{length-set, drop_more, append_assoc, append-nil, take_more_set, drop-set-lt, take_all, drop_all, take-append-drop}
 use Rattle.mi_node.specs.Pool.{Pooled, ref_of}

@@ -1,6 +1,7 @@
 -- The structures of a schema, without nodes.
 --     some_index, few_indexes      a schema has 1 to 16 indexes
 --     is_opened      empty structures stand in an empty pool
+-- Cited by `Nodes::new` and `nodes::at_most_sixteen`.
 use Rattle.std.proofs.Common.{refl, ◌≡◌, ℕ, ◌+◌, ◌<◌, ◌≤◌, true, false, List, [], ◌∷◌, length, sym, ap, ◌∙◌, subst, arith}
 use Rattle.std.proofs.lemmas.Bool.{and_parts, leb-true}
 use Rattle.mi_value.specs.declared.limits.TheConstants.{MAX_INDEXES}

@@ -1,6 +1,7 @@
 -- One pass over the structures: a step in the first, and then a pass over those behind it.
 --     tail_ready      what those behind the first structure ask for
 --     tail_passed      the whole pass
+-- Cited by `LoopLemmas`.
 use Rattle.std.proofs.Common.{◌≡◌, ℕ, ◌+◌, ◌<◌, ◌==◌, false, List, [], ◌∷◌, refl, ap, ◌∙◌, arith}
 use Rattle.mi_node.specs.Pool.{Pooled, Keeps}
 use Rattle.mi_node.specs.Refs.{Ref}

@@ -1,4 +1,5 @@
 -- The rows between two bounds are those from where one bound begins to where the other ends.
+-- Cited by `KeyRange::walk_down`, `KeyRange::walk_up`, `walk::rows_ahead` and `walk::rows_between`.
 use Rattle.std.proofs.Common.{Bor, ◌≡◌, ℕ, ◌+◌, ◌*◌, ◌^◌, ◌<◌, ◌≤◌, zero, suc, min, Bool, true, false, cond, not, ◌&&◌, ◌⊎◌, inl, inr, List, [], ◌∷◌, ◌++◌}
 use Rattle.std.proofs.Common.{map, length, take, drop, reverse, get_or, Some, None, refl, ap, sym, ◌∙◌, subst, arith}
 use Rattle.std.specs.List.{AllByRecursion, filter, prefix_len, position_or_len, take_while}

@@ -5,6 +5,7 @@
 --     are_there, are_asked, can_leave, can_come, is_rekeyed      with a new stamp
 --     are_back_there, are_asked_back, can_go_leave, can_go_come, is_given_back      to the places that are given
 --     exchanged, retagged_from      what the node's value and its links are in between
+-- Cited by `Nodes::rekey`, `Nodes::rekey_back` and `Nodes::restamp`.
 use Rattle.std.proofs.Common.{◌≡◌, ℕ, ◌+◌, ◌<◌, ◌^◌, ◌==◌, Bool, true, false, cond, List, [], ◌∷◌, ◌++◌}
 use Rattle.std.proofs.Common.{length, Option, Some, None, option_map, refl, sym, ap, ◌∙◌, subst, arith}
 use Rattle.std.specs.declared.cmp.Ordering.TheVariants.{Equal}

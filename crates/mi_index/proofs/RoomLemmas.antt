@@ -1,4 +1,5 @@
 -- Room for nodes: none is asked for no node, and where there is enough nothing grows.
+-- Cited by `Structures::grow`, `Structures::make_room`, `Structures::new`, `all::make_room_all` and `mi_multi`.
 use Rattle.std.proofs.Common.{ℕ, ◌+◌, ◌<◌, ◌≤◌, List, [], ◌∷◌, ◌++◌, length, take, set, refl, sym, subst, arith}
 use Rattle.std.proofs.lemmas.List.{take_more_set}
 use Rattle.mi_node.specs.Pool.{Pooled}

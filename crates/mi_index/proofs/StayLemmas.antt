@@ -1,6 +1,7 @@
 -- What a step asks and gives is of its own slot alone, and of references and values.
 --     Stays P, Before Q, After Q, IsLocal P Q      it isn't touched by a change in another slot
 --     .._stays, .._local      so it is of each pass
+-- Cited by `all::link_all`, `all::make_room_all`, `all::relink_all`, `all::relocate_all`, `all::unlink_all` and 2 more.
 use Rattle.std.proofs.Common.{◌≡◌, ℕ, ◌==◌, Bool, true, false, List, Option, Some, None, sym, ap, ◌∙◌, subst}
 use Rattle.std.specs.declared.cmp.Ordering.{Ordering}
 use Rattle.std.specs.declared.cmp.Ordering.TheVariants.{Equal}

@@ -1,4 +1,5 @@
 -- A walk along nodes, one after another.
+-- Cited by `Structure::walk`, `walk::rows_ahead`, `walk::rows_along` and `RangeLemmas`.
 use Rattle.std.proofs.Common.{◌≡◌, ℕ, ◌+◌, ◌≤◌, zero, suc, ◌⊎◌, inl, inr, List, [], ◌∷◌, ◌++◌, map, length, take}
 use Rattle.std.proofs.Common.{drop, reverse, Option, Some, None, refl, ap, sym, ◌∙◌, subst, append_assoc, arith}
 use Rattle.std.proofs.lemmas.List.{take_all, take-append-drop, map-append, reverse-append, reverse-reverse}

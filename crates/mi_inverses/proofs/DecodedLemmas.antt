@@ -1,4 +1,5 @@
 -- Inverses put together from entries, records and places: one more or one less at either end of the sessions, and two sessions joined.
+-- Cited by `Inverses::depth`, `Inverses::end_oldest`, `Inverses::end_session`, `Inverses::join_top`, `Inverses::note` and 2 more.
 use Rattle.std.proofs.Common.{◌≡◌, ◌⊎◌, inl, inr, ℕ, suc, ◌+◌, ◌<◌, ◌≤◌, Bool, true, false, Option, None, Some, List, [], ◌∷◌, ◌++◌, length}
 use Rattle.std.proofs.Common.{drop, refl, ap, ap₂, sym, ◌∙◌, subst, arith}
 use Rattle.std.specs.Option.{option_map}

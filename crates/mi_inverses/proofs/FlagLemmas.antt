@@ -1,4 +1,5 @@
 -- How many truth values a number is seen as.
+-- Cited by `Marks::keeps_rules`.
 use Rattle.std.proofs.Common.{◌≡◌, ℕ, zero, suc, ◌/◌, length, refl, ap}
 use Rattle.mi_inverses.specs.Flags.{flags}
 

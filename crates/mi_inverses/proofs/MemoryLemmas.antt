@@ -1,4 +1,5 @@
 -- What the rings have memory for stays: an entry that comes takes room, and gives it back as it leaves.
+-- Cited by `Inverses::end_oldest`, `Inverses::end_session`, `Inverses::join_top`, `Inverses::note`, `Inverses::open_session` and 3 more.
 use Rattle.std.proofs.Common.{◌≡◌, ◌∙◌, ℕ, suc, ◌+◌, ◌-◌, ◌<◌, ◌≤◌, Bool, true, false, List, [], ◌∷◌, ◌++◌, Option, None, Some, length, reverse, drop}
 use Rattle.std.proofs.Common.{refl, ap, ap₂, sym, arith, length-append}
 use Rattle.std.specs.List.{All}

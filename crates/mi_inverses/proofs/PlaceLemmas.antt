@@ -1,4 +1,5 @@
 -- Places that go to the back of a ring, the first last, and come off at either end.
+-- Cited by `store::fetch_places` and `store::store_places`.
 use Rattle.std.proofs.Common.{◌≡◌, suc, ◌+◌, ◌<◌, ◌≤◌, Bool, true, false, Option, None, Some, List, [], ◌∷◌, ◌++◌, length}
 use Rattle.std.proofs.Common.{map, drop, reverse, ap, sym, ◌∙◌, arith}
 use Rattle.std.specs.Option.{option_map, is_some}

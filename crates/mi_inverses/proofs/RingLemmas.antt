@@ -1,4 +1,5 @@
 -- What leaves a ring at one of its ends.
+-- Cited by `Inverses::pop` and `Inverses::take_oldest`.
 use Rattle.std.proofs.Common.{◌≡◌, ◌∙◌, ℕ, ◌+◌, List, ◌++◌, take, drop, reverse, length, ap, sym, arith}
 use Rattle.std.proofs.lemmas.List.{take-append-drop, reverse-append, length-reverse, length-drop}
 

@@ -1,4 +1,5 @@
 -- The room for changes in three rings.
+-- Cited by `Inverses::note`, `Inverses::pop`, `Inverses::reserve` and `Inverses::take_oldest`.
 use Rattle.std.proofs.Common.{◌≡◌, ◌≢◌, ℕ, zero, suc, ◌+◌, ◌*◌, ◌/◌, ◌<◌, ◌≤◌, min, refl, subst, arith}
 use Rattle.std.proofs.lemmas.Nat.{le-div}
 use Rattle.std.proofs.Math.Nat.{div-mul-le_self, add-div_left, le_trans, mul-le-mul_right}

@@ -1,4 +1,5 @@
 -- What an inverse is settled by does what settling the inverse does.
+-- Cited by `mi_database`.
 use Rattle.std.proofs.Common.{◌≡◌, refl}
 use Rattle.mi_container.specs.Data.{Data}
 use Rattle.mi_container.specs.Inverse.{Inverse, settled}

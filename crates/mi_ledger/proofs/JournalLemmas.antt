@@ -1,4 +1,5 @@
 -- What a line adds to the journal, and what the journal is then.
+-- Cited by `Ledger::ask`, `Ledger::attach`, `Ledger::holds`, `Ledger::leave`, `laws::journals_go_on`, 1 more and `mi_clients`.
 use Rattle.std.proofs.Common.{◌≡◌, ◌⊎◌, ℕ, List, [], ◌∷◌, ◌++◌, Bool, true, false, Option, Some, None, inl, inr, true≢false}
 use Rattle.std.proofs.Common.{refl, sym, ap, ◌∙◌, subst, append-nil, length, get_or, cond, nat_eq, eqb-true, eq-eqb}
 use Rattle.std.specs.Prelude.{◌↔◌, if◌then◌else◌, IsTrue, replicate}

@@ -1,4 +1,5 @@
 -- What is kept is taken again: a line is answered by what the database is and by how many sessions are held, whoever holds them.
+-- Cited by `laws::kept_lines_are_taken`.
 use Rattle.std.proofs.Common.{◌≡◌, ◌⊎◌, ℕ, List, [], ◌∷◌, Bool, true, false, cond, not, ◌&&◌}
 use Rattle.std.proofs.Common.{Option, Result, Ok, Err, refl, sym, ap, ◌∙◌, subst, inl, inr, true≢false}
 use Rattle.mi_value.specs.declared.refusal.Refusal.{Refusal}

@@ -1,4 +1,5 @@
 -- What the calls of a list do to the list of its nodes.
+-- Cited by `List::back_at`, `List::insert_before`, `List::move_before`, `List::next`, `List::prev`, 3 more and `mi_index`.
 use Rattle.std.proofs.Common.{◌≡◌, ℕ, ◌<◌, List as Seq, [], ◌∷◌, ◌++◌, Option, Some, None, refl, sym, ap, ◌∙◌, subst, arith}
 use Rattle.mi_node.specs.Pool.{Pooled, ref_of, link_of, IsHeld, IsHeldIf, Keeps, with_link}
 use Rattle.mi_node.specs.Refs.{Ref, first_of, last_of, IsOut}

@@ -1,4 +1,5 @@
 -- The ends of a list after a node was taken out or put in.
+-- Cited by `ChangeLemmas`.
 use Rattle.std.proofs.Common.{◌≡◌, List, [], ◌∷◌, ◌++◌, Option, Some, None, refl, sym, ◌∙◌}
 use Rattle.mi_node.specs.Neighbours.{kept_if}
 use Rattle.mi_node.specs.Refs.{Ref, first_of, last_of}

@@ -5,6 +5,7 @@
 --     listed_with_value      and after `swap_value` of any node
 --     fits_again      a node that fitted between its neighbours fits again once the list is as it was
 --     listed_held     its nodes are held
+-- Cited by `laws::lists_stand_where_swapped`, `OrderLemmas`, `mi_index` and `test_storage`.
 use Rattle.std.proofs.Common.{◌≡◌, ℕ, ◌<◌, List as Seq, [], ◌++◌, None, sym, ap, ◌∙◌, subst}
 use Rattle.mi_node.specs.Pool.{Pooled, link_of, Keeps, with_value}
 use Rattle.mi_node.specs.Refs.{Ref, IsOut}

@@ -1,4 +1,5 @@
 -- To follow the links of a list gives the names of its nodes, in order.
+-- Cited by `mi_multi`.
 use Rattle.std.proofs.Common.{◌≡◌, ℕ, zero, suc, ◌≤◌, List as Seq, [], ◌∷◌, length, Option, Some, None, refl, ap, ◌∙◌, arith}
 use Rattle.mi_node.specs.Pool.{Pooled, node_count}
 use Rattle.mi_node.specs.Refs.{Ref, names, first_of}

@@ -1,4 +1,5 @@
 -- What writes at places leave of a file with room; the file with room cites them.
+-- Cited by `RoomFile::cut`, `RoomFile::grow` and `RoomFileDevice::write`.
 use Rattle.std.proofs.Common.{◌≡◌, ◌≤◌, ◌+◌, ◌-◌, max, ℕ, zero, suc, List, [], ◌∷◌, ◌++◌, length, take, drop, Bool, true, false, ◌==◌, ◌&&◌}
 use Rattle.std.proofs.Common.{Option, Some, None, replicate, refl, sym, ap, ◌∙◌, arith}
 use Rattle.std.proofs.lemmas.List.{length-append, length-take-le, length-drop, take-append-drop, drop-append-le}

@@ -1,4 +1,5 @@
 -- Commands answer alike in databases that show the same, and leave them so.
+-- Cited by `mi_sessions`.
 use Rattle.std.proofs.Common.{◌≡◌, ℕ, ◌+◌, ◌-◌, zero, suc, Bool, true, false, cond, not, ◌&&◌, List}
 use Rattle.std.proofs.Common.{[], ◌∷◌, length, get_or, set, take, min, refl, ap, sym, ◌∙◌, subst}
 use Rattle.std.specs.Prelude.{◌==◌, if◌then◌else◌, IfSome}

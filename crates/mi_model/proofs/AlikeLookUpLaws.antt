@@ -1,4 +1,5 @@
 -- Tables that show the same answer look-ups alike.
+-- Cited by `AlikeLaws` and `mi_sessions`.
 use Rattle.std.proofs.Common.{◌≡◌, ◌≢◌, ℕ, ◌<◌, zero, suc, cond, ◌&&◌, List, [], ◌∷◌, length, get_or, slice_get, reverse, refl, ap, ap₂, sym, ◌∙◌, subst, arith}
 use Rattle.std.specs.Prelude.{◌==◌, pos}
 use Rattle.std.specs.List.{filter, count_by, after_first, AllZip, AllByRecursion}

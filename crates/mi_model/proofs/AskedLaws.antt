@@ -1,4 +1,5 @@
 -- What fits a schema is what its indexes are asked.
+-- Cited by `mi_sessions`.
 use Rattle.std.proofs.Common.{◌≡◌, ℕ, ◌<◌, zero, suc, Bool, true, false, ◌&&◌, List, [], ◌∷◌, length, get_or, refl, ap, sym, subst, arith, eqb-true}
 use Rattle.std.specs.Prelude.{◌==◌, nat_lt, IsTrue}
 use Rattle.std.specs.List.{list_all, AllByRecursion}

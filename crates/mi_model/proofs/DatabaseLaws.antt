@@ -1,4 +1,5 @@
 -- Each command takes databases to databases.
+-- Cited by `AlikeLaws`, `InvariantLaws`, `UniqueLaws` and `mi_plain`.
 use Rattle.std.proofs.Common.{◌≡◌, ℕ, ◌+◌, ◌-◌, ◌<◌, ◌≤◌, zero, suc, Bool, true, false, cond, not, ◌&&◌}
 use Rattle.std.proofs.Common.{Option, Some, None, List, [], ◌∷◌, length, take, get_or, set, refl, arith}
 use Rattle.std.specs.Prelude.{◌==◌, if◌then◌else◌}

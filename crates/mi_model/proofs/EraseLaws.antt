@@ -1,4 +1,5 @@
 -- Erasing many rows: it depends on which ids are erased, and not on their order.
+-- Cited by `LookUpLaws` and `mi_plain`.
 use Rattle.std.proofs.Common.{◌≡◌, ℕ, ◌+◌, Bool, true, false, cond, List, [], ◌∷◌, length, map, refl, ap, ap₂, sym, ◌∙◌, arith}
 use Rattle.std.specs.Prelude.{◌==◌, ◌&&◌, ◌||◌, not}
 use Rattle.std.specs.List.{filter, fold, list_any}

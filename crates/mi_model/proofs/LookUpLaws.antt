@@ -1,4 +1,5 @@
 -- Ranks and neighbours in a list that rises by an order, and the ends of what sorting gives.
+-- Cited by `NextLaws`, `PlaceLaws`, `QueryLaws`, `RankLaws`, `WalkLaws`, `mi_container`, `mi_multi` and `mi_plain`.
 use Rattle.std.proofs.Common.{◌≡◌, ◌≢◌, ℕ, zero, suc, ◌+◌, ◌<◌, ◌≤◌, Bool, true, false, cond, not, inl, inr, Option}
 use Rattle.std.proofs.Common.{Some, None, List, [], ◌∷◌, length, slice_get, refl, ap, sym, ◌∙◌, subst, arith}
 use Rattle.std.specs.Prelude.{◌==◌}

@@ -1,4 +1,5 @@
 -- A session keeps its number.
+-- Cited by `mi_sessions`.
 use Rattle.std.proofs.Common.{◌≡◌, ℕ, zero, suc, ◌+◌, ◌-◌, ◌<◌, ◌≤◌, cond, min, inl, inr, List, [], ◌∷◌, length, take, slice_get, refl, ap, sym, ◌∙◌, arith}
 use Rattle.std.specs.Prelude.{◌==◌, nat_lt}
 use Rattle.std.specs.List.{filter}

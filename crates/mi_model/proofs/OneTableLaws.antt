@@ -1,4 +1,5 @@
 -- A catalog of one table answers and changes as that table by itself.
+-- Cited by `mi_commands` and `mi_sessions`.
 use Rattle.std.proofs.Common.{◌≡◌, ℕ, ◌+◌, ◌-◌, zero, suc, min, Bool, true, false, cond, List, [], ◌∷◌, map, take, length, refl, ap, ◌∙◌, arith}
 use Rattle.std.specs.Prelude.{◌==◌}
 use Rattle.std.proofs.lemmas.List.{length-map}

@@ -1,4 +1,5 @@
 -- Places in a list of distinct ids, and that an index shows each record of its table once.
+-- Cited by `NextLaws`, `QueryLaws`, `RankLaws`, `WalkLaws`, `mi_container`, `mi_database`, `mi_multi`, `mi_plain` and `mi_query`.
 use Rattle.std.proofs.Common.{◌≡◌, ◌≢◌, ℕ, ◌+◌, ◌-◌, ◌<◌, ◌≤◌, zero, suc, Bool, true, false, cond, not}
 use Rattle.std.proofs.Common.{inl, inr, List, [], ◌∷◌, length, reverse, refl, ap, sym, ◌∙◌, subst, arith}
 use Rattle.std.specs.Prelude.{◌==◌, slice_get, IsTrue}

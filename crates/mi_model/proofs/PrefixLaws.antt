@@ -1,4 +1,5 @@
 -- A key, or the first values of one, against rows that follow one another.
+-- Cited by `QueryLaws`, `mi_multi`, `mi_order` and `mi_plain`.
 use Rattle.std.proofs.Common.{◌≡◌, ℕ, true, false, Some, List, [], ◌∷◌, slice_get, refl, ap, sym, ◌∙◌, subst}
 use Rattle.std.specs.Ordering.{is_gt, ordering_then, ordering_reverse}
 use Rattle.std.specs.Cmp.{IsTotalOrder, alike_right}

@@ -1,4 +1,5 @@
 -- A rank in counts of rows: those of a smaller key, and those of the same key earlier in the list.
+-- Cited by `mi_sessions`.
 use Rattle.std.proofs.Common.{◌≡◌, ℕ, ◌+◌, ◌<◌, ◌≤◌, zero, suc, Bool, true, false, cond, not, ◌&&◌}
 use Rattle.std.proofs.Common.{inl, inr, List, [], ◌∷◌, length, take, refl, ap, ap₂, sym, ◌∙◌, subst, arith}
 use Rattle.std.specs.Prelude.{◌==◌, IsTrue}

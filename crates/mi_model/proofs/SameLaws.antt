@@ -1,4 +1,5 @@
 -- Tables that show the same: an equivalence, and changes keep it.
+-- Cited by `AlikeLaws` and `AlikeLookUpLaws`.
 use Rattle.std.proofs.Common.{Option, Some, set, ◌≡◌, ℕ, ◌+◌, ◌<◌, ◌≤◌, Bool, true, false, not, inl, inr}
 use Rattle.std.proofs.Common.{List, [], ◌∷◌, ◌++◌, map, length, get_or, refl, ap, sym, ◌∙◌, subst, arith}
 use Rattle.std.specs.Prelude.{◌==◌}

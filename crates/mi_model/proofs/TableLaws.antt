@@ -1,4 +1,5 @@
 -- Each change takes tables to tables.
+-- Cited by `AlikeLaws`, `DatabaseLaws`, `InvariantLaws`, `LookUpLaws`, 5 more, `mi_container`, `mi_database`, `mi_multi` and `mi_plain`.
 use Rattle.std.proofs.Common.{◌≡◌, ◌≢◌, ℕ, ◌+◌, ◌<◌, ◌≤◌, zero, suc, Bool, true, false, cond, not, inl, inr}
 use Rattle.std.proofs.Common.{List, [], ◌∷◌, ◌++◌, map, length, get_or, set, refl, ap, sym, ◌∙◌, subst, arith}
 use Rattle.std.specs.Prelude.{◌==◌}

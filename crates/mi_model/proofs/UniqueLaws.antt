@@ -1,4 +1,5 @@
 -- No command gives two rows one key in a unique index.
+-- Cited by `mi_container` and `mi_sessions`.
 use Rattle.std.proofs.Common.{◌≡◌, ◌≢◌, ℕ, zero, suc, ◌+◌, ◌-◌, ◌<◌, Bool, true, false, cond, not, ◌&&◌}
 use Rattle.std.proofs.Common.{inl, inr, List, [], ◌∷◌, map, get_or, drop, refl, ap, sym, ◌∙◌, subst, arith}
 use Rattle.std.specs.Prelude.{◌==◌, if◌then◌else◌, ◌||◌}

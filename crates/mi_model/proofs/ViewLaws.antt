@@ -1,4 +1,5 @@
 -- How each change of a table changes what its indexes show.
+-- Cited by `LookUpLaws`, `PutLaws`, `QueryLaws`, `RankLaws`, `SameLaws`, 2 more, `mi_container`, `mi_database`, `mi_multi` and `mi_plain`.
 use Rattle.std.proofs.Common.{◌≡◌, ◌≢◌, ℕ, ◌<◌, Bool, true, false, cond, not, List, [], ◌∷◌, ◌++◌, map, length, refl, ap, sym, ◌∙◌, subst, eqb-true}
 use Rattle.std.proofs.lemmas.Bool.{eqb-false}
 use Rattle.std.specs.Prelude.{◌==◌}

@@ -1,4 +1,5 @@
 -- A walk along what an index shows, step by step and whole.
+-- Cited by `mi_multi`, `mi_plain` and `mi_query`.
 use Rattle.std.proofs.Common.{◌≡◌, ℕ, ◌+◌, ◌-◌, ◌<◌, ◌≤◌, zero, suc, Bool, true, false, cond, ◌⊎◌, inl, inr, get_or, List, []}
 use Rattle.std.proofs.Common.{◌∷◌, ◌++◌, map, length, take, drop, reverse, refl, ap, sym, ◌∙◌, subst, append_assoc, arith}
 use Rattle.std.specs.Prelude.{slice_get, IsTrue, IfSome}

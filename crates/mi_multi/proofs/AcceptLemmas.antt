@@ -1,4 +1,5 @@
 -- What is known of a record that no rule refuses.
+-- Cited by `MultiIndex::has`, `MultiIndex::insert_accepted`, `MultiIndex::insert_refusal`, `MultiIndex::insert_row` and 2 more.
 use Rattle.std.proofs.Common.{◌≡◌, ◌≢◌, ℕ, ◌+◌, ◌≤◌, zero, suc, IfSome, Bool, true, false, cond, not}
 use Rattle.std.proofs.Common.{◌||◌, inl, inr, List, [], ◌∷◌, get_or, refl, ap, sym, ◌∙◌, subst, arith}
 use Rattle.std.specs.Prelude.{◌==◌}

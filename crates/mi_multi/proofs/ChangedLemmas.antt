@@ -1,4 +1,5 @@
 -- What the marks of the indexes in which a key changes say of each index.
+-- Cited by `ConflictLemmas`, `OldPlaceLemmas` and `PutCallLemmas`.
 use Rattle.std.proofs.Common.{◌≡◌, ℕ, ◌<◌, Bool, true, false, not, List, [], get_or, length, refl, ap, sym, ◌∙◌}
 use Rattle.std.specs.Option.{option_map, unwrap_or}
 use Rattle.std.proofs.lemmas.List.{get_or-map, length-map}

@@ -1,4 +1,5 @@
 -- The row that a unique index finds for a record's key.
+-- Cited by `MultiIndex::holder`, `MultiIndex::rival` and `MultiIndex::rival_of_put`.
 use Rattle.std.proofs.Common.{Bor, ◌≡◌, ◌≢◌, ℕ, ◌<◌, zero, suc, Bool, true, false, not, List, [], ◌∷◌, slice_get, get_or, length, refl, ap, sym, ◌∙◌, subst, arith}
 use Rattle.std.specs.Prelude.{IsTrue}
 use Rattle.std.specs.List.{filter, list_all}

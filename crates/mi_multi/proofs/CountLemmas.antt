@@ -1,4 +1,5 @@
 -- How long the list of an index is: as many nodes as live ids, which are no more than all ids.
+-- Cited by `InsertLemmas`, `NewRecordLemmas`, `OldRecordPlaceLemmas`, `RestampLemmas` and `ReturnLemmas`.
 use Rattle.std.proofs.Common.{◌≡◌, ◌≢◌, ℕ, ◌+◌, ◌<◌, ◌≤◌, suc, true, false, cond, not, inl, inr, List, [], ◌∷◌, length, refl, ap, sym, ◌∙◌, subst, arith}
 use Rattle.std.specs.Prelude.{◌==◌}
 use Rattle.std.specs.Ordering.{nat_cmp}

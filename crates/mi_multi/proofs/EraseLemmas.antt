@@ -1,4 +1,5 @@
 -- A row leaves: what the passes leave are the data without it, and all stands again.
+-- Cited by `MultiIndex::erase_for`, `MultiIndex::take_back_inserted` and `TakeBackInsertLemmas`.
 use Rattle.std.proofs.Common.{◌≡◌, ◌≢◌, ℕ, ◌+◌, true, false, cond, List}
 use Rattle.std.proofs.Common.{[], ◌∷◌, ◌++◌, map, refl, ap, sym, ◌∙◌, subst, arith}
 use Rattle.std.specs.Prelude.{◌==◌}

@@ -1,4 +1,5 @@
 -- Look-ups in the ids of a list of nodes.
+-- Cited by `CallLemmas`, `ConflictLemmas`, `KeyCallLemmas`, `LookUpLemmas`, `ProbeLemmas` and 1 more.
 use Rattle.std.proofs.Common.{◌≡◌, ℕ, ◌+◌, ◌≤◌, zero, suc, Bool, true, false, not, cond, List, [], ◌∷◌}
 use Rattle.std.proofs.Common.{◌++◌, map, slice_get, length, refl, ap, sym, ◌∙◌, subst, arith}
 use Rattle.std.specs.Prelude.{◌==◌, IfSome}

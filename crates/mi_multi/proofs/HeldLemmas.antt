@@ -1,4 +1,5 @@
 -- The ids in a pool's nodes: those of the ids' entries, each once.
+-- Cited by `MultiIndex::keeps_nodes` and `MultiIndex::new`.
 use Rattle.std.proofs.Common.{◌≡◌, ◌≢◌, ℕ, ◌+◌, ◌<◌, ◌≤◌, true, false, cond, inl, inr, List, [], ◌∷◌, map, length}
 use Rattle.std.proofs.Common.{refl, ap, sym, ◌∙◌, subst, arith}
 use Rattle.std.specs.Prelude.{◌==◌}

@@ -1,4 +1,5 @@
 -- A new row may come into every index: by the next stamp, which no node has.
+-- Cited by `MultiIndex::insert_accepted`, `AcceptLemmas`, `InsertedLemmas`, `NewRecordLemmas` and `RoomLemmas`.
 use Rattle.std.proofs.Common.{◌≡◌, ◌≢◌, ℕ, ◌^◌, ◌<◌, ◌≤◌, Bool, true, false, cond, List, [], ◌∷◌, ◌++◌, get_or, length, refl, ap, sym, ◌∙◌, subst, arith}
 use Rattle.std.specs.Prelude.{◌==◌}
 use Rattle.std.specs.List.{AllByRecursion}

@@ -1,4 +1,5 @@
 -- A row has come in: what the pool and the structures say then are the data with it, and all stands again.
+-- Cited by `MultiIndex::insert_accepted`, `NewRecordLemmas` and `RestampLemmas`.
 use Rattle.std.proofs.Common.{◌≡◌, ◌≢◌, ℕ, suc, ◌+◌, ◌^◌, ◌<◌, ◌≤◌, true, false, cond, inl, inr, List}
 use Rattle.std.proofs.Common.{[], ◌∷◌, ◌++◌, map, get_or, refl, ap, sym, ◌∙◌, subst, arith}
 use Rattle.std.specs.Prelude.{◌==◌}

@@ -1,4 +1,5 @@
 -- How many rows have a key.
+-- Cited by `MultiIndex::count_hashed` and `MultiIndex::count_sorted`.
 use Rattle.std.proofs.Common.{◌≡◌, ℕ, ◌+◌, ◌<◌, ◌≤◌, Bool, true, false, not, ◌&&◌, List, [], ◌∷◌, length, refl, ap, sym, ◌∙◌, arith}
 use Rattle.std.specs.Prelude.{IsTrue}
 use Rattle.std.specs.List.{AllByRecursion, filter}

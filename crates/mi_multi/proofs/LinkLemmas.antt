@@ -1,4 +1,5 @@
 -- What a node that left remembers in each index, and which tags stay in a pass.
+-- Cited by `EraseLemmas` and `RoomLemmas`.
 use Rattle.std.proofs.Common.{◌≡◌, ℕ, ◌+◌, suc, true, List, [], ◌∷◌, ◌++◌, get_or, refl, ap, sym, ◌∙◌, subst, arith}
 use Rattle.std.specs.List.{filter}
 use Rattle.std.specs.Ordering.{nat_cmp}

@@ -1,4 +1,5 @@
 -- Lists of nodes, and the ids of their rows: a node that leaves or joins, and the neighbours that it knows.
+-- Cited by `AcceptLemmas`, `EraseLemmas`, `InsertedLemmas`, `LiveNodeLemmas`, `NeighbourLemmas` and 9 more.
 use Rattle.std.proofs.Common.{◌≡◌, ℕ, ◌+◌, Bool, true, false, cond, List, [], ◌∷◌, ◌++◌, map, refl, ap, ◌∙◌, subst, arith}
 use Rattle.std.specs.Prelude.{◌==◌}
 use Rattle.std.specs.List.{AllByRecursion, filter}

@@ -1,4 +1,5 @@
 -- What the calls that read answer, from what is known of the index.
+-- Cited by `CallLemmas`, `KeyCallLemmas`, `ProbeLemmas`, `RelocateCallLemmas` and `WalkLemmas`.
 use Rattle.std.proofs.Common.{◌≡◌, ℕ, true, List, [], ◌∷◌, ◌++◌, ap, sym, ◌∙◌, subst}
 use Rattle.std.specs.Prelude.{◌==◌, IsTrue}
 use Rattle.std.specs.List.{AllByRecursion}

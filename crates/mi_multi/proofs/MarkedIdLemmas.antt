@@ -1,4 +1,5 @@
 -- An id is marked as live, or as only kept, and the nodes keep their names and values.
+-- Cited by `EraseLemmas`, `RelocateLemmas`, `RoomLemmas` and `TakeBackEraseLemmas`.
 use Rattle.std.proofs.Common.{◌≡◌, ◌≢◌, ℕ, ◌^◌, ◌≤◌, Bool, inl, inr, List, [], ◌∷◌, ap, sym, ◌∙◌, subst, arith}
 use Rattle.std.specs.List.{AllByRecursion}
 use Rattle.std.specs.Ordering.{nat_cmp}

@@ -1,4 +1,5 @@
 -- What a node remembers is what data say that it does.
+-- Cited by `EraseLemmas`, `InsertedLemmas`, `LinkLemmas`, `LookUpLemmas`, `NewRecordLemmas` and 7 more.
 use Rattle.std.proofs.Common.{◌≡◌, ℕ, Bool, true, false, cond, List, [], ◌∷◌, ◌++◌, map, refl, ap, sym, ◌∙◌, subst}
 use Rattle.std.specs.List.{AllByRecursion, filter}
 use Rattle.std.specs.Ordering.{nat_cmp, is_eq, ordering_reverse}

@@ -1,4 +1,5 @@
 -- Another record in a live row: in each index where its key changes its node may move by the next stamp, and then it holds what the data say.
+-- Cited by `OldPlaceLemmas` and `PutCallLemmas`.
 use Rattle.std.proofs.Common.{◌≡◌, ◌≢◌, ℕ, ◌+◌, ◌^◌, ◌<◌, ◌≤◌, suc, Bool, true, false, cond, not, inl}
 use Rattle.std.proofs.Common.{inr, List, [], ◌∷◌, ◌++◌, get_or, length, refl, ap, sym, ◌∙◌, subst, arith}
 use Rattle.std.specs.Prelude.{pos}

@@ -1,4 +1,5 @@
 -- A container opens with the data of an empty table, and with its secret in each hashed index.
+-- Cited by `MultiIndex::new`.
 use Rattle.std.proofs.Common.{◌≡◌, ℕ, ◌+◌, true, cond, inl, inr, List, [], ◌∷◌, map, length, refl, ap, sym, ◌∙◌, subst, arith}
 use Rattle.std.specs.List.{AllByRecursion}
 use Rattle.std.specs.Option.{option_and_then}

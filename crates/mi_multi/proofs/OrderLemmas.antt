@@ -1,4 +1,5 @@
 -- The orders of indexes after their own lists changed.
+-- Cited by `EraseLemmas`, `InsertedLemmas`, `PutLemmas`, `RelocateLemmas` and `TakeBackEraseLemmas`.
 use Rattle.std.proofs.Common.{◌≡◌, ◌≢◌, ℕ, zero, suc, true, List, [], ◌∷◌, map, get_or, set, refl, ap, ◌∙◌, arith}
 use Rattle.mi_value.specs.declared.compare.KeyPart.{KeyPart}
 use Rattle.mi_catalog.specs.declared.index.Index.{Index}

@@ -1,4 +1,5 @@
 -- Lists of pairs that ascend by their ids: they are what is found in them.
+-- Cited by `AnswerLemmas`, `CountLemmas`, `EraseLemmas`, `HeldLemmas`, `InsertLemmas` and 10 more.
 use Rattle.std.proofs.Common.{◌≡◌, ℕ, ◌<◌, Bool, true, false, cond, ◌&&◌, T, inl, inr, List, [], ◌∷◌, refl, ap, sym, ◌∙◌, subst, arith}
 use Rattle.std.specs.Prelude.{◌==◌}
 use Rattle.std.specs.List.{AllByRecursion}

@@ -1,4 +1,5 @@
 -- Where a node that left may come back: what data ask of an inverse pays what structures ask of a place.
+-- Cited by `InsertLemmas`, `NewRecordLemmas`, `OldRecordPlaceLemmas`, `RestampLemmas` and `ReturnLemmas`.
 use Rattle.std.proofs.Common.{◌≡◌, ◌≢◌, ℕ, ◌<◌, List, [], ◌∷◌, ◌++◌, refl, ap, sym, ◌∙◌, arith}
 use Rattle.std.specs.Prelude.{pos}
 use Rattle.std.specs.List.{AllByRecursion}

@@ -1,5 +1,6 @@
 -- A row's node has another value, and may have moved in some indexes: what the pool says then are the data with another content, and all stands.
 --     IsShifted, Shift      what this takes of one index
+-- Cited by `NewRecordLemmas` and `RestampLemmas`.
 use Rattle.std.proofs.Common.{◌≡◌, ℕ, ◌+◌, ◌≤◌, true, false, cond, ◌⊎◌, inl, inr, List, []}
 use Rattle.std.proofs.Common.{◌∷◌, ◌++◌, get_or, refl, ap, sym, ◌∙◌, subst}
 use Rattle.std.specs.Prelude.{◌==◌}

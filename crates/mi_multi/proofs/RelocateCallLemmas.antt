@@ -1,4 +1,5 @@
 -- A row moves in a sequenced index: what the call says of tables, and what takes it back.
+-- Cited by `MultiIndex::move_row`, `MultiIndex::relocate`, `MultiIndex::row_behind` and `PutCallLemmas`.
 use Rattle.std.proofs.Common.{◌≡◌, ℕ, zero, suc, Bool, true, false, cond, ◌&&◌, List, [], ◌∷◌, ◌++◌, get_or, slice_get, refl, ap, sym, ◌∙◌, subst}
 use Rattle.std.specs.List.{AllByRecursion}
 use Rattle.std.specs.Option.{option_map}

@@ -1,4 +1,5 @@
 -- A row moves in one sequenced index: what the pool and the structures say then are the data with it there, and all stands.
+-- Cited by `MultiIndex::stand_before`.
 use Rattle.std.proofs.Common.{◌≡◌, ◌≢◌, ℕ, ◌+◌, ◌≤◌, Bool, true, false, cond, inl, inr, List, []}
 use Rattle.std.proofs.Common.{◌∷◌, ◌++◌, get_or, set, refl, ap, sym, ◌∙◌, subst, arith}
 use Rattle.std.specs.Prelude.{◌==◌}

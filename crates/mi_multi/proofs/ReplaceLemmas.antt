@@ -1,4 +1,5 @@
 -- What a replace and a modify answer, by which refusal applies.
+-- Cited by `MultiIndex::edited`, `MultiIndex::modify`, `MultiIndex::modify_to` and `MultiIndex::replace`.
 use Rattle.std.proofs.Common.{◌≡◌, ◌≢◌, ℕ, Bool, true, false, cond, not, inl, inr, List, [], refl, ap, sym, ◌∙◌, subst}
 use Rattle.std.specs.Prelude.{IfOk, IfErr, ◌⊎◌}
 use Rattle.std.specs.Option.{option_map, option_map_or, is_some, unwrap_or}

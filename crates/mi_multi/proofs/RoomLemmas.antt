@@ -1,4 +1,5 @@
 -- Chains that grew: the same data, and all stands.
+-- Cited by `MultiIndex::insert_accepted`.
 use Rattle.std.proofs.Common.{◌≡◌, ℕ, ◌+◌, List, [], ◌∷◌, refl, ap, sym, ◌∙◌, subst, arith}
 use Rattle.std.specs.List.{AllByRecursion}
 use Rattle.std.specs.Option.{option_and_then}

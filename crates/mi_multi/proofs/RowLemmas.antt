@@ -1,4 +1,5 @@
 -- What is picked of a map after one of its ids changed.
+-- Cited by `EraseLemmas`, `InsertedLemmas`, `LiveNodeLemmas`, `PutLemmas`, `RelocateLemmas` and 6 more.
 use Rattle.std.proofs.Common.{◌≡◌, ◌≢◌, ℕ, ◌<◌, true, false, cond, inl, inr, List, [], ◌∷◌, ◌++◌, refl, ap, sym, ◌∙◌, subst, arith}
 use Rattle.std.specs.Prelude.{◌==◌}
 use Rattle.std.specs.Map.{lookup}

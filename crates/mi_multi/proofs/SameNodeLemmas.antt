@@ -1,4 +1,5 @@
 -- What a pool says of nodes stays where their values, stamps and links stay.
+-- Cited by `EraseLemmas`, `InsertedLemmas`, `PutLemmas`, `RelocateLemmas`, `RoomLemmas` and 3 more.
 use Rattle.std.proofs.Common.{◌≡◌, ◌≢◌, ℕ, ◌+◌, zero, suc, Bool, true, false, cond, List, [], ◌∷◌, get_or, refl, ap, sym, ◌∙◌, subst, arith}
 use Rattle.std.specs.Option.{option_and_then}
 use Rattle.std.specs.Ordering.{nat_cmp}

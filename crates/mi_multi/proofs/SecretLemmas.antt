@@ -1,4 +1,5 @@
 -- A change of the structures leaves each its secret.
+-- Cited by `MultiIndex::erase_for`, `MultiIndex::insert_accepted`, `MultiIndex::put`, `MultiIndex::restamp` and 4 more.
 use Rattle.std.proofs.Common.{◌≡◌, Some, List, [], ◌∷◌, map, refl, ap, ◌∙◌}
 use Rattle.mi_index.specs.declared.structure.Structure.{Structure}
 use Rattle.mi_index.specs.Standing.{IsLike}

@@ -1,4 +1,5 @@
 -- What inverses name: entries of ids. And a kept node is freed.
+-- Cited by `MultiIndex::settle_erased`, `AnswerLemmas`, `InsertedLemmas`, `RoomLemmas`, `TakeBackInsertLemmas` and 1 more.
 use Rattle.std.proofs.Common.{◌≡◌, ◌≢◌, ℕ, ◌+◌, ◌-◌, ◌^◌, ◌≤◌, suc, Bool, true, false, cond, inl, inr, List, [], ◌∷◌, refl, ap, sym, ◌∙◌, subst, arith}
 use Rattle.std.specs.Prelude.{◌==◌}
 use Rattle.std.specs.List.{AllByRecursion}

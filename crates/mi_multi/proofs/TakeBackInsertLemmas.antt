@@ -1,4 +1,5 @@
 -- A new row is taken back: its node leaves every index and is freed.
+-- Cited by `MultiIndex::stand_before`, `MultiIndex::take_back_inserted`, `MultiIndex::take_back_put`, `PutCallLemmas` and 3 more.
 use Rattle.std.proofs.Common.{◌≡◌, ℕ, ◌-◌, true, false, inl, inr, List, map, ap, sym, ◌∙◌, subst, arith}
 use Rattle.std.specs.Ordering.{nat_cmp}
 use Rattle.std.specs.FinMap.{FinMap, get, remove, same_map, nat_cmp-IsAntisymmetric}

@@ -1,4 +1,5 @@
 -- A row has its old record again: what the indexes leave are the data before the put, and all stands.
+-- Cited by `MultiIndex::take_back_put`.
 use Rattle.std.proofs.Common.{◌≡◌, ℕ, ◌+◌, ◌-◌, ◌<◌, zero, suc, true, false, cond, inl, inr, List}
 use Rattle.std.proofs.Common.{[], ◌∷◌, ◌++◌, map, get_or, length, refl, ap, sym, ◌∙◌, subst, arith}
 use Rattle.std.specs.Prelude.{◌==◌}

@@ -1,4 +1,5 @@
 -- The only row of a table that can have a record's key in a unique index.
+-- Cited by `ConflictLemmas`.
 use Rattle.std.proofs.Common.{◌≡◌, ◌≢◌, ℕ, ◌+◌, ◌<◌, ◌≤◌, Bool, true, false, cond, not, ◌&&◌, inl}
 use Rattle.std.proofs.Common.{inr, List, [], ◌∷◌, slice_get, refl, ap, sym, ◌∙◌, subst, arith}
 use Rattle.std.specs.Prelude.{◌==◌}

@@ -1,4 +1,5 @@
 -- What an index shows: the ids of its nodes.
+-- Cited by `ConflictLemmas`, `LookUpLemmas`, `ProbeLemmas` and `WalkLemmas`.
 use Rattle.std.proofs.Common.{◌≡◌, ◌≢◌, ℕ, ◌+◌, ◌<◌, zero, suc, true, List, [], ◌∷◌, get_or, length, refl, ap, sym, ◌∙◌, subst, arith}
 use Rattle.std.specs.Prelude.{pos}
 use Rattle.std.specs.List.{AllByRecursion}

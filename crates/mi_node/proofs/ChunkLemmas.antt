@@ -2,6 +2,7 @@
 --     small_of, split_of, in_chunks      where an index lies
 --     full_at, index-flat, set-flat, flat-end      a chunk, an element, another in its place, and a chunk more
 --     length-flat, IsChunked-set, IsChunked-end      how many there are, and that chunks stay full
+-- Cited by `Chunks::add`, `Chunks::at`, `Chunks::len`, `Chunks::replace`, `Column::add` and 3 more.
 use Rattle.std.proofs.Common.{◌≡◌, ℕ, zero, suc, ◌+◌, ◌*◌, ◌/◌, ◌%◌, ◌<◌, ◌≤◌, List, [], ◌∷◌, ◌++◌}
 use Rattle.std.proofs.Common.{length, slice_set, slice_index_or, refl, sym, ap, ◌∙◌, subst, arith}
 use Rattle.std.proofs.Math.ListN.{length-set}

@@ -4,6 +4,7 @@
 --     links-more                   a longer column changes no link
 --     cleared-..                   columns that are cleared one by one
 --     long-..                      that columns stay long
+-- Cited by `Column::at`, `columns::clear`, `columns::lengthen`, `columns::lengthen_column`, `columns::link_at` and 3 more.
 use Rattle.std.proofs.Common.{◌≡◌, ℕ, zero, suc, ◌+◌, ◌<◌, ◌≤◌, ◌==◌, true, false, cond, List, [], ◌∷◌, ◌++◌}
 use Rattle.std.proofs.Common.{length, replicate, slice_set, slice_index_or, refl, sym, ap, ◌∙◌, subst, arith}
 use Rattle.std.proofs.Math.ListN.{length-set}

@@ -10,6 +10,7 @@
 --     last-..         the reference of each name that was given back last, after a call
 --     stale           the reference that was given back last isn't held once a node was taken
 --     fewer           a pool without one of its nodes has fewer
+-- Cited by `home::is_free`, `KeepingLemmas`, 4 more, `mi_chain`, `mi_index`, `mi_list`, `mi_multi`, `mi_tree` and `test_storage`.
 use Rattle.std.proofs.Common.{◌≡◌, ℕ, zero, suc, ◌-◌, ◌<◌, ◌==◌, Bool, true, false, cond, List, [], ◌∷◌, option_map}
 use Rattle.std.proofs.Common.{slice_index_or, replicate, Option, Some, None, refl, sym, ap, subst, ◌∙◌, arith, is_some}
 use Rattle.std.specs.Ordering.{nat_cmp}

@@ -1,4 +1,5 @@
 -- What a `Frame` owns is taken apart and made. Assumes `Logic`.
+-- Cited by `frame::close` and `frame::open`.
 use mathlib.Core.Path.{◌≡◌, refl, ap, ◌∙◌}
 use Prim.Native.Nat.{ℕ, ◌<◌, ◌^◌}
 use mathlib.Core.List.{List, [], ◌∷◌, ◌++◌}

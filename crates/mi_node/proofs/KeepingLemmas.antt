@@ -2,6 +2,7 @@
 --     keeps_..        `Keeps` of no change, of one call of `set_link`, of one change after another
 --     SameLinks, same_..      that nodes have the same links of a slot after a change of other nodes, or after `take`, `give` and `swap_value`
 --     absent_out, node_count-least      lists of held nodes
+-- Cited by `NeighbourLemmas`, `mi_chain`, `mi_index`, `mi_list`, `mi_tree` and `test_storage`.
 use Rattle.std.proofs.Common.{◌≡◌, ℕ, ◌≤◌, ◌==◌, Bool, true, false, cond, List, [], ◌∷◌, ◌++◌, length, Some, None, refl, sym, ap, ◌∙◌, arith}
 use Rattle.mi_node.specs.Pool.{Pooled, ref_of, link_of, no_link, node_count, IsHeld, Keeps, taken, without, with_link, with_value}
 use Rattle.mi_node.specs.Neighbours.{AreHeld}

@@ -4,6 +4,7 @@
 --     rehead, retail, joins      the first has another before it, the last another after it, and both sides of a gap
 --     ref-.., value-.., slots-.., tag-..      the parts of the pool that stay
 --     unlinks, relinks      one node is taken out, and put back
+-- Cited by `mi_chain`, `mi_index` and `mi_list`.
 use Rattle.std.proofs.Common.{◌≡◌, ℕ, ◌==◌, Bool, true, false, List, [], ◌∷◌, ◌++◌, Option, Some, None, refl, sym, ap, ◌∙◌}
 use Rattle.mi_node.specs.Pool.{Pooled, ref_of, value_of, link_of, IsHeld, IsHeldIf, Keeps, with_link}
 use Rattle.mi_node.specs.Refs.{Ref, first_of, last_of, IsOut, IsApart, AreOut}

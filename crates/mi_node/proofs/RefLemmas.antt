@@ -3,6 +3,7 @@
 --     apart_..    lists in which no name stands twice, cut, joined, with a reference more or less
 --     are_out_..  two lists with no name in common
 --     between     what stands on both sides of a node
+-- Cited by `NeighbourLemmas`, `mi_chain`, `mi_index`, `mi_list`, `mi_tree` and `test_storage`.
 use Rattle.std.proofs.Common.{◌≡◌, ℕ, List, [], ◌∷◌, ◌++◌, Option, Some, None, refl, ap, ◌∙◌}
 use Rattle.mi_node.specs.Refs.{Ref, names, first_of, last_of, IsOut, IsApart, AreOut}
 use Rattle.mi_node.proofs.EntryLemmas.{flip}

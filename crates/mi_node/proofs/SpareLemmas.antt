@@ -1,6 +1,7 @@
 -- The free places that were given back stay among the first ones.
 --     listed-..      after a change
 --     spare_first      where one was given back and is free, so is the first one
+-- Cited by `Places::add_chunk`, `Places::new`, `Places::settle`, `Places::swap_value`, `Places::vacate` and 1 more.
 use Rattle.std.proofs.Common.{◌≡◌, ℕ, zero, suc, ◌<◌, ◌==◌, inl, inr, true, false, cond, List, [], ◌∷◌, ◌++◌, length, option_map}
 use Rattle.std.proofs.Common.{slice_set, Option, Some, None, refl, sym, ap, ◌∙◌, subst, arith}
 use Rattle.std.specs.Ordering.{nat_cmp}

@@ -1,4 +1,5 @@
 -- How a hash goes over a text and over the parts of a key.
+-- Cited by `hashing::after_text` and `hashing::hash_key`.
 use Rattle.std.proofs.Common.{◌≡◌, ℕ, List, [], ◌∷◌, ◌++◌, fold, slice_get, Some, None, refl, ◌∙◌}
 use Rattle.std.specs.List.{cons_option}
 use Rattle.std.proofs.lemmas.List.Sums.{fold-append}

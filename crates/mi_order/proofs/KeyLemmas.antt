@@ -1,4 +1,5 @@
 -- Whether keys are equal says nothing of which is less.
+-- Cited by `key::same_part`.
 use Rattle.std.proofs.Common.{◌≡◌, Bool, true, false, refl}
 use Rattle.std.specs.Ordering.{is_eq, ordering_then}
 use Rattle.std.specs.declared.cmp.Ordering.{Ordering}

@@ -1,4 +1,5 @@
 -- A change of one table is that of the database.
+-- Cited by `PlainSessions::erase`, `PlainSessions::erase_key`, `PlainSessions::insert`, `PlainSessions::modify` and 2 more.
 use Rattle.std.proofs.Common.{◌≡◌, ℕ, ◌<◌, length, subst, ◌∙◌, ap, arith, get_or}
 use Rattle.std.proofs.lemmas.List.{get_or_default}
 use Rattle.std.specs.declared.result.Result.{Result}

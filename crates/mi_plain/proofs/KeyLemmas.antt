@@ -1,4 +1,5 @@
 -- What an erase by key takes out.
+-- Cited by `PlainTable::erase_key`.
 use Rattle.std.proofs.Common.{◌≡◌, ℕ, Bool, List, length}
 use Rattle.std.specs.Ordering.{is_eq}
 use Rattle.std.specs.List.{filter}

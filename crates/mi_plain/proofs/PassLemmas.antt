@@ -1,4 +1,5 @@
 -- One pass over a list of ids: the first, and the last, of those that pass a test.
+-- Cited by `PlainTable::count_before`, `PlainTable::first_of`, `PlainTable::first_past`, `PlainTable::last_before` and 4 more.
 use Rattle.std.proofs.Common.{◌≡◌, ℕ, zero, suc, ◌<◌, ◌≤◌, Bool, true, false, cond, not, Option, Some, None, List}
 use Rattle.std.proofs.Common.{[], ◌∷◌, length, slice_get, get_or, take, drop, refl, ap, sym, ◌∙◌, subst, arith}
 use Rattle.std.proofs.lemmas.List.{drop_all}

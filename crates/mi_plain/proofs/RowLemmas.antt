@@ -1,4 +1,5 @@
 -- Rows found and set, lists moved, and what a free replace says.
+-- Cited by `Ids::with_before`, `PlainTable::replace`, `conflict::set_row` and `ids::with_moved`.
 use Rattle.std.proofs.lemmas.List.{drop_all, append-nil}
 use Rattle.std.proofs.Common.{◌≡◌, ℕ, suc, ◌+◌, ◌<◌, ◌≤◌, Bool, true, false, List, [], ◌∷◌, length, slice_set, refl, ap, sym, subst, cond, arith, ◌∙◌}
 use Rattle.std.specs.Prelude.{◌==◌, not, if◌then◌else◌, nat_lt, MatchOption, drop, ◌++◌}

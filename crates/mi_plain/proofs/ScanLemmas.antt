@@ -1,4 +1,5 @@
 -- Ids looked for one after another: by rank, and by key in a hashed index.
+-- Cited by `PlainTable::next_of` and `PlainTable::nth`.
 use Rattle.std.proofs.Common.{◌≡◌, ◌≢◌, ℕ, zero, suc, ◌+◌, ◌<◌, ◌≤◌, Bool, true, cond, inl, inr, Option, Some, None}
 use Rattle.std.proofs.Common.{List, [], ◌∷◌, length, slice_get, get_or, drop, refl, ap, sym, ◌∙◌, subst, arith}
 use Rattle.std.specs.Prelude.{◌==◌}

@@ -1,4 +1,5 @@
 -- What a binary search finds among rows in the order of their ids.
+-- Cited by `PlainTable::get` and `conflict::search`.
 use Rattle.std.proofs.Common.{◌≡◌, ◌≢◌, ℕ, zero, suc, ◌<◌, ◌≤◌, cond, List, [], ◌∷◌, length, Some}
 use Rattle.std.proofs.Common.{None, Result, Ok, Err, IfOk, IfErr, inl, inr, refl, ap, sym, ◌∙◌, arith}
 use Rattle.std.specs.Prelude.{◌==◌}

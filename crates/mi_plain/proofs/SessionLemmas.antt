@@ -1,4 +1,5 @@
 -- The copies of the open sessions, the newest last.
+-- Cited by `PlainSessions::commit`, `PlainSessions::undo` and `PlainSessions::undo_all`.
 use Rattle.std.proofs.Common.{◌≡◌, ℕ, min, cond, ◌+◌, ◌-◌, ◌≤◌, List, [], ◌∷◌, ◌++◌, length, take, drop, reverse, refl, ap, sym, ◌∙◌, arith}
 use Rattle.std.proofs.lemmas.List.{reverse-append, take-append-drop, take-append-le, take_all, length-reverse, length-drop}
 use Rattle.std.specs.declared.result.Result.{Result}

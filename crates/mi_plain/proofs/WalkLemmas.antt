@@ -1,4 +1,5 @@
 -- Where the rows that meet a bound begin.
+-- Cited by `PlainTable::first_from`, `PlainTable::last_to` and `PlainTable::walk_range`.
 use Rattle.std.proofs.Common.{◌≡◌, ℕ, ◌+◌, ◌-◌, ◌≤◌, min, zero, suc, Bool, true, false, inl, inr, List, [], ◌∷◌, ◌++◌, map, length, take, drop, reverse}
 use Rattle.std.proofs.Common.{Some, None, refl, ap, sym, ◌∙◌, arith}
 use Rattle.std.specs.Prelude.{slice_get, IsTrue}

@@ -1,4 +1,5 @@
 -- The digits of numbers, two at a time: those of the table, and those of a number behind its hundreds or its ten thousands.
+-- Cited by `number::+put_large` and `number::put_pair`.
 use Rattle.std.proofs.Common.{◌≡◌, ℕ, zero, suc, ◌+◌, ◌-◌, ◌*◌, ◌/◌, ◌%◌, ◌^◌, ◌<◌, ◌≤◌, Bool, true, ◌&&◌, T, eqb, [], ◌∷◌, length, take, drop, get_or, ap, ap₂, ◌∙◌, inl, inr, arith, eq-zero-or-pos, eqb→eq}
 use Rattle.std.proofs.lemmas.Fmt.{length-decimal-le}
 use Rattle.std.proofs.lemmas.List.{drop_more}

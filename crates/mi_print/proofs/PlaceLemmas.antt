@@ -1,4 +1,5 @@
 -- Of what is put at a place the first bytes alone can count.
+-- Cited by `place::put_label`.
 use Rattle.std.proofs.Common.{ℕ, ◌+◌, ◌≤◌, List, ◌++◌, length, take, sym, ap, ◌∙◌, arith, length-take-le, take-add, take-take, take_at, drop_at}
 use Rattle.json.specs.Filled.{Placed}
 

@@ -1,4 +1,5 @@
 -- From the lanes of a vector to a text whose ends they are.
+-- Cited by `plain::are_plain_16`, `plain::are_plain_8`, `plain::plain_16`, `plain::plain_by_4` and `plain::plain_by_8`.
 use Rattle.std.proofs.Common.{◌≡◌, ℕ, zero, suc, ◌+◌, ◌-◌, ◌<◌, ◌≤◌, Bool, true, false, List, [], ◌∷◌, ◌++◌, length, take, drop, get_or, map, refl, sym, ap, ◌∙◌, arith, inl, inr, eq-zero-or-pos, Fits, w8, length-append, take_all, length-take-le, get_or-take, get_or-drop}
 use Rattle.std.specs.Bool.{OnTrue}
 use Rattle.std.specs.List.{range_with_len}

@@ -1,4 +1,5 @@
 -- Bytes that wait behind what a stream has taken.
+-- Cited by `Buffered::pass` and `Buffered::send_out`.
 use Rattle.std.proofs.Common.{◌≡◌, ℕ, ◌+◌, ◌≤◌, List, [], ◌++◌, length, take, drop, Option, Result}
 use Rattle.std.proofs.Common.{Ok, Err, sym, ap, ◌∙◌, subst, append-nil, arith}
 use Rattle.std.proofs.lemmas.List.{take-append-drop, drop-drop, drop_all, take_all}

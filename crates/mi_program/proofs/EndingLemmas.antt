@@ -1,4 +1,5 @@
 -- What the program has done when it ends, and what was written to the third stream part by part.
+-- Cited by `program::run`, `program::serve_database` and `program::use_catalog`.
 use Rattle.std.proofs.Common.{◌≡◌, ℕ, List, ◌++◌, Bool, true, false, Option, None, Result, Ok, Err, inl, inr, refl, sym, subst}
 use Rattle.std.specs.Prelude.{⊤, []}
 use Rattle.clap.specs.Faults.{fault_of}

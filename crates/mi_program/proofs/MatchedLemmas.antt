@@ -1,4 +1,5 @@
 -- What was matched of an option that is a number: it passed its bounds, and the typed getters read it.
+-- Cited by `words::command`, `words::matched`, `words::parse`, `NumberLemmas` and `mi_serving`.
 use Rattle.std.proofs.Common.{◌||◌, ◌&&◌, ◌≡◌, ◌∙◌, ◌<◌, ap, ap₂, ℕ, Bool, true, false, List, []}
 use Rattle.std.proofs.Common.{◌∷◌, length, Option, Some, None, refl, sym, subst, inl, inr, arith}
 use Rattle.std.specs.List.{All, slice_index_or}

@@ -1,4 +1,5 @@
 -- The numbers that are matched of the program's command line.
+-- Cited by `words::values`.
 use Rattle.std.proofs.Common.{◌≡◌, ◌∙◌, ◌<◌, ◌≤◌, ap, ℕ, Bool, true, false, List, [], ◌∷◌, length}
 use Rattle.std.proofs.Common.{Option, Some, None, refl, sym, subst, inl, inr, arith, zero, suc, codes}
 use Rattle.std.specs.Prelude.{Result, Ok, Err, is_some, slice_index}

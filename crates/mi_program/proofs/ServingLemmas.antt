@@ -1,4 +1,5 @@
 -- One input served: the hub at its start, and which failure a fault is.
+-- Cited by `program::perform`, `program::serve_database`, `program::serve_port` and `serve::serve`.
 use Rattle.std.proofs.Common.{◌≡◌, ℕ, Bool, List, [], length, Option, None, Result, Ok, Err, refl, sym, ap, ◌∙◌, subst}
 use Rattle.std.specs.Prelude.{⊤, ◌≢◌, OnOk}
 use Rattle.mi_value.specs.declared.limits.TheConstants.{MAX_READS}

@@ -1,4 +1,5 @@
 -- From the text that was read of a file to what the file is.
+-- Cited by `source::catalog_in` and `source::whole_text`.
 use Rattle.std.proofs.Common.{◌≡◌, ◌≤◌, ◌+◌, ◌++◌, ◌∙◌, ℕ, List, [], length, Option, Some, None, refl, sym, ap, inl, inr, arith, take, subst}
 use Rattle.std.specs.Prelude.{IfSome, option_map, Result, Err, min}
 use Rattle.std.proofs.lemmas.List.{length-take, take_all}

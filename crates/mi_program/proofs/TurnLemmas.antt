@@ -1,4 +1,5 @@
 -- Clients by turns: which connections stay, and how turns come one behind another.
+-- Cited by `listener::accept_all`, `listener::client_turn`, `listener::cut_all`, `listener::next_turn`, `listener::serve_all` and 3 more.
 use Rattle.std.proofs.Common.{◌≡◌, ◌⊎◌, ℕ, zero, suc, ◌+◌, ◌<◌, ◌≤◌, List, [], ◌∷◌, ◌++◌, length, map, Bool, true, false, cond, nat_eq}
 use Rattle.std.proofs.Common.{Option, Some, None, IsSome, is_some, Result, Ok, Err, refl, sym, ap, ◌∙◌, subst, arith, inl, inr, length-append}
 use Rattle.std.specs.Prelude.{⊤, ◌||◌, OnOk, OnErr}

@@ -1,4 +1,5 @@
 -- Refusals that are handed on.
+-- Cited by `edits::edits_of` and `mi_embed`.
 use Rattle.std.proofs.Common.{◌≡◌, Option, Some, None, Result, Err, refl, sym, ap, ◌∙◌, subst}
 use Rattle.std.specs.Option.{ok_or}
 use Rattle.mi_value.specs.declared.refusal.Refusal.{Refusal}

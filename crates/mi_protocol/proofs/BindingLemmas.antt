@@ -1,4 +1,5 @@
 -- A command that is bound fits the catalog.
+-- Cited by `binding::bind_change`, `binding::bind_key_look_up` and `binding::bind_number_look_up`.
 use Rattle.std.proofs.Common.{◌≡◌, ℕ, ◌<◌, zero, suc, List, [], ◌∷◌, length, map, drop, slice_get, nat_le, nat_lt, Bool, true, false, cond, Option}
 use Rattle.std.proofs.Common.{Some, None, option_map, option_and_then, IfSome, Result, Ok, Err, ℤ, refl, sym, ap, subst, ◌∙◌, ◌&&◌, rules}
 use Rattle.std.specs.Prelude.{IfOk, IfErr}

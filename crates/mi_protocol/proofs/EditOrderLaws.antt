@@ -1,4 +1,5 @@
 -- The edits of a line name each column once.
+-- Cited by `laws::lines_edit_columns_once` and `BindingLemmas`.
 use Rattle.std.proofs.Common.{◌≡◌, ℕ, ◌≤◌, suc, ℤ, Bool, true, false, cond, List, [], ◌∷◌, refl, arith}
 use Rattle.std.specs.Prelude.{Option, Some, None, IfSome, option_map, option_and_then}
 use Rattle.std.specs.List.{AllByRecursion}

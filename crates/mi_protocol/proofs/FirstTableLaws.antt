@@ -1,4 +1,5 @@
 -- Lines that name no table are over the first.
+-- Cited by `laws::lines_without_a_table` and `mi_commands`.
 use Rattle.std.proofs.Common.{refl}
 use Rattle.std.specs.Prelude.{Some, None, Result, Ok, Err, IfOk}
 use Rattle.mi_value.specs.declared.refusal.Refusal.{Refusal}

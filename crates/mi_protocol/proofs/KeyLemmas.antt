@@ -1,4 +1,5 @@
 -- The values of a list of JSON values.
+-- Cited by `edits::edits_of`, `keys::key_of` and `row::record_of`.
 use Rattle.std.proofs.Common.{◌≡◌, ℕ, ◌+◌, List, [], ◌∷◌, ◌++◌, length, Option, Some, None, option_map, Ok, refl, sym, ap, ◌∙◌, append_assoc, arith}
 use Rattle.std.specs.Option.{ok_or}
 use Rattle.serde_json.specs.Data.{Data}

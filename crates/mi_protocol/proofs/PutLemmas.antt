@@ -1,4 +1,5 @@
 -- Texts put one behind another.
+-- Cited by `output::end_line` and `reply::put_conflict`.
 use Rattle.std.proofs.Common.{◌≡◌, ℕ, ◌<◌, List, [], ◌∷◌, ◌++◌, length, take, ap, sym, ◌∙◌, arith, take-take, take_at, length-take-le}
 use Rattle.json.specs.Filled.{Placed}
 use Rattle.json.proofs.Printed.Places.{Placed-then}

@@ -1,4 +1,5 @@
 -- The text of each reply is the compact text of its object.
+-- Cited by `laws::replies_are_compact_json`.
 use Rattle.std.proofs.Common.{◌≡◌, ◌≢◌, ℕ, zero, suc, ◌<◌, ◌≤◌, List, [], ◌∷◌, ◌++◌, length, slice_index_or, nat_le, ◌==◌, Bool, true}
 use Rattle.std.proofs.Common.{not, ◌&&◌, ◌||◌, ◌⊎◌, inl, inr, refl, sym, ap, ◌∙◌, arith, append_assoc, codes, decimal, true≢false, rules}
 use Rattle.std.specs.List.{list_all}

@@ -1,4 +1,5 @@
 -- Rows, column by column.
+-- Cited by `row::put_in_order` and `row::record_of`.
 use Rattle.std.proofs.Common.{◌≡◌, ℕ, List, [], ◌∷◌, map, not, ◌&&◌, Bool, true, false}
 use Rattle.std.proofs.Common.{Option, Some, None, ◌++◌, option_map, option_and_then, refl, sym, ap, ap₂, ◌∙◌, ◌||◌, true≢false, subst, append_assoc}
 use Rattle.std.proofs.Common.{if◌then◌else◌}

@@ -1,4 +1,5 @@
 -- The first id of a key, places past the end, and how many ids a key has.
+-- Cited by `look_ups::count_hashed`, `look_ups::find_sorted`, `pages::list` and `PageLemmas`.
 use Rattle.std.proofs.Common.{◌≡◌, ◌≢◌, ◌⊎◌, ℕ, zero, suc, ◌≤◌, Bool, true, false, cond, inl, inr, get_or, List, [], ◌∷◌, length, refl, ap, sym, ◌∙◌, arith, eqb-true}
 use Rattle.std.proofs.Math.Dec.{eqb}
 use Rattle.std.specs.Prelude.{if◌then◌else◌, slice_get, IsTrue}

@@ -1,4 +1,5 @@
 -- Each by computation.
+-- Cited by `examples::break_is_an_undo`, `examples::front_holds_the_session` and `examples::push_is_kept`.
 use Rattle.std.proofs.Common.{[], ◌∷◌, refl, inl, inr}
 use Rattle.std.specs.Fmt.{digits}
 use Rattle.std.specs.Str.{is_utf8, chars}

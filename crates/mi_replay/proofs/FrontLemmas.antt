@@ -1,4 +1,5 @@
 -- A front of a journal is the journal of a front of the run, but for the undos of a holder that goes away.
+-- Cited by `laws::files_grow_by_lines` and `laws::fronts_replay`.
 use Rattle.std.proofs.Common.{◌≡◌, ℕ, zero, suc, ◌+◌, ◌-◌, ◌≤◌, ◌<◌, List, [], ◌∷◌, ◌++◌, replicate, Bool, true, false, length}
 use Rattle.std.proofs.Common.{refl, sym, ap, ◌∙◌, subst, arith, inl, inr, ◌⊎◌, append_assoc, append-nil, Some, option_to_list}
 use Rattle.mi_commands.specs.Asked.{Asked}

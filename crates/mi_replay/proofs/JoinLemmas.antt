@@ -1,4 +1,5 @@
 -- Journals of two runs, one behind the other, are a journal of both.
+-- Cited by `laws::journals_join`, `FrontLemmas` and `mi_clients`.
 use Rattle.std.proofs.Common.{[], ◌∷◌, ◌++◌, sym, ap, ◌∙◌, subst, append_assoc}
 use Rattle.mi_replay.specs.Journal.{JournalOf}
 use Rattle.mi_replay.specs.ReplayLaws.{JournalsJoin}

@@ -1,4 +1,5 @@
 -- A journal asked again keeps step with its run.
+-- Cited by `laws::journals_replay`, `laws::replays_are_runs`, `laws::runs_have_journals`, `FrontLemmas` and `RunActLemmas`.
 use Rattle.std.proofs.Common.{◌≡◌, ℕ, zero, suc, ◌+◌, ◌-◌, ◌≤◌, List, [], ◌∷◌, ◌++◌, replicate, Bool, true, false}
 use Rattle.std.proofs.Common.{Option, refl, sym, ap, ◌∙◌, subst, arith, inl, inr}
 use Rattle.mi_model.specs.Database.{Database, depth, undone, undone_times}

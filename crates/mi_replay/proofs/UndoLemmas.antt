@@ -1,4 +1,5 @@
 -- The line that undoes the newest session.
+-- Cited by `AnswerLemmas`.
 use Rattle.std.proofs.Common.{◌≡◌, Ok, codes, refl}
 use Rattle.mi_request.specs.Lines.{command_line}
 use Rattle.mi_request.specs.declared.request.Request.TheVariants as request

@@ -1,4 +1,5 @@
 -- Bytes that are fed in pieces are lines that are asked, so the law of lines speaks of them.
+-- Cited by `laws::undo_bytes_take_back`.
 use Rattle.std.proofs.Common.{◌≡◌, ℕ, zero, suc, List, [], ◌∷◌, ◌++◌, length, replicate, option_to_list, Some, codes}
 use Rattle.std.proofs.Common.{refl, sym, ap, ◌∙◌, subst, inl}
 use Rattle.mi_protocol.specs.Replies.{reply_text}

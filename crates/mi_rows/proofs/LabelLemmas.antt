@@ -1,4 +1,5 @@
 -- Labels stand for members: the same text, and the same room.
+-- Cited by `labels::labels_of`, `rows::put_labelled`, `rows::put_member` and `shown::row_order`.
 use Rattle.std.proofs.Common.{◌≡◌, ℕ, zero, suc, ◌+◌, ◌≤◌, List, [], ◌∷◌, ◌++◌, drop, map, length, slice_index_or, ◌*◌, ◌<◌, Bool, true, false}
 use Rattle.std.proofs.Common.{Ordering, Less, Equal, Greater, nat_cmp, refl, sym, ap, ap₂, ◌∙◌, append_assoc, add-one, arith}
 use Rattle.std.specs.Prelude.{Option, Some, None, IfSome}

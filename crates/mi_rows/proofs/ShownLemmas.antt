@@ -1,4 +1,5 @@
 -- Rows that are lent to the writer.
+-- Cited by `rows::put_one`, `rows::put_page`, `shown::find_place`, `shown::row_by_tokens`, `shown::row_order` and 2 more.
 use Rattle.std.proofs.Common.{◌≡◌, ◌+◌, ◌<◌, ℕ, zero, suc, Some, None, slice_get, Bool, true, false, Result, Ok, Err}
 use Rattle.std.specs.Prelude.{IfOk}
 use Rattle.std.proofs.Common.{codes, List, [], ◌∷◌, ◌++◌, length, take, drop, get_or, slice_set, slice_index_or, unwrap_or}

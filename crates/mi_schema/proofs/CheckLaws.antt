@@ -1,4 +1,5 @@
 -- What follows where no check of a draft fails: the schemas of its tables, and the catalog, keep every rule.
+-- Cited by `Draft::catalog`.
 use Rattle.std.proofs.Common.{◌≡◌, ℕ, ℤ, pos, negsuc, List, [], ◌∷◌, length, map, Bool, true, false, not, cond, Option, Some, None, refl, ap, ◌∙◌, ◌&&◌}
 use Rattle.std.specs.Prelude.{◌==◌, nat_le, nat_lt, unsigned_abs, unwrap_or, IsTrue}
 use Rattle.std.specs.Option.{is_none}

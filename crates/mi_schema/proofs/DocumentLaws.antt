@@ -1,4 +1,5 @@
 -- Members of TOML tables, and lists read item by item.
+-- Cited by `document::has_no_other`, `document::items` and `read::document`.
 use Rattle.std.proofs.Common.{◌≡◌, ℕ, ◌+◌, ◌<◌, ◌≤◌, List, [], ◌∷◌, ◌++◌, length, map, drop, get_or, Option, Some, None}
 use Rattle.std.proofs.Common.{option_map, String, Global, string_bytes, refl, sym, ap, ◌∙◌, ◌&&◌, append_assoc, cond, inl, inr}
 use Rattle.std.proofs.lemmas.List.{append-nil}

@@ -1,4 +1,5 @@
 -- Tests of lists, and of lists that were mapped.
+-- Cited by `build::schemas_of`, `CheckLaws`, `DocumentLaws` and `checks`.
 use Rattle.std.proofs.Common.{◌≡◌, ℕ, zero, suc, ◌<◌, List, [], ◌∷◌, length, map, Bool, true, refl, ap, ◌∙◌, ◌&&◌, ◌||◌, arith, get_or}
 use Rattle.std.specs.List.{list_any, list_all}
 use Rattle.std.proofs.lemmas.Bool.{and_parts}

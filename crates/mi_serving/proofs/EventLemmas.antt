@@ -1,4 +1,5 @@
 -- One event behind others.
+-- Cited by `Door::wake`.
 use Rattle.std.proofs.Common.{◌≡◌, ◌<◌, ◌+◌, ◌∙◌, ℕ, List, length, drop, get_or, add-one, ap, sym, suc}
 use Rattle.std.proofs.Math.Seq.{drop-cons}
 use Rattle.mio.specs.declared.event.event.Event.{Event}

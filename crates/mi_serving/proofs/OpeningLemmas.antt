@@ -1,4 +1,5 @@
 -- The first line of a journal, and what is done before the first connection comes.
+-- Cited by `journal_text::text_size`, `opening::continued`, `opening::cut_off`, `opening::found`, `opening::opened` and 2 more.
 use Rattle.std.proofs.Common.{◌≡◌, ◌≤◌, ℕ, List, [], ◌∷◌, ◌++◌, ◌<◌, zero, suc, take, get_or, nat_eq, length, Bool, true, false, cond, ◌==◌, Option, Some, None, option_map, Result, Ok, Err, drop, ◌-◌, ◌+◌, refl, sym, ap, ◌∙◌, subst, append-nil, length-append, arith}
 use Rattle.std.proofs.Math.Seq.{take-length}
 use Rattle.mi_serving.specs.JournalFile.{text_of, from_byte, IsCutTo}

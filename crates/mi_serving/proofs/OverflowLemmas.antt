@@ -1,4 +1,5 @@
 -- Who has no place in the row.
+-- Cited by `Overflow::keep`, `service::serve` and `service::turn`.
 use Rattle.std.proofs.Common.{◌≡◌, inl, inr, ◌≤◌, ◌<◌, ℕ, nat_lt, Bool, true, false, not, is_some, List, [], ◌∷◌, ◌++◌, Option, Some, None, refl, sym, ap, subst, ◌∙◌, arith}
 use Rattle.mi_hub.specs.Run.{HubState}
 use Rattle.mi_clients.specs.declared.client.Client.{Client}

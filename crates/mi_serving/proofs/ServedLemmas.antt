@@ -1,4 +1,5 @@
 -- What was opened by the options was served.
+-- Cited by `program::perform`.
 use Rattle.std.proofs.Common.{◌≡◌, ℕ, List, Bool, Option, subst}
 use Rattle.std.specs.Prelude.{Result, Ok, Err, IfOk}
 use Rattle.mi_catalog.specs.Shape.{CatalogShape}

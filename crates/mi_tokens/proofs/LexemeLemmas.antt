@@ -1,4 +1,5 @@
 -- How the lexer of `json` passes what a writer gives: marks, a space, plain texts, whole numbers and the three words.
+-- Cited by `Lexemes::number`, `Lexemes::pass`, `Lexemes::pass_name`, `Lexemes::pass_space`, `Lexemes::string`, 2 more and `mi_request`.
 use Rattle.std.proofs.Common.{◌≡◌, ℕ, suc, ◌+◌, ◌-◌, ◌<◌, ◌≤◌, Bool, true, false, cond, ◌==◌, ◌||◌, List, [], ◌∷◌, ◌++◌, length, take, drop, get_or}
 use Rattle.std.proofs.Common.{Some, option_and_then, codes, inl, inr, refl, sym, ap, ap₂, ◌∙◌, subst, arith, add-zero, lt_of_not-le, true≢false}
 use Rattle.std.proofs.lemmas.Bool.{or_parts, or_cases, not-true, eqb-true, eqb-false, ltb-false}

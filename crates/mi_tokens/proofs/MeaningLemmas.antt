@@ -1,4 +1,5 @@
 -- The meaning of a value, level by level, and of items and members one by one.
+-- Cited by `pass::+pass` and `mi_request`.
 use Rattle.std.proofs.Common.{◌≡◌, ℕ, List, [], ◌∷◌, ◌++◌, Bor, Option, Some, None, refl, ap, rules}
 use Rattle.json.specs.Json.{parse_map}
 use Rattle.json.specs.Token.{Token}

@@ -1,4 +1,5 @@
 -- The grammar's items and members, one by one, where each number has a value and the last member of a name stays.
+-- Cited by `pass::+pass`, `pass::pass_object`, `pass::pass_one` and `mi_request`.
 use Rattle.std.proofs.Common.{◌≡◌, ℕ, ◌-◌, ◌<◌, ◌≤◌, List, [], length, Option, Some, None, option_map, option_and_then, refl, ap, ◌∙◌}
 use Rattle.json.specs.Token.{Token}
 use Rattle.json.specs.Json as json

@@ -1,5 +1,6 @@
 -- A run of bytes that pass a test, seen some bytes at a time by the mask of those that fail it. And a mask that is made lane by lane,
 -- held to the test at each of the 256 bytes.
+-- Cited by `plain::plain_end`, `plain::short_plain_end`, `plain::stops_16` and `plain::stops_8`.
 use Rattle.std.proofs.Common.{◌≡◌, ℕ, zero, suc, ◌+◌, ◌*◌, ◌%◌, ◌^◌, ◌<◌, ◌≤◌, ltb, Bool, true, false, not, ◌&&◌, cond, eqb, T, List, [], ◌∷◌, map, length, drop, ◌⊎◌, inl, inr}
 use Rattle.std.proofs.Common.{refl, sym, ap, ap₂, ◌∙◌, subst, arith, w8, Fits, not-suc-le-zero}
 use Rattle.std.proofs.lemmas.Simd.{chunk-drop, length-chunk, leading_from_mask_l, trailing_mask_l, mask_l-mod}

@@ -1,4 +1,5 @@
 -- Digits that are passed are the decimal of what they write, and `serde_json` reads a number in decimal as that number.
+-- Cited by `lexemes::digits`, `lexemes::whole`, `pass::plain` and `mi_request`.
 use Rattle.std.proofs.Common.{◌≡◌, ℕ, suc, ◌+◌, ◌*◌, ◌-◌, ◌<◌, ◌≤◌, ◌^◌, ◌==◌, ◌&&◌, Bool, true, false, cond, List, [], ◌∷◌, length, take, drop, get_or}
 use Rattle.std.proofs.Common.{ℤ, pos, negsuc, Some, decimal, refl, sym, ap, ◌∙◌, subst, arith, length-take-le, ne_eqb, add-one}
 use Rattle.std.proofs.Math.Nat.{pow-le-pow_right, pow-suc}

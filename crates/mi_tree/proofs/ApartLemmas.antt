@@ -1,4 +1,5 @@
 -- Names that stand apart, in lists and in trees.
+-- Cited by `JoinLemmas`.
 use Rattle.std.proofs.Common.{List, ◌∷◌, ◌++◌, sym, subst, append_assoc}
 use Rattle.mi_node.specs.Refs.{Ref, IsOut, IsApart}
 use Rattle.mi_node.proofs.RefLemmas.{out_left, out_right, between}

@@ -1,4 +1,5 @@
 -- Comparisons that tags decide.
+-- Cited by `compare::compare_item`, `compare::compare_nodes`, `compare::compare_probe`, `compare::compare_sought` and 1 more.
 use Rattle.std.proofs.Common.{◌≡◌, ℕ, ◌<◌, Bool, true, inl, inr, Option, Some, sym, ap, ◌∙◌, subst, arith}
 use Rattle.std.specs.Cmp.{IsTotalOrder}
 use Rattle.std.specs.Ordering.{nat_cmp, ordering_then, ordering_reverse}

@@ -3,6 +3,7 @@
 --     tree_where      a tree in another pool, or in its own after other calls, where its nodes are alike to it
 --     tree_swapped      a tree after a value was exchanged for one of an equal key
 --     tree_listed      the list that a tree is, by its links
+-- Cited by `laws::new_trees_are_empty`, `laws::trees_are_listed`, `laws::trees_stand_where_alike`, 1 more, `mi_index` and `test_storage`.
 use Rattle.std.proofs.Common.{◌≡◌, ◌==◌, true, false, ℕ, zero, suc, ◌<◌, ◌≤◌, inl, inr, cond}
 use Rattle.std.proofs.Common.{option_map, List, [], ◌∷◌, ◌++◌, Some, refl, sym, ap, ◌∙◌, subst, arith}
 use Rattle.std.specs.declared.cmp.Ordering.{Ordering}

@@ -3,6 +3,7 @@
 --     Nearing      a way down in a subtree, as far as it has come
 --     Above      the way down to the node, as far as it has come
 --     own_sides      the two sides of a node of the tree, in the list
+-- Cited by `Tree::keeps_place`, `keeping::passes_none` and `keeping::passes_none_above`.
 use Rattle.std.proofs.Common.{◌≡◌, ℕ, ◌+◌, ◌*◌, ◌<◌, ◌≤◌, Bool, true, false, cond, not, List, [], ◌∷◌, ◌++◌, append_assoc}
 use Rattle.std.proofs.Common.{Option, Some, None, is_some, refl, sym, ap, ◌∙◌, subst, arith}
 use Rattle.std.proofs.lemmas.List.{append-nil}

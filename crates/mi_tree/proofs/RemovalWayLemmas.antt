@@ -1,4 +1,5 @@
 -- What a way down to a node that leaves says of the whole tree.
+-- Cited by `Tree::keeps_place`, `change::take_first`, `change::take_out`, `keeping::passes_none_above`, `way::+go_first` and 1 more.
 use Rattle.std.proofs.Common.{◌≡◌, ℕ, Bool, true, false, cond, ◌+◌, ◌-◌, ◌<◌, ◌≤◌, List, [], ◌∷◌, ◌++◌, length}
 use Rattle.std.proofs.Common.{Option, Some, None, refl, sym, ap, ◌∙◌, subst, arith, append_assoc, length-append}
 use Rattle.std.specs.declared.cmp.Ordering.{Ordering}

@@ -1,4 +1,5 @@
 -- A tree in which a node got another value and another tag, with which it keeps its place.
+-- Cited by `laws::trees_stand_where_kept` and `mi_index`.
 use Rattle.std.proofs.Common.{◌≡◌, ◌==◌, ℕ, ◌<◌, true, false, List, [], ◌∷◌, ◌++◌, Option, Some, refl, sym, ap, ◌∙◌, subst}
 use Rattle.std.specs.declared.cmp.Ordering.{Ordering}
 use Rattle.std.specs.declared.cmp.Ordering.TheVariants.{Less, Greater}

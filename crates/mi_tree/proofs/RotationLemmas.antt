@@ -1,4 +1,5 @@
 -- Turning a tree whose one side is two levels higher.
+-- Cited by `balance::balance`, `balance::lean_left`, `balance::lean_left_twice`, `balance::lean_right` and 4 more.
 use Rattle.std.proofs.Common.{◌≡◌, ℕ, Bool, true, false, ◌+◌, ◌-◌, ◌<◌, ◌≤◌, max, List, [], ◌∷◌, ◌++◌, Option, Some, refl, sym, ap, ◌∙◌, subst, arith, append_assoc}
 use Rattle.mi_node.specs.Pool.{Pooled, link_of, Keeps}
 use Rattle.mi_node.specs.declared.link.Link.{Link}

@@ -1,4 +1,5 @@
 -- What a walk's path says of the nodes ahead.
+-- Cited by `Walk::next`, `walk::+cut_down`, `walk::+go_down` and `walk::+seek_down`.
 use Rattle.std.proofs.Common.{◌≡◌, ℕ, Bool, cond, not, suc, ◌+◌, ◌-◌, ◌<◌, ◌≤◌, List, [], ◌∷◌, ◌++◌, length, max, reverse, take}
 use Rattle.std.proofs.Common.{drop, Option, Some, None, refl, sym, ap, ◌∙◌, subst, arith, append_assoc, length-append}
 use Rattle.std.specs.List.{slice_get}

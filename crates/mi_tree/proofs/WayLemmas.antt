@@ -1,4 +1,5 @@
 -- What a way says of the whole tree.
+-- Cited by `change::put_in`, `way::+climb`, `way::+go_first`, `way::+go_in`, `way::+go_to` and 3 more.
 use Rattle.std.proofs.Common.{◌≡◌, ◌==◌, ℕ, Bool, true, false, cond, not, ◌+◌, ◌-◌, ◌^◌, ◌<◌, ◌≤◌, max, List, [], ◌∷◌}
 use Rattle.std.proofs.Common.{◌++◌, length, take, Option, Some, None, refl, sym, ap, ◌∙◌, subst, arith, length-append}
 use Rattle.std.specs.List.{slice_get}

@@ -1,4 +1,5 @@
 -- What the bytes of a record hold.
+-- Cited by `Record::new`, `Record::values`, `Values::byte_count`, `ValuesIterator::next`, `record::push_int` and 3 more.
 use Rattle.std.proofs.Common.{◌≡◌, ◌≤◌, ◌<◌, ◌+◌, ◌++◌, ◌^◌, ℕ, true, false, FitsSigned, zero, suc, ℤ, Option, Some, None}
 use Rattle.std.proofs.Common.{List, [], ◌∷◌, length, take, drop, if◌then◌else◌, Bool, Result, Ok, Err, is_ok, OnOk, IfSome, nat_lt, ◌-◌, ◌==◌, ◌⊎◌, inl, inr, refl, ap, sym, ◌∙◌, arith}
 use Rattle.std.specs.Int.{w32, w64, from_le_bytes, to_le_bytes, cast_signed, cast_unsigned}

@@ -1,4 +1,5 @@
 -- Edits of different columns, in any order.
+-- Cited by `laws::edits_in_any_order`.
 use Rattle.std.proofs.Common.{◌≡◌, ◌≢◌, ℕ, zero, suc, ◌<◌, ◌||◌, List, [], ◌∷◌, length, get_or, set, slice_get, Option, Some, None, refl, ap, sym, ◌∙◌, arith}
 use Rattle.std.specs.Prelude.{is_none, slice_set}
 use Rattle.std.specs.Option.{option_map, option_and_then}

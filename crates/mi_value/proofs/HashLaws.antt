@@ -1,4 +1,5 @@
 -- Hashes of keys, part by part, and that equal keys have equal hashes.
+-- Cited by `Record::key_hash`, `laws::equal_keys_have_equal_hashes`, `hash` and `mi_order`.
 use Rattle.std.proofs.Common.{◌≡◌, Bool, true, false, List, [], ◌∷◌, length, slice_get, Option, Some, None, refl, ap, arith}
 use Rattle.std.specs.List.{cons_option}
 use Rattle.std.specs.declared.cmp.Ordering.{Ordering}

@@ -1,4 +1,5 @@
 -- Where a number or a flag stands in a record's bytes, and that another one may stand there.
+-- Cited by `Record::added`, `Short::with_byte`, `Short::with_number`, `record::behind`, `record::exchange_flag` and 4 more.
 use Rattle.std.proofs.Common.{◌≡◌, ◌≤◌, ◌<◌, ◌⊎◌, inl, inr, ◌+◌, ◌++◌, ◌∷◌, [], ℕ, zero, suc, ℤ, List, Some, None, true, false, Bool, length, take, drop, slice_get, append_assoc, length-append, refl, ap, sym, ◌∙◌, arith, subst, if◌then◌else◌}
 use Rattle.std.specs.Prelude.{slice_set, nat_lt, ◌==◌, ◌-◌}
 use Rattle.std.specs.Option.{option_map}

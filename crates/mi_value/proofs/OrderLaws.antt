@@ -1,4 +1,5 @@
 -- Keys stand in a total order.
+-- Cited by `mi_container`, `mi_index`, `mi_model`, `mi_multi` and `mi_order`.
 use Rattle.std.proofs.Common.{◌≡◌, ℕ, ℤ, pos, Bool, true, false, List, [], ◌∷◌, slice_get, refl, ap, ◌∙◌, subst}
 use Rattle.std.specs.declared.cmp.Ordering.{Ordering}
 use Rattle.std.specs.declared.cmp.Ordering.TheVariants.{Less, Equal, Greater}

@@ -1,4 +1,5 @@
 -- The machine values of a `Loose` and of an `Opened`. Assumes `Logic`.
+-- Cited by `Loose::into_box`, `Loose::of`, `Opened::none`, `Opened::of`, `weltiyo_close` and 1 more.
 use Rattle.std.proofs.Common.{◌≡◌, ℕ, zero, suc, ◌<◌, ◌^◌, List, [], ◌∷◌, ◌++◌, refl, subst, w32, arith}
 use mathlib.Core.Bool.{true, ◌&&◌}
 use lib.Dec.{T}
