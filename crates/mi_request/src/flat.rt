@@ -151,7 +151,7 @@ fn keyed_tokens<'a>(command: KeyCommand, text: &'a str) -> Option<Tokens<'a>>
 
 /// A command over a key of one value.
 #[inline(always)]
-pub(crate) fn keyed<'a>(arena: &'a Bump, text: &'a str, command: KeyCommand) -> Option<Request<'a>>
+fn keyed<'a>(arena: &'a Bump, text: &'a str, command: KeyCommand) -> Option<Request<'a>>
     ensures { IfSome result (λ r. command_line text.now ≡ Ok r) }
 {
     let mut tokens = keyed_tokens(command, text)?;
@@ -165,7 +165,7 @@ pub(crate) fn keyed<'a>(arena: &'a Bump, text: &'a str, command: KeyCommand) -> 
 }
 
 #[inline(always)]
-pub(crate) fn insert<'a>(arena: &'a Bump, text: &'a str) -> Option<Request<'a>>
+fn insert<'a>(arena: &'a Bump, text: &'a str) -> Option<Request<'a>>
     ensures { IfSome result (λ r. command_line text.now ≡ Ok r) }
 {
     let mut tokens = Tokens::behind(text, b"{\"cmd\":\"insert\",")?;
@@ -181,7 +181,7 @@ pub(crate) fn insert<'a>(arena: &'a Bump, text: &'a str) -> Option<Request<'a>>
 }
 
 #[inline(always)]
-pub(crate) fn replace<'a>(arena: &'a Bump, text: &'a str) -> Option<Request<'a>>
+fn replace<'a>(arena: &'a Bump, text: &'a str) -> Option<Request<'a>>
     ensures { IfSome result (λ r. command_line text.now ≡ Ok r) }
 {
     let mut tokens = Tokens::behind(text, b"{\"cmd\":\"replace\",")?;
@@ -198,7 +198,7 @@ pub(crate) fn replace<'a>(arena: &'a Bump, text: &'a str) -> Option<Request<'a>>
 }
 
 #[inline(always)]
-pub(crate) fn modify<'a>(arena: &'a Bump, text: &'a str) -> Option<Request<'a>>
+fn modify<'a>(arena: &'a Bump, text: &'a str) -> Option<Request<'a>>
     ensures { IfSome result (λ r. command_line text.now ≡ Ok r) }
 {
     let mut tokens = Tokens::behind(text, b"{\"cmd\":\"modify\",")?;
@@ -222,7 +222,7 @@ pub(crate) fn modify<'a>(arena: &'a Bump, text: &'a str) -> Option<Request<'a>>
 
 /// A page of a range from a key on.
 #[inline(always)]
-pub(crate) fn range<'a>(arena: &'a Bump, text: &'a str) -> Option<Request<'a>>
+fn range<'a>(arena: &'a Bump, text: &'a str) -> Option<Request<'a>>
     ensures { IfSome result (λ r. command_line text.now ≡ Ok r) }
 {
     let mut tokens = Tokens::behind(text, b"{\"cmd\":\"range\",")?;
@@ -247,7 +247,7 @@ pub(crate) fn range<'a>(arena: &'a Bump, text: &'a str) -> Option<Request<'a>>
 
 /// A command that can be read so.
 #[derive(Clone, Copy)]
-pub(crate) enum Flat {
+enum Flat {
     Insert,
     Replace,
     Modify,
@@ -274,7 +274,7 @@ fn command_of(first: u8, third: u8) -> Option<Flat> {
 
 /// The command that a line may be, by two letters of its name, and the line's text.
 #[inline(always)]
-pub(crate) fn flat_of(line: &[u8]) -> Option<(Flat, &str)>
+fn flat_of(line: &[u8]) -> Option<(Flat, &str)>
     ensures { IfSome result (λ p. p.1.now ≡ line.now) }
 {
     if line.len() <= THIRD_AT {
@@ -284,5 +284,20 @@ pub(crate) fn flat_of(line: &[u8]) -> Option<(Flat, &str)>
     match text_of(line) {
         Ok(text) => Some((command, text)),
         Err(_) => None,
+    }
+}
+
+/// The request of a line whose members stand one behind another.
+#[inline(always)]
+pub(crate) fn flat_request<'a>(arena: &'a Bump, line: &'a [u8]) -> Option<Request<'a>>
+    ensures { IfSome result (λ r. command_line line.now ≡ Ok r) }
+{
+    let (command, text) = flat_of(line)?;
+    match command {
+        Flat::Insert => insert(arena, text),
+        Flat::Replace => replace(arena, text),
+        Flat::Modify => modify(arena, text),
+        Flat::Range => range(arena, text),
+        Flat::Keyed(command) => keyed(arena, text, command),
     }
 }
