@@ -11,7 +11,7 @@ ghost use Rattle.mi_tokens.specs.Ends.{name_text};
 ghost use Rattle.mi_tokens.specs.Tokens.{tokens_at};
 ghost use Rattle.mi_tokens.specs.declared.tokens.Context.TheVariants.{AfterComma};
 ghost use Rattle.mi_request.specs.Commands.{lower_end};
-ghost use Rattle.mi_request.specs.Flat.{IsMember, IsMaybe, command_start};
+ghost use Rattle.mi_request.specs.Flat.{IsStart, IsMember, IsMaybe, command_start};
 ghost use Rattle.mi_request.specs.Json.{natural, if_there, default_if};
 ghost use Rattle.mi_request.specs.Keyed.{key_name};
 ghost use Rattle.mi_request.specs.Lines.{command_line};
@@ -86,15 +86,20 @@ fn whole<const N: usize>(tokens: &mut Tokens<'_>, name: &[u8; N]) -> Option<u64>
     natural_of(&Json::Whole(tokens.take_whole()?))
 }
 
-/// The table, if it comes next.
+/// The tokens behind what stands in front of a command's members and behind the table, if that comes first.
 #[inline(always)]
-fn table<'a>(tokens: &mut Tokens<'a>) -> Option<Option<Name<'a>>>
-    ensures { IfSome result (λ t. (o : Option Data) × IsMaybe tokens.old (codes "table") o tokens.new × (if_there as_str o ≡ Some t)) }
+fn start<'a, const N: usize>(
+    text: &'a str,
+    front: &[u8; N],
+) -> Option<(Tokens<'a>, Option<Name<'a>>)>
+    ensures { (command : List ℕ) → front.now ≡ command_start command → escape command ≡ command → IfSome result (λ p. IsStart text.now command p.1 p.0) }
 {
+    let mut tokens = Tokens::behind(text, front)?;
     if !tokens.take_key(b"\"table\":") {
-        return Some(None);
+        return Some((tokens, None));
     }
-    Some(Some(Name::new(tokens.take_text()?)))
+    let table = Name::new(tokens.take_text()?);
+    Some((tokens, Some(table)))
 }
 
 /// The key of one value that must come next.
@@ -134,18 +139,17 @@ fn lower<'a>(arena: &'a Bump, tokens: &mut Tokens<'a>) -> Option<End<'a>>
     Some(End::Without(last_key(arena, tokens)?))
 }
 
-/// The tokens behind the name of a command over a key.
+/// The tokens behind the table of a command over a key.
 #[inline(always)]
-fn keyed_tokens<'a>(command: KeyCommand, text: &'a str) -> Option<Tokens<'a>>
-    ensures { IfSome result
-        (λ ts. (rest : List ℕ) × (text.now ≡ command_start (key_name command) ++ rest) × (ts ≡ tokens_at AfterComma rest)) }
+fn keyed_start<'a>(command: KeyCommand, text: &'a str) -> Option<(Tokens<'a>, Option<Name<'a>>)>
+    ensures { IfSome result (λ p. IsStart text.now (key_name command) p.1 p.0) }
 {
     match command {
-        KeyCommand::EraseKey => Tokens::behind(text, b"{\"cmd\":\"erase_key\","),
-        KeyCommand::Find => Tokens::behind(text, b"{\"cmd\":\"find\","),
-        KeyCommand::Count => Tokens::behind(text, b"{\"cmd\":\"count\","),
-        KeyCommand::LowerRank => Tokens::behind(text, b"{\"cmd\":\"lower_rank\","),
-        KeyCommand::UpperRank => Tokens::behind(text, b"{\"cmd\":\"upper_rank\","),
+        KeyCommand::EraseKey => start(text, b"{\"cmd\":\"erase_key\","),
+        KeyCommand::Find => start(text, b"{\"cmd\":\"find\","),
+        KeyCommand::Count => start(text, b"{\"cmd\":\"count\","),
+        KeyCommand::LowerRank => start(text, b"{\"cmd\":\"lower_rank\","),
+        KeyCommand::UpperRank => start(text, b"{\"cmd\":\"upper_rank\","),
     }
 }
 
@@ -154,8 +158,7 @@ fn keyed_tokens<'a>(command: KeyCommand, text: &'a str) -> Option<Tokens<'a>>
 fn keyed<'a>(arena: &'a Bump, text: &'a str, command: KeyCommand) -> Option<Request<'a>>
     ensures { IfSome result (λ r. command_line text.now ≡ Ok r) }
 {
-    let mut tokens = keyed_tokens(command, text)?;
-    let table = table(&mut tokens)?;
+    let (mut tokens, table) = keyed_start(command, text)?;
     let index = name_in(&mut tokens, b"\"index\":")?;
     let key = one_key(arena, &mut tokens)?;
     if !tokens.take_end() {
@@ -168,8 +171,7 @@ fn keyed<'a>(arena: &'a Bump, text: &'a str, command: KeyCommand) -> Option<Requ
 fn insert<'a>(arena: &'a Bump, text: &'a str) -> Option<Request<'a>>
     ensures { IfSome result (λ r. command_line text.now ≡ Ok r) }
 {
-    let mut tokens = Tokens::behind(text, b"{\"cmd\":\"insert\",")?;
-    let table = table(&mut tokens)?;
+    let (mut tokens, table) = start(text, b"{\"cmd\":\"insert\",")?;
     let row = object_in(arena, &mut tokens, b"\"row\":")?;
     if !tokens.take_end() {
         return None;
@@ -184,8 +186,7 @@ fn insert<'a>(arena: &'a Bump, text: &'a str) -> Option<Request<'a>>
 fn replace<'a>(arena: &'a Bump, text: &'a str) -> Option<Request<'a>>
     ensures { IfSome result (λ r. command_line text.now ≡ Ok r) }
 {
-    let mut tokens = Tokens::behind(text, b"{\"cmd\":\"replace\",")?;
-    let table = table(&mut tokens)?;
+    let (mut tokens, table) = start(text, b"{\"cmd\":\"replace\",")?;
     let id = whole(&mut tokens, b"\"id\":")?;
     let row = object_in(arena, &mut tokens, b"\"row\":")?;
     if !tokens.take_end() {
@@ -201,8 +202,7 @@ fn replace<'a>(arena: &'a Bump, text: &'a str) -> Option<Request<'a>>
 fn modify<'a>(arena: &'a Bump, text: &'a str) -> Option<Request<'a>>
     ensures { IfSome result (λ r. command_line text.now ≡ Ok r) }
 {
-    let mut tokens = Tokens::behind(text, b"{\"cmd\":\"modify\",")?;
-    let table = table(&mut tokens)?;
+    let (mut tokens, table) = start(text, b"{\"cmd\":\"modify\",")?;
     let id = whole(&mut tokens, b"\"id\":")?;
     let set = edits(arena, &mut tokens, b"\"set\":")?;
     let add = edits(arena, &mut tokens, b"\"add\":")?;
@@ -225,8 +225,7 @@ fn modify<'a>(arena: &'a Bump, text: &'a str) -> Option<Request<'a>>
 fn range<'a>(arena: &'a Bump, text: &'a str) -> Option<Request<'a>>
     ensures { IfSome result (λ r. command_line text.now ≡ Ok r) }
 {
-    let mut tokens = Tokens::behind(text, b"{\"cmd\":\"range\",")?;
-    let table = table(&mut tokens)?;
+    let (mut tokens, table) = start(text, b"{\"cmd\":\"range\",")?;
     let index = name_in(&mut tokens, b"\"index\":")?;
     let lower = lower(arena, &mut tokens)?;
     let limit = if_page(whole(&mut tokens, b"\"limit\":")?)?;
