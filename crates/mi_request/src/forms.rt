@@ -1,8 +1,10 @@
 //! The table of commands: their names, the members that each may have, and what these are. It knows no catalog. Each form is a call of its
 //! own, so that no other form's fields are moved with what it is.
+#![tactic(auto, using(crate::proofs::FormLemmas::none_second))]
+
 ghost use Rattle.std.specs.Prelude.{◌≡◌, ◌∷◌, codes, Some};
 ghost use Rattle.mi_request.specs.Commands as commands;
-ghost use Rattle.mi_request.specs.Commands.{look_up_named, step_named, command_named, form_of, member_names, asks_key, asked, a_change, a_number_look_up, a_key_look_up, of_sessions, table_in};
+ghost use Rattle.mi_request.specs.Commands.{look_up_named, step_named, command_named, form_of, member_names, asks_key, asked, a_change, a_number_look_up, a_key_look_up, of_sessions};
 ghost use Rattle.mi_request.specs.Json.{has_only, option_map₂};
 ghost use Rattle.mi_request.specs.Lines as lines;
 ghost use Rattle.mi_request.specs.declared.request.Request.TheVariants as request;
@@ -11,8 +13,8 @@ use crate::bare::Bare;
 use crate::keyed::KeyCommand;
 use crate::object::Object;
 use crate::reading::{
-    array, end, flag, natural, natural_if_there, natural_or_absent, object, object_or_empty, page,
-    place, text, text_if_there, up_to,
+    end, flag, id_in, index_in, key_in, limit_in, natural, natural_if_there, natural_or_absent,
+    object_or_empty, place, row_in, table_in, up_to,
 };
 use crate::request::{
     ChangeRequest, KeyLookUpRequest, NumberLookUpRequest, Request, SessionCommand,
@@ -118,9 +120,9 @@ impl CommandName {
 
 /// The change of the table that the members name.
 fn change_of<'a>(members: &Object<'a>, change: ChangeRequest<'a>) -> Option<Request<'a>>
-    ensures { result ≡ option_map₂ request.Change (table_in members.now) (Some change.entry) }
+    ensures { result ≡ option_map₂ request.Change (commands.table_in members.now) (Some change.entry) }
 {
-    let table = text_if_there(members, "table")?;
+    let table = table_in(members)?;
     Some(Request::Change { table, change })
 }
 
@@ -129,38 +131,35 @@ fn look_up_by_numbers<'a>(
     members: &Object<'a>,
     look_up: NumberLookUpRequest<'a>,
 ) -> Option<Request<'a>>
-    ensures { result ≡ option_map₂ request.NumberLookUp (table_in members.now) (Some look_up.entry) }
+    ensures { result ≡ option_map₂ request.NumberLookUp (commands.table_in members.now) (Some look_up.entry) }
 {
-    let table = text_if_there(members, "table")?;
+    let table = table_in(members)?;
     Some(Request::NumberLookUp { table, look_up })
 }
 
 #[inline(never)]
-#[tactic(auto, using(crate::proofs::FormLemmas::none_second))]
 fn insert_in<'a>(members: &Object<'a>) -> Option<Request<'a>>
     ensures { result ≡ asked (a_change commands.insert_in) members.now }
 {
-    let row = object(members, "row")?;
+    let row = row_in(members)?;
     let before = place(members, "before")?;
     change_of(members, ChangeRequest::Insert { row, before })
 }
 
 #[inline(never)]
-#[tactic(auto, using(crate::proofs::FormLemmas::none_second))]
 fn replace_in<'a>(members: &Object<'a>) -> Option<Request<'a>>
     ensures { result ≡ asked (a_change commands.replace_in) members.now }
 {
-    let id = natural(members, "id")?;
-    let row = object(members, "row")?;
+    let id = id_in(members)?;
+    let row = row_in(members)?;
     change_of(members, ChangeRequest::Replace { id, row })
 }
 
 #[inline(never)]
-#[tactic(auto, using(crate::proofs::FormLemmas::none_second))]
 fn modify_in<'a>(members: &Object<'a>) -> Option<Request<'a>>
     ensures { result ≡ asked (a_change commands.modify_in) members.now }
 {
-    let id = natural(members, "id")?;
+    let id = id_in(members)?;
     let set = object_or_empty(members, "set")?;
     let add = object_or_empty(members, "add")?;
     let rollback = flag(members, "rollback")?;
@@ -176,27 +175,24 @@ fn modify_in<'a>(members: &Object<'a>) -> Option<Request<'a>>
 }
 
 #[inline(never)]
-#[tactic(auto, using(crate::proofs::FormLemmas::none_second))]
 fn erase_in<'a>(members: &Object<'a>) -> Option<Request<'a>>
     ensures { result ≡ asked (a_change commands.erase_in) members.now }
 {
-    let id = natural(members, "id")?;
+    let id = id_in(members)?;
     change_of(members, ChangeRequest::Erase { id })
 }
 
 #[inline(never)]
-#[tactic(auto, using(crate::proofs::FormLemmas::none_second))]
 fn relocate_in<'a>(members: &Object<'a>) -> Option<Request<'a>>
     ensures { result ≡ asked (a_change commands.relocate_in) members.now }
 {
-    let index = text(members, "index")?;
-    let id = natural(members, "id")?;
+    let index = index_in(members)?;
+    let id = id_in(members)?;
     let before = natural_if_there(members, "before")?;
     change_of(members, ChangeRequest::Relocate { index, id, before })
 }
 
 #[inline(never)]
-#[tactic(auto, using(crate::proofs::FormLemmas::none_second))]
 fn commit_in<'a>(members: &Object<'_>) -> Option<Request<'a>>
     ensures { result ≡ asked (of_sessions commands.commit_in) members.now }
 {
@@ -205,7 +201,6 @@ fn commit_in<'a>(members: &Object<'_>) -> Option<Request<'a>>
 }
 
 #[inline(never)]
-#[tactic(auto, using(crate::proofs::FormLemmas::none_second))]
 fn reserve_in<'a>(members: &Object<'_>) -> Option<Request<'a>>
     ensures { result ≡ asked (of_sessions commands.reserve_in) members.now }
 {
@@ -215,32 +210,29 @@ fn reserve_in<'a>(members: &Object<'_>) -> Option<Request<'a>>
 }
 
 #[inline(never)]
-#[tactic(auto, using(crate::proofs::FormLemmas::none_second))]
 fn get_in<'a>(members: &Object<'a>) -> Option<Request<'a>>
     ensures { result ≡ asked (a_number_look_up commands.get_in) members.now }
 {
-    let id = natural(members, "id")?;
+    let id = id_in(members)?;
     look_up_by_numbers(members, NumberLookUpRequest::Get { id })
 }
 
 #[inline(never)]
-#[tactic(auto, using(crate::proofs::FormLemmas::none_second))]
 fn nth_in<'a>(members: &Object<'a>) -> Option<Request<'a>>
     ensures { result ≡ asked (a_number_look_up commands.nth_in) members.now }
 {
-    let index = text(members, "index")?;
+    let index = index_in(members)?;
     let n = natural(members, "n")?;
     look_up_by_numbers(members, NumberLookUpRequest::Nth { index, n })
 }
 
 #[inline(never)]
-#[tactic(auto, using(crate::proofs::FormLemmas::none_second))]
 fn list_in<'a>(members: &Object<'a>) -> Option<Request<'a>>
     ensures { result ≡ asked (a_number_look_up commands.list_in) members.now }
 {
-    let index = text(members, "index")?;
+    let index = index_in(members)?;
     let after = natural_or_absent(members, "after")?;
-    let limit = page(members, "limit")?;
+    let limit = limit_in(members)?;
     look_up_by_numbers(
         members,
         NumberLookUpRequest::List {
@@ -252,12 +244,11 @@ fn list_in<'a>(members: &Object<'a>) -> Option<Request<'a>>
 }
 
 #[inline(never)]
-#[tactic(auto, using(crate::proofs::FormLemmas::none_second))]
 fn rank_in<'a>(members: &Object<'a>) -> Option<Request<'a>>
     ensures { result ≡ asked (a_number_look_up commands.rank_in) members.now }
 {
-    let index = text(members, "index")?;
-    let id = natural(members, "id")?;
+    let index = index_in(members)?;
+    let id = id_in(members)?;
     look_up_by_numbers(members, NumberLookUpRequest::Rank { index, id })
 }
 
@@ -265,11 +256,11 @@ fn rank_in<'a>(members: &Object<'a>) -> Option<Request<'a>>
 fn range_in<'a>(members: &Object<'a>) -> Option<KeyLookUpRequest<'a>>
     ensures { result ≡ commands.range_in members.now }
 {
-    let index = text(members, "index")?;
+    let index = index_in(members)?;
     let lower = end(members, "lower", "ge", "gt")?;
     let upper = end(members, "upper", "le", "lt")?;
     let reverse = flag(members, "reverse")?;
-    let limit = page(members, "limit")?;
+    let limit = limit_in(members)?;
     Some(KeyLookUpRequest::Range {
         index,
         lower,
@@ -283,7 +274,7 @@ fn range_in<'a>(members: &Object<'a>) -> Option<KeyLookUpRequest<'a>>
 fn range_request<'a>(members: &Object<'a>) -> Option<Request<'a>>
     ensures { result ≡ asked (a_key_look_up commands.range_in) members.now }
 {
-    let table = text_if_there(members, "table")?;
+    let table = table_in(members)?;
     let look_up = range_in(members)?;
     Some(Request::KeyLookUp { table, look_up })
 }
@@ -293,9 +284,9 @@ fn range_request<'a>(members: &Object<'a>) -> Option<Request<'a>>
 fn keyed_request<'a>(members: &Object<'a>, command: KeyCommand) -> Option<Request<'a>>
     ensures { result ≡ asked (asks_key command) members.now }
 {
-    let table = text_if_there(members, "table")?;
-    let index = text(members, "index")?;
-    let key = array(members, "key")?;
+    let table = table_in(members)?;
+    let index = index_in(members)?;
+    let key = key_in(members)?;
     Some(command.request(table, index, key))
 }
 
