@@ -3,7 +3,7 @@ use Rattle.std.proofs.Common.{codes, refl}
 use Rattle.json.specs.Print.{escape_byte}
 use Rattle.serde_json.specs.Data.{object, put}
 use Rattle.mi_request.specs.Flat.{put_if, named}
-use Rattle.mi_request.proofs.FlatLemmas.{rest_end, rest_member, insert_asked}
+use Rattle.mi_request.proofs.FlatLemmas.{rest_last, insert_asked}
 use Rattle.mi_request.proofs.flat.insert.Goals as goal
 
 pub returns : goal.returns
@@ -13,6 +13,6 @@ returns c =
     let d = object c.in_ok-row.row in
     let first = put_if (codes "table") t.0 (named (codes "insert")) in
     let all = put (codes "row") d first in
-    let row = rest_member _ _ (codes "row") d first all (c.in_ok-row.ensures (codes "row") refl refl) (rest_end _ all (c.if-not-take_end.ensures refl)) in
+    let row = rest_last _ (codes "row") d first c.in_ok-row.ensures in
     t.2 all _ row
     (insert_asked t.0 d _ _ t.1 refl)

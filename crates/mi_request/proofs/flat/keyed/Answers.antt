@@ -4,7 +4,7 @@ use Rattle.json.specs.Print.{escape_byte}
 use Rattle.serde_json.specs.Data.{array, string}
 use Rattle.mi_request.specs.Flat.{keyed_members}
 use Rattle.mi_request.specs.Keyed.{key_name}
-use Rattle.mi_request.proofs.FlatLemmas.{rest_end, rest_member, key_asked}
+use Rattle.mi_request.proofs.FlatLemmas.{rest_member, rest_last, key_asked}
 use Rattle.mi_request.proofs.flat.keyed.Goals as goal
 
 pub returns : goal.returns
@@ -15,7 +15,7 @@ returns c =
     let i = string c.in_ok-index.index in
     let k = array c.in_ok-key.key in
     let all = keyed_members command t.0 i k in
-    let key = rest_member _ _ (codes "key") k _ all c.in_ok-key.ensures (rest_end _ all (c.if-not-take_end.ensures refl)) in
-    let index = rest_member _ _ (codes "index") i _ all (c.in_ok-index.ensures (codes "index") refl refl) key in
+    let key = rest_last _ (codes "key") k _ c.in_ok-key.ensures in
+    let index = rest_member _ _ (codes "index") i _ all c.in_ok-index.ensures key in
     t.2 all _ index
     (key_asked c.args.command t.0 i k _ _ _ t.1 refl refl) ∙ ap Ok (sym c.request.ensures)

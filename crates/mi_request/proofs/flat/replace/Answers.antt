@@ -3,7 +3,7 @@ use Rattle.std.proofs.Common.{codes, refl}
 use Rattle.json.specs.Print.{escape_byte}
 use Rattle.serde_json.specs.Data.{object, put}
 use Rattle.mi_request.specs.Flat.{put_if, named}
-use Rattle.mi_request.proofs.FlatLemmas.{rest_end, rest_member, replace_asked}
+use Rattle.mi_request.proofs.FlatLemmas.{rest_member, rest_last, replace_asked}
 use Rattle.mi_request.proofs.flat.replace.Goals as goal
 
 pub returns : goal.returns
@@ -15,7 +15,7 @@ returns c =
     let first = put_if (codes "table") t.0 (named (codes "replace")) in
     let second = put (codes "id") i.0 first in
     let all = put (codes "row") d second in
-    let row = rest_member _ _ (codes "row") d second all (c.in_ok-row.ensures (codes "row") refl refl) (rest_end _ all (c.if-not-take_end.ensures refl)) in
+    let row = rest_last _ (codes "row") d second c.in_ok-row.ensures in
     let id = rest_member _ _ (codes "id") i.0 first all i.1 row in
     t.2 all _ id
     (replace_asked t.0 i.0 d _ _ _ t.1 i.2 refl)
