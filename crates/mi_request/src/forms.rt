@@ -137,6 +137,14 @@ fn look_up_by_numbers<'a>(
     Some(Request::NumberLookUp { table, look_up })
 }
 
+/// The look-up by keys of the table that the members name.
+fn look_up_by_keys<'a>(members: &Object<'a>, look_up: KeyLookUpRequest<'a>) -> Option<Request<'a>>
+    ensures { result ≡ option_map₂ request.KeyLookUp (commands.table_in members.now) (Some look_up.entry) }
+{
+    let table = table_in(members)?;
+    Some(Request::KeyLookUp { table, look_up })
+}
+
 #[inline(never)]
 fn insert_in<'a>(members: &Object<'a>) -> Option<Request<'a>>
     ensures { result ≡ asked (a_change commands.insert_in) members.now }
@@ -253,30 +261,24 @@ fn rank_in<'a>(members: &Object<'a>) -> Option<Request<'a>>
 }
 
 #[inline(never)]
-fn range_in<'a>(members: &Object<'a>) -> Option<KeyLookUpRequest<'a>>
-    ensures { result ≡ commands.range_in members.now }
+fn range_in<'a>(members: &Object<'a>) -> Option<Request<'a>>
+    ensures { result ≡ asked (a_key_look_up commands.range_in) members.now }
 {
     let index = index_in(members)?;
     let lower = end(members, "lower", "ge", "gt")?;
     let upper = end(members, "upper", "le", "lt")?;
     let reverse = flag(members, "reverse")?;
     let limit = limit_in(members)?;
-    Some(KeyLookUpRequest::Range {
-        index,
-        lower,
-        upper,
-        reverse,
-        limit,
-    })
-}
-
-/// The range of the table that the members name.
-fn range_request<'a>(members: &Object<'a>) -> Option<Request<'a>>
-    ensures { result ≡ asked (a_key_look_up commands.range_in) members.now }
-{
-    let table = table_in(members)?;
-    let look_up = range_in(members)?;
-    Some(Request::KeyLookUp { table, look_up })
+    look_up_by_keys(
+        members,
+        KeyLookUpRequest::Range {
+            index,
+            lower,
+            upper,
+            reverse,
+            limit,
+        },
+    )
 }
 
 /// The command over a key of the table and the index that the members name.
@@ -309,7 +311,7 @@ pub(crate) fn request_by<'a>(name: CommandName, members: &Object<'a>) -> Option<
         CommandName::Reserve => reserve_in(members),
         CommandName::Get => get_in(members),
         CommandName::Nth => nth_in(members),
-        CommandName::Range => range_request(members),
+        CommandName::Range => range_in(members),
         CommandName::List => list_in(members),
         CommandName::Rank => rank_in(members),
         CommandName::Size => look_up_by_numbers(members, NumberLookUpRequest::Size),

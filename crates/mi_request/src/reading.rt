@@ -129,18 +129,12 @@ pub(crate) fn if_page(n: u64) -> Option<usize>
     }
 }
 
-fn page_of(value: &Json<'_>) -> Option<usize>
-    ensures { result ≡ commands.page (meaning value.now) }
-{
-    if_page(natural_of(value)?)
-}
-
 /// A number of rows, 1 to 1,000; absent it is 1,000.
 pub(crate) fn limit_in(members: &Object<'_>) -> Option<usize>
     ensures { result ≡ commands.limit_in members.now }
 {
     match members.get("limit") {
-        Some(value) => page_of(value),
+        Some(value) => if_page(natural_of(value)?),
         None => Some(MAX_PAGE),
     }
 }
