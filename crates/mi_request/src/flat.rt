@@ -162,7 +162,7 @@ fn keyed_start<'a>(command: KeyCommand, text: &'a str) -> Option<(Tokens<'a>, Op
 
 /// A command over a key of one value.
 #[inline(always)]
-fn keyed<'a>(arena: &'a Bump, text: &'a str, command: KeyCommand) -> Option<Request<'a>>
+pub(crate) fn keyed<'a>(arena: &'a Bump, text: &'a str, command: KeyCommand) -> Option<Request<'a>>
     ensures { IfSome result (λ r. command_line text.now ≡ Ok r) }
 {
     let (mut tokens, table) = keyed_start(command, text)?;
@@ -172,7 +172,7 @@ fn keyed<'a>(arena: &'a Bump, text: &'a str, command: KeyCommand) -> Option<Requ
 }
 
 #[inline(always)]
-fn insert<'a>(arena: &'a Bump, text: &'a str) -> Option<Request<'a>>
+pub(crate) fn insert<'a>(arena: &'a Bump, text: &'a str) -> Option<Request<'a>>
     ensures { IfSome result (λ r. command_line text.now ≡ Ok r) }
 {
     let (mut tokens, table) = start(text, b"{\"cmd\":\"insert\",")?;
@@ -184,7 +184,7 @@ fn insert<'a>(arena: &'a Bump, text: &'a str) -> Option<Request<'a>>
 }
 
 #[inline(always)]
-fn replace<'a>(arena: &'a Bump, text: &'a str) -> Option<Request<'a>>
+pub(crate) fn replace<'a>(arena: &'a Bump, text: &'a str) -> Option<Request<'a>>
     ensures { IfSome result (λ r. command_line text.now ≡ Ok r) }
 {
     let (mut tokens, table) = start(text, b"{\"cmd\":\"replace\",")?;
@@ -197,7 +197,7 @@ fn replace<'a>(arena: &'a Bump, text: &'a str) -> Option<Request<'a>>
 }
 
 #[inline(always)]
-fn modify<'a>(arena: &'a Bump, text: &'a str) -> Option<Request<'a>>
+pub(crate) fn modify<'a>(arena: &'a Bump, text: &'a str) -> Option<Request<'a>>
     ensures { IfSome result (λ r. command_line text.now ≡ Ok r) }
 {
     let (mut tokens, table) = start(text, b"{\"cmd\":\"modify\",")?;
@@ -220,7 +220,7 @@ fn modify<'a>(arena: &'a Bump, text: &'a str) -> Option<Request<'a>>
 
 /// A page of a range from a key on.
 #[inline(always)]
-fn range<'a>(arena: &'a Bump, text: &'a str) -> Option<Request<'a>>
+pub(crate) fn range<'a>(arena: &'a Bump, text: &'a str) -> Option<Request<'a>>
     ensures { IfSome result (λ r. command_line text.now ≡ Ok r) }
 {
     let (mut tokens, table) = start(text, b"{\"cmd\":\"range\",")?;
@@ -241,7 +241,7 @@ fn range<'a>(arena: &'a Bump, text: &'a str) -> Option<Request<'a>>
 
 /// A command that can be read so.
 #[derive(Clone, Copy)]
-enum Flat {
+pub(crate) enum Flat {
     Insert,
     Replace,
     Modify,
@@ -268,7 +268,7 @@ fn command_of(first: u8, third: u8) -> Option<Flat> {
 
 /// The command that a line may be, by two letters of its name, and the line's text.
 #[inline(always)]
-fn flat_of(line: &[u8]) -> Option<(Flat, &str)>
+pub(crate) fn flat_of(line: &[u8]) -> Option<(Flat, &str)>
     ensures { IfSome result (λ p. p.1.now ≡ line.now) }
 {
     if line.len() <= THIRD_AT {
@@ -278,20 +278,5 @@ fn flat_of(line: &[u8]) -> Option<(Flat, &str)>
     match text_of(line) {
         Ok(text) => Some((command, text)),
         Err(_) => None,
-    }
-}
-
-/// The request of a line whose members stand one behind another.
-#[inline(always)]
-pub(crate) fn flat_request<'a>(arena: &'a Bump, line: &'a [u8]) -> Option<Request<'a>>
-    ensures { IfSome result (λ r. command_line line.now ≡ Ok r) }
-{
-    let (command, text) = flat_of(line)?;
-    match command {
-        Flat::Insert => insert(arena, text),
-        Flat::Replace => replace(arena, text),
-        Flat::Modify => modify(arena, text),
-        Flat::Range => range(arena, text),
-        Flat::Keyed(command) => keyed(arena, text, command),
     }
 }

@@ -119,6 +119,7 @@ impl CommandName {
 }
 
 /// The change of the table that the members name.
+#[inline(always)]
 fn change_of<'a>(members: &Object<'a>, change: ChangeRequest<'a>) -> Option<Request<'a>>
     ensures { result ≡ option_map₂ request.Change (commands.table_in members.now) (Some change.entry) }
 {
@@ -127,6 +128,7 @@ fn change_of<'a>(members: &Object<'a>, change: ChangeRequest<'a>) -> Option<Requ
 }
 
 /// The look-up by numbers of the table that the members name.
+#[inline(always)]
 fn look_up_by_numbers<'a>(
     members: &Object<'a>,
     look_up: NumberLookUpRequest<'a>,
@@ -138,6 +140,7 @@ fn look_up_by_numbers<'a>(
 }
 
 /// The look-up by keys of the table that the members name.
+#[inline(always)]
 fn look_up_by_keys<'a>(members: &Object<'a>, look_up: KeyLookUpRequest<'a>) -> Option<Request<'a>>
     ensures { result ≡ option_map₂ request.KeyLookUp (commands.table_in members.now) (Some look_up.entry) }
 {

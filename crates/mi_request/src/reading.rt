@@ -16,6 +16,7 @@ use crate::request::{End, NamedPlace};
 use mi_tokens::Json;
 use mi_value::limits::MAX_PAGE;
 
+#[inline(always)]
 fn name_of<'a>(value: &Json<'a>) -> Option<Name<'a>>
     ensures { result ≡ as_str (meaning value.now) }
 {
