@@ -1,6 +1,6 @@
 //! Lines to requests, with memory that is kept from line to line: an arena for arrays and objects, and the value of a line that
 //! `serde_json` read.
-ghost use Rattle.std.specs.Prelude.{◌≡◌, ℕ, List, Option, Some, Ok, IfSome, IfErr};
+ghost use Rattle.std.specs.Prelude.{◌≡◌, ℕ, List, Option, Some, Ok, IfErr};
 ghost use Rattle.mi_request.specs.Answers.{IsAnswer, NamesNoIndex};
 ghost use Rattle.mi_request.specs.Lines.{command_line};
 ghost use Rattle.mi_request.specs.Short.{short_line};
@@ -8,7 +8,7 @@ ghost use Rattle.mi_request.specs.declared.request.ChangeRequest.{ChangeRequest 
 ghost use Rattle.mi_request.specs.declared.request.Request.{Request as Asked};
 ghost use Rattle.mi_request.specs.declared.request.Request.TheVariants as request;
 
-use crate::flat::{Flat, flat_of, insert, keyed, modify, range, replace};
+use crate::flat::flat_request;
 use crate::request::{Request, ShortRequest, request_of};
 use crate::short::short_change;
 use crate::value::read_value;
@@ -44,26 +44,6 @@ fn read_any<'a>(
     request_of(&value).ok_or(Refusal::Form)
 }
 
-/// The request that was read of a line, or else the one that it is as any line. It stands in line, so that what was read is answered where it is
-/// wanted.
-#[inline(always)]
-fn or_any<'a>(
-    asked: Option<Request<'a>>,
-    alloc: Global,
-    arena: &'a Bump,
-    kept: &'a mut Value,
-    line: &'a [u8],
-) -> Result<Request<'a>, Refusal>
-    requires { IfSome asked (λ r. command_line line.now ≡ Ok r) }
-    ensures answer { IsAnswer result (command_line line.now) }
-    ensures refusal { IfErr result NamesNoIndex }
-{
-    match asked {
-        Some(request) => Ok(request),
-        None => read_any(alloc, arena, kept, line),
-    }
-}
-
 impl LineReader {
     /// A reader that has read nothing. It takes no memory yet.
     pub fn new(alloc: Global) -> LineReader {
@@ -94,16 +74,9 @@ impl LineReader {
         self.empty();
         let alloc = self.alloc;
         let arena = &self.arena;
-        let kept = &mut self.value;
-        match flat_of(line) {
-            Some((Flat::Insert, text)) => or_any(insert(arena, text), alloc, arena, kept, line),
-            Some((Flat::Replace, text)) => or_any(replace(arena, text), alloc, arena, kept, line),
-            Some((Flat::Modify, text)) => or_any(modify(arena, text), alloc, arena, kept, line),
-            Some((Flat::Range, text)) => or_any(range(arena, text), alloc, arena, kept, line),
-            Some((Flat::Keyed(command), text)) => {
-                or_any(keyed(arena, text, command), alloc, arena, kept, line)
-            }
-            None => read_any(alloc, arena, kept, line),
+        match flat_request(arena, line) {
+            Some(asked) => Ok(asked),
+            None => read_any(alloc, arena, &mut self.value, line),
         }
     }
 
