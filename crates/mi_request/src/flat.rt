@@ -11,7 +11,7 @@ ghost use Rattle.mi_tokens.specs.Ends.{name_text};
 ghost use Rattle.mi_tokens.specs.Tokens.{tokens_at};
 ghost use Rattle.mi_tokens.specs.declared.tokens.Context.TheVariants.{AfterComma};
 ghost use Rattle.mi_request.specs.Commands.{lower_end, page};
-ghost use Rattle.mi_request.specs.Flat.{IsMember, IsMaybe, IsLast, command_start};
+ghost use Rattle.mi_request.specs.Flat.{IsStart, IsMember, IsMaybe, IsLast, command_start};
 ghost use Rattle.mi_request.specs.Json.{natural, if_there, default_if};
 ghost use Rattle.mi_request.specs.Keyed.{key_name};
 ghost use Rattle.mi_request.specs.Lines.{command_line};
@@ -83,15 +83,20 @@ fn whole<const N: usize>(tokens: &mut Tokens<'_>, name: &[u8; N]) -> Option<u64>
     natural_of(&Json::Whole(tokens.take_whole()?))
 }
 
-/// The table, if it comes next.
+/// The tokens behind what stands in front of a command's members and behind the table, if that comes first.
 #[inline(always)]
-fn table<'a>(tokens: &mut Tokens<'a>) -> Option<Option<Name<'a>>>
-    ensures { IfSome result (λ t. (o : Option Data) × IsMaybe tokens.old (codes "table") o tokens.new × (if_there as_str o ≡ Some t)) }
+fn start<'a, const N: usize>(
+    text: &'a str,
+    front: &[u8; N],
+) -> Option<(Tokens<'a>, Option<Name<'a>>)>
+    ensures { (command : List ℕ) → front.now ≡ command_start command → escape command ≡ command → IfSome result (λ p. IsStart text.now command p.1 p.0) }
 {
+    let mut tokens = Tokens::behind(text, front)?;
     if !tokens.take_key(b"\"table\":") {
-        return Some(None);
+        return Some((tokens, None));
     }
-    Some(Some(Name::new(tokens.take_text()?)))
+    let table = Name::new(tokens.take_text()?);
+    Some((tokens, Some(table)))
 }
 
 /// A number of rows, 1 to 1,000, as the last member.
@@ -141,39 +146,36 @@ fn lower<'a>(arena: &'a Bump, tokens: &mut Tokens<'a>) -> Option<End<'a>>
     Some(End::Without(last_key(arena, tokens)?))
 }
 
-/// The tokens behind the name of a command over a key.
+/// The tokens behind the table of a command over a key.
 #[inline(always)]
-fn keyed_tokens<'a>(command: KeyCommand, text: &'a str) -> Option<Tokens<'a>>
-    ensures { IfSome result
-        (λ ts. (rest : List ℕ) × (text.now ≡ command_start (key_name command) ++ rest) × (ts ≡ tokens_at AfterComma rest)) }
+fn keyed_start<'a>(command: KeyCommand, text: &'a str) -> Option<(Tokens<'a>, Option<Name<'a>>)>
+    ensures { IfSome result (λ p. IsStart text.now (key_name command) p.1 p.0) }
 {
     match command {
-        KeyCommand::EraseKey => Tokens::behind(text, b"{\"cmd\":\"erase_key\","),
-        KeyCommand::Find => Tokens::behind(text, b"{\"cmd\":\"find\","),
-        KeyCommand::Count => Tokens::behind(text, b"{\"cmd\":\"count\","),
-        KeyCommand::LowerRank => Tokens::behind(text, b"{\"cmd\":\"lower_rank\","),
-        KeyCommand::UpperRank => Tokens::behind(text, b"{\"cmd\":\"upper_rank\","),
+        KeyCommand::EraseKey => start(text, b"{\"cmd\":\"erase_key\","),
+        KeyCommand::Find => start(text, b"{\"cmd\":\"find\","),
+        KeyCommand::Count => start(text, b"{\"cmd\":\"count\","),
+        KeyCommand::LowerRank => start(text, b"{\"cmd\":\"lower_rank\","),
+        KeyCommand::UpperRank => start(text, b"{\"cmd\":\"upper_rank\","),
     }
 }
 
 /// A command over a key of one value.
 #[inline(always)]
-fn keyed<'a>(arena: &'a Bump, text: &'a str, command: KeyCommand) -> Option<Request<'a>>
+pub(crate) fn keyed<'a>(arena: &'a Bump, text: &'a str, command: KeyCommand) -> Option<Request<'a>>
     ensures { IfSome result (λ r. command_line text.now ≡ Ok r) }
 {
-    let mut tokens = keyed_tokens(command, text)?;
-    let table = table(&mut tokens)?;
+    let (mut tokens, table) = keyed_start(command, text)?;
     let index = index_next(&mut tokens)?;
     let key = one_key(arena, &mut tokens)?;
     Some(command.request(table, index, key))
 }
 
 #[inline(always)]
-fn insert<'a>(arena: &'a Bump, text: &'a str) -> Option<Request<'a>>
+pub(crate) fn insert<'a>(arena: &'a Bump, text: &'a str) -> Option<Request<'a>>
     ensures { IfSome result (λ r. command_line text.now ≡ Ok r) }
 {
-    let mut tokens = Tokens::behind(text, b"{\"cmd\":\"insert\",")?;
-    let table = table(&mut tokens)?;
+    let (mut tokens, table) = start(text, b"{\"cmd\":\"insert\",")?;
     let row = last_row(arena, &mut tokens)?;
     Some(Request::Change {
         table,
@@ -182,11 +184,10 @@ fn insert<'a>(arena: &'a Bump, text: &'a str) -> Option<Request<'a>>
 }
 
 #[inline(always)]
-fn replace<'a>(arena: &'a Bump, text: &'a str) -> Option<Request<'a>>
+pub(crate) fn replace<'a>(arena: &'a Bump, text: &'a str) -> Option<Request<'a>>
     ensures { IfSome result (λ r. command_line text.now ≡ Ok r) }
 {
-    let mut tokens = Tokens::behind(text, b"{\"cmd\":\"replace\",")?;
-    let table = table(&mut tokens)?;
+    let (mut tokens, table) = start(text, b"{\"cmd\":\"replace\",")?;
     let id = whole(&mut tokens, b"\"id\":")?;
     let row = last_row(arena, &mut tokens)?;
     Some(Request::Change {
@@ -196,11 +197,10 @@ fn replace<'a>(arena: &'a Bump, text: &'a str) -> Option<Request<'a>>
 }
 
 #[inline(always)]
-fn modify<'a>(arena: &'a Bump, text: &'a str) -> Option<Request<'a>>
+pub(crate) fn modify<'a>(arena: &'a Bump, text: &'a str) -> Option<Request<'a>>
     ensures { IfSome result (λ r. command_line text.now ≡ Ok r) }
 {
-    let mut tokens = Tokens::behind(text, b"{\"cmd\":\"modify\",")?;
-    let table = table(&mut tokens)?;
+    let (mut tokens, table) = start(text, b"{\"cmd\":\"modify\",")?;
     let id = whole(&mut tokens, b"\"id\":")?;
     let set = edits(arena, &mut tokens, b"\"set\":")?;
     let add = edits(arena, &mut tokens, b"\"add\":")?;
@@ -220,11 +220,10 @@ fn modify<'a>(arena: &'a Bump, text: &'a str) -> Option<Request<'a>>
 
 /// A page of a range from a key on.
 #[inline(always)]
-fn range<'a>(arena: &'a Bump, text: &'a str) -> Option<Request<'a>>
+pub(crate) fn range<'a>(arena: &'a Bump, text: &'a str) -> Option<Request<'a>>
     ensures { IfSome result (λ r. command_line text.now ≡ Ok r) }
 {
-    let mut tokens = Tokens::behind(text, b"{\"cmd\":\"range\",")?;
-    let table = table(&mut tokens)?;
+    let (mut tokens, table) = start(text, b"{\"cmd\":\"range\",")?;
     let index = index_next(&mut tokens)?;
     let lower = lower(arena, &mut tokens)?;
     let limit = last_limit(&mut tokens)?;
@@ -242,7 +241,7 @@ fn range<'a>(arena: &'a Bump, text: &'a str) -> Option<Request<'a>>
 
 /// A command that can be read so.
 #[derive(Clone, Copy)]
-enum Flat {
+pub(crate) enum Flat {
     Insert,
     Replace,
     Modify,
@@ -269,7 +268,7 @@ fn command_of(first: u8, third: u8) -> Option<Flat> {
 
 /// The command that a line may be, by two letters of its name, and the line's text.
 #[inline(always)]
-fn flat_of(line: &[u8]) -> Option<(Flat, &str)>
+pub(crate) fn flat_of(line: &[u8]) -> Option<(Flat, &str)>
     ensures { IfSome result (λ p. p.1.now ≡ line.now) }
 {
     if line.len() <= THIRD_AT {
@@ -279,20 +278,5 @@ fn flat_of(line: &[u8]) -> Option<(Flat, &str)>
     match text_of(line) {
         Ok(text) => Some((command, text)),
         Err(_) => None,
-    }
-}
-
-/// The request of a line whose members stand one behind another.
-#[inline(always)]
-pub(crate) fn flat_request<'a>(arena: &'a Bump, line: &'a [u8]) -> Option<Request<'a>>
-    ensures { IfSome result (λ r. command_line line.now ≡ Ok r) }
-{
-    let (command, text) = flat_of(line)?;
-    match command {
-        Flat::Insert => insert(arena, text),
-        Flat::Replace => replace(arena, text),
-        Flat::Modify => modify(arena, text),
-        Flat::Range => range(arena, text),
-        Flat::Keyed(command) => keyed(arena, text, command),
     }
 }

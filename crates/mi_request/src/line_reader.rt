@@ -8,7 +8,7 @@ ghost use Rattle.mi_request.specs.declared.request.ChangeRequest.{ChangeRequest 
 ghost use Rattle.mi_request.specs.declared.request.Request.{Request as Asked};
 ghost use Rattle.mi_request.specs.declared.request.Request.TheVariants as request;
 
-use crate::flat::flat_request;
+use crate::flat::{Flat, flat_of, insert, keyed, modify, range, replace};
 use crate::request::{Request, ShortRequest, request_of};
 use crate::short::short_change;
 use crate::value::read_value;
@@ -74,10 +74,27 @@ impl LineReader {
         self.empty();
         let alloc = self.alloc;
         let arena = &self.arena;
-        match flat_request(arena, line) {
-            Some(asked) => Ok(asked),
-            None => read_any(alloc, arena, &mut self.value, line),
+        match flat_of(line) {
+            Some((Flat::Insert, text)) => if let Some(asked) = insert(arena, text) {
+                return Ok(asked);
+            },
+            Some((Flat::Replace, text)) => if let Some(asked) = replace(arena, text) {
+                return Ok(asked);
+            },
+            Some((Flat::Modify, text)) => if let Some(asked) = modify(arena, text) {
+                return Ok(asked);
+            },
+            Some((Flat::Range, text)) => if let Some(asked) = range(arena, text) {
+                return Ok(asked);
+            },
+            Some((Flat::Keyed(command), text)) => {
+                if let Some(asked) = keyed(arena, text, command) {
+                    return Ok(asked);
+                }
+            }
+            None => {}
         }
+        read_any(alloc, arena, &mut self.value, line)
     }
 
     /// The request that a line is, as `parse` answers it. It is for lines that `ShortRequest::of` doesn't read: any other short line but that
