@@ -98,6 +98,14 @@ pub line_means : (command text rest : List ℕ) (all : Members) (r : Request) �
     → IsRest (tokens_at AfterComma rest) (named command) all → request_in all ≡ Some r → command_line text ≡ Ok r
 line_means command text rest all r plain is utf8 others asked = request_found text (object all) r utf8 (line_reads command text rest all plain is others) asked
 
+-- what stands behind the front and the table tells the request of the line
+pub line_from : (command text : List ℕ) (old new : List Token) (t : Option Data) (all : Members) (r : Request) → escape command ≡ command → IsUtf8 text
+    → ((rest : List ℕ) × (text ≡ command_start command ++ rest) × (old ≡ tokens_at AfterComma rest)) → IsMaybe old (codes "table") t new
+    → IsRest new (put_if (codes "table") t (named command)) all → request_in all ≡ Some r → command_line text ≡ Ok r
+line_from command text old new t all r plain utf8 begun table rest asked =
+    line_means command text begun.0 all r plain begun.1 utf8
+    (subst (λ ts. IsRest ts (named command) all) begun.2 (rest_maybe old new (codes "table") t (named command) all table rest)) asked
+
 -- ---- what each command asks
 
 two : {A B C : Type 0} (f : A → B → C) (a : Option A) (b : Option B) (x : A) (y : B) → a ≡ Some x → b ≡ Some y → option_map₂ f a b ≡ Some (f x y)

@@ -1,13 +1,9 @@
 -- How an object is read member by member: what one member is, and what the others are.
-use Rattle.std.specs.Prelude.{◌≡◌, ℕ, ◌≤◌, List, [], ◌∷◌, ◌++◌, length, Option, Some, None, Ok, codes}
+use Rattle.std.specs.Prelude.{◌≡◌, ℕ, ◌≤◌, List, [], ◌∷◌, ◌++◌, length, Option, Some, None, codes}
 use Rattle.json.specs.Json.{members, read_key, value}
 use Rattle.json.specs.Token.{Token}
 use Rattle.serde_json.specs.Data.{Data, string, Members, no_members, member, put}
-use Rattle.serde_json.specs.Find.{as_str}
 use Rattle.serde_json.specs.Read.{of_json, of_members, converted}
-use Rattle.mi_request.specs.Json.{if_there}
-use Rattle.mi_request.specs.Lines.{request_in, command_line}
-use Rattle.mi_request.specs.declared.request.Request.{Request}
 
 -- behind the members that were found these tokens give the others, and nothing else; all of them are these
 abbrev pub IsRest : List Token → Members → Members → Type 0
@@ -37,12 +33,6 @@ command_start command = codes "{\"cmd\":" ++ (34 ∷ (command ++ (34 ∷ (44 ∷
 -- the member `cmd`, and those of a command over a key behind it
 abbrev pub named : List ℕ → Members
 named command = member (codes "cmd") (string command) no_members
-
--- the text is this command's, and the tokens are those behind its table: whatever members they give, the line is the request of all
-abbrev pub IsStart : List ℕ → List ℕ → Option (List ℕ) → List Token → Type 0
-IsStart text command table ts =
-    (o : Option Data) × (if_there as_str o ≡ Some table)
-    × ((all : Members) (r : Request) → IsRest ts (put_if (codes "table") o (named command)) all → request_in all ≡ Some r → command_line text ≡ Ok r)
 
 abbrev pub keyed_members : List ℕ → Option Data → Data → Data → Members
 keyed_members command table index key = put (codes "key") key (put (codes "index") index (put_if (codes "table") table (named command)))

@@ -11,7 +11,7 @@ ghost use Rattle.mi_tokens.specs.Ends.{name_text};
 ghost use Rattle.mi_tokens.specs.Tokens.{tokens_at};
 ghost use Rattle.mi_tokens.specs.declared.tokens.Context.TheVariants.{AfterComma};
 ghost use Rattle.mi_request.specs.Commands.{lower_end, page};
-ghost use Rattle.mi_request.specs.Flat.{IsStart, IsMember, IsMaybe, IsLast, command_start};
+ghost use Rattle.mi_request.specs.Flat.{IsMember, IsMaybe, IsLast, command_start};
 ghost use Rattle.mi_request.specs.Json.{natural, if_there, default_if};
 ghost use Rattle.mi_request.specs.Keyed.{key_name};
 ghost use Rattle.mi_request.specs.Lines.{command_line};
@@ -83,20 +83,15 @@ fn whole<const N: usize>(tokens: &mut Tokens<'_>, name: &[u8; N]) -> Option<u64>
     natural_of(&Json::Whole(tokens.take_whole()?))
 }
 
-/// The tokens behind what stands in front of a command's members and behind the table, if that comes first.
+/// The table, if it comes next.
 #[inline(always)]
-fn start<'a, const N: usize>(
-    text: &'a str,
-    front: &[u8; N],
-) -> Option<(Tokens<'a>, Option<Name<'a>>)>
-    ensures { (command : List ℕ) → front.now ≡ command_start command → escape command ≡ command → IfSome result (λ p. IsStart text.now command p.1 p.0) }
+fn table<'a>(tokens: &mut Tokens<'a>) -> Option<Option<Name<'a>>>
+    ensures { IfSome result (λ t. (o : Option Data) × IsMaybe tokens.old (codes "table") o tokens.new × (if_there as_str o ≡ Some t)) }
 {
-    let mut tokens = Tokens::behind(text, front)?;
     if !tokens.take_key(b"\"table\":") {
-        return Some((tokens, None));
+        return Some(None);
     }
-    let table = Name::new(tokens.take_text()?);
-    Some((tokens, Some(table)))
+    Some(Some(Name::new(tokens.take_text()?)))
 }
 
 /// A number of rows, 1 to 1,000, as the last member.
@@ -146,17 +141,18 @@ fn lower<'a>(arena: &'a Bump, tokens: &mut Tokens<'a>) -> Option<End<'a>>
     Some(End::Without(last_key(arena, tokens)?))
 }
 
-/// The tokens behind the table of a command over a key.
+/// The tokens behind the name of a command over a key.
 #[inline(always)]
-fn keyed_start<'a>(command: KeyCommand, text: &'a str) -> Option<(Tokens<'a>, Option<Name<'a>>)>
-    ensures { IfSome result (λ p. IsStart text.now (key_name command) p.1 p.0) }
+fn keyed_tokens<'a>(command: KeyCommand, text: &'a str) -> Option<Tokens<'a>>
+    ensures { IfSome result
+        (λ ts. (rest : List ℕ) × (text.now ≡ command_start (key_name command) ++ rest) × (ts ≡ tokens_at AfterComma rest)) }
 {
     match command {
-        KeyCommand::EraseKey => start(text, b"{\"cmd\":\"erase_key\","),
-        KeyCommand::Find => start(text, b"{\"cmd\":\"find\","),
-        KeyCommand::Count => start(text, b"{\"cmd\":\"count\","),
-        KeyCommand::LowerRank => start(text, b"{\"cmd\":\"lower_rank\","),
-        KeyCommand::UpperRank => start(text, b"{\"cmd\":\"upper_rank\","),
+        KeyCommand::EraseKey => Tokens::behind(text, b"{\"cmd\":\"erase_key\","),
+        KeyCommand::Find => Tokens::behind(text, b"{\"cmd\":\"find\","),
+        KeyCommand::Count => Tokens::behind(text, b"{\"cmd\":\"count\","),
+        KeyCommand::LowerRank => Tokens::behind(text, b"{\"cmd\":\"lower_rank\","),
+        KeyCommand::UpperRank => Tokens::behind(text, b"{\"cmd\":\"upper_rank\","),
     }
 }
 
@@ -165,7 +161,8 @@ fn keyed_start<'a>(command: KeyCommand, text: &'a str) -> Option<(Tokens<'a>, Op
 pub(crate) fn keyed<'a>(arena: &'a Bump, text: &'a str, command: KeyCommand) -> Option<Request<'a>>
     ensures { IfSome result (λ r. command_line text.now ≡ Ok r) }
 {
-    let (mut tokens, table) = keyed_start(command, text)?;
+    let mut tokens = keyed_tokens(command, text)?;
+    let table = table(&mut tokens)?;
     let index = index_next(&mut tokens)?;
     let key = one_key(arena, &mut tokens)?;
     Some(command.request(table, index, key))
@@ -175,7 +172,8 @@ pub(crate) fn keyed<'a>(arena: &'a Bump, text: &'a str, command: KeyCommand) -> 
 pub(crate) fn insert<'a>(arena: &'a Bump, text: &'a str) -> Option<Request<'a>>
     ensures { IfSome result (λ r. command_line text.now ≡ Ok r) }
 {
-    let (mut tokens, table) = start(text, b"{\"cmd\":\"insert\",")?;
+    let mut tokens = Tokens::behind(text, b"{\"cmd\":\"insert\",")?;
+    let table = table(&mut tokens)?;
     let row = last_row(arena, &mut tokens)?;
     Some(Request::Change {
         table,
@@ -187,7 +185,8 @@ pub(crate) fn insert<'a>(arena: &'a Bump, text: &'a str) -> Option<Request<'a>>
 pub(crate) fn replace<'a>(arena: &'a Bump, text: &'a str) -> Option<Request<'a>>
     ensures { IfSome result (λ r. command_line text.now ≡ Ok r) }
 {
-    let (mut tokens, table) = start(text, b"{\"cmd\":\"replace\",")?;
+    let mut tokens = Tokens::behind(text, b"{\"cmd\":\"replace\",")?;
+    let table = table(&mut tokens)?;
     let id = whole(&mut tokens, b"\"id\":")?;
     let row = last_row(arena, &mut tokens)?;
     Some(Request::Change {
@@ -200,7 +199,8 @@ pub(crate) fn replace<'a>(arena: &'a Bump, text: &'a str) -> Option<Request<'a>>
 pub(crate) fn modify<'a>(arena: &'a Bump, text: &'a str) -> Option<Request<'a>>
     ensures { IfSome result (λ r. command_line text.now ≡ Ok r) }
 {
-    let (mut tokens, table) = start(text, b"{\"cmd\":\"modify\",")?;
+    let mut tokens = Tokens::behind(text, b"{\"cmd\":\"modify\",")?;
+    let table = table(&mut tokens)?;
     let id = whole(&mut tokens, b"\"id\":")?;
     let set = edits(arena, &mut tokens, b"\"set\":")?;
     let add = edits(arena, &mut tokens, b"\"add\":")?;
@@ -223,7 +223,8 @@ pub(crate) fn modify<'a>(arena: &'a Bump, text: &'a str) -> Option<Request<'a>>
 pub(crate) fn range<'a>(arena: &'a Bump, text: &'a str) -> Option<Request<'a>>
     ensures { IfSome result (λ r. command_line text.now ≡ Ok r) }
 {
-    let (mut tokens, table) = start(text, b"{\"cmd\":\"range\",")?;
+    let mut tokens = Tokens::behind(text, b"{\"cmd\":\"range\",")?;
+    let table = table(&mut tokens)?;
     let index = index_next(&mut tokens)?;
     let lower = lower(arena, &mut tokens)?;
     let limit = last_limit(&mut tokens)?;

@@ -178,7 +178,6 @@ pub enum ShortRequest<'a> {
 }
 
 /// The request that an object is: `cmd` names its command.
-#[inline(always)]
 fn request_in<'a>(object: &Object<'a>) -> Option<Request<'a>>
     ensures { result ≡ lines.request_in object.now }
 {
