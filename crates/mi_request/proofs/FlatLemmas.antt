@@ -1,5 +1,5 @@
 -- An object that is read member by member is what its text means, and so each flat line is the request of its members.
-use Rattle.std.proofs.Common.{IfSome, sym, ◌≡◌, ℕ, ◌-◌, List, [], ◌∷◌, ◌++◌, length, Option, Some, None, Ok, IsUtf8, codes, false, refl, ap, ◌∙◌, subst, arith, append_assoc}
+use Rattle.std.proofs.Common.{IfSome, option_and_then, sym, ◌≡◌, ℕ, ◌-◌, List, [], ◌∷◌, ◌++◌, length, Option, Some, None, Ok, IsUtf8, codes, false, refl, ap, ◌∙◌, subst, arith, append_assoc}
 use Rattle.json.specs.Json.{parse_map, read_key, members, value}
 use Rattle.json.specs.Lex.{lex, between, punctuate, tokens}
 use Rattle.json.specs.Print.{escape, escape_byte}
@@ -14,8 +14,8 @@ use Rattle.mi_tokens.proofs.LexemeLemmas.{lex_text}
 use Rattle.mi_tokens.proofs.ReadingLemmas.{converted_some, converted-object, member_read, members_over, whole_read}
 use Rattle.mi_tokens.specs.Tokens.{tokens_at}
 use Rattle.mi_tokens.specs.declared.tokens.Context.TheVariants.{AfterComma}
-use Rattle.mi_request.specs.Commands.{look_up_named, lower_end, page}
-use Rattle.mi_request.specs.Flat.{IsRest, IsMember, IsMaybe, put_if, command_start, named, keyed_members}
+use Rattle.mi_request.specs.Commands.{look_up_named, lower_end, if_page, page}
+use Rattle.mi_request.specs.Flat.{IsRest, IsMember, IsMaybe, IsLast, put_if, command_start, named, keyed_members}
 use Rattle.mi_request.specs.Json.{has_only, natural, if_there, default_if, option_map₂, option_map₄, option_map₅}
 use Rattle.mi_request.specs.Keyed.{key_name, asked_key}
 use Rattle.mi_request.specs.Lines.{request_in, command_line}
@@ -42,6 +42,9 @@ rest_member old new name d found all m rest n enough =
     let lesser = skip_value-shorter 126 ts new (ap left is.1) in
     member_read (value 126) found n name old ts new d (omega (arith, enough, less)) m.1 m.2 ∙ rest (n - 1) (omega (arith, enough, less, lesser))
 
+pub rest_last : (old : List Token) (name : List ℕ) (d : Data) (found : Members) → IsLast old name d → IsRest old found (put name d found)
+rest_last old name d found m = rest_member old m.0 name d found (put name d found) m.1 (rest_end m.0 (put name d found) m.2)
+
 pub rest_maybe : (old new : List Token) (name : List ℕ) (o : Option Data) (found all : Members) → IsMaybe old name o new → IsRest new (put_if name o found) all → IsRest old found all
 rest_maybe old new name None found all same rest = subst (λ ts. IsRest ts found all) same rest
 rest_maybe old new name (Some d) found all m rest = rest_member old new name d found all m rest
@@ -51,6 +54,12 @@ pub natural_found : (r : Option ℕ) (d : Data) (old new : List Token) (name : L
     → IfSome r (λ n. (x : Data) × IsMember old name x new × (natural x ≡ Some n))
 natural_found None d old new name m e = tt
 natural_found (Some n) d old new name m e = (d, m, sym e)
+
+-- the same of a number of rows at the end
+pub page_found : (r : Option ℕ) (n : ℕ) (d : Data) (old : List Token) → IsLast old (codes "limit") d → natural d ≡ Some n → r ≡ if_page n
+    → IfSome r (λ k. (x : Data) × IsLast old (codes "limit") x × (page x ≡ Some k))
+page_found None n d old m is e = tt
+page_found (Some k) n d old m is e = (d, m, ap (option_and_then if_page) is ∙ sym e)
 
 -- an object of one member
 pub one_member : (name : List ℕ) (s t u v w : List Token) (d : Data) → s ≡ begin_object ∷ t → read_key t ≡ Some (Some name, u) → converted of_json (value 125 u) ≡ Some (d, v)
@@ -88,6 +97,14 @@ line_reads command text rest all plain is others =
 pub line_means : (command text rest : List ℕ) (all : Members) (r : Request) → escape command ≡ command → text ≡ command_start command ++ rest → IsUtf8 text
     → IsRest (tokens_at AfterComma rest) (named command) all → request_in all ≡ Some r → command_line text ≡ Ok r
 line_means command text rest all r plain is utf8 others asked = request_found text (object all) r utf8 (line_reads command text rest all plain is others) asked
+
+-- what stands behind the front and the table tells the request of the line
+pub line_from : (command text : List ℕ) (old new : List Token) (t : Option Data) (all : Members) (r : Request) → escape command ≡ command → IsUtf8 text
+    → ((rest : List ℕ) × (text ≡ command_start command ++ rest) × (old ≡ tokens_at AfterComma rest)) → IsMaybe old (codes "table") t new
+    → IsRest new (put_if (codes "table") t (named command)) all → request_in all ≡ Some r → command_line text ≡ Ok r
+line_from command text old new t all r plain utf8 begun table rest asked =
+    line_means command text begun.0 all r plain begun.1 utf8
+    (subst (λ ts. IsRest ts (named command) all) begun.2 (rest_maybe old new (codes "table") t (named command) all table rest)) asked
 
 -- ---- what each command asks
 

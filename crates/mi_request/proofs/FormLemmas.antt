@@ -1,4 +1,4 @@
--- The request of members without `table` names no table.
+-- Members of which one is missing ask nothing; the request of members without `table` names no table.
 use Rattle.std.proofs.Common.{◌≡◌, ℕ, List, false, Option, Some, None, IfSome, codes, refl, sym, ap, subst}
 use Rattle.std.specs.Option.{option_map}
 use Rattle.serde_json.specs.Data.{Members}
@@ -7,6 +7,11 @@ use Rattle.mi_request.specs.Json.{option_map₂, if_there}
 use Rattle.mi_request.specs.Commands.{Asks, a_change, a_number_look_up, a_key_look_up, of_sessions, asked, names_table, table_in}
 use Rattle.mi_request.specs.declared.request.Request.{Request}
 use Rattle.mi_request.specs.declared.request.Request.TheVariants as request
+
+-- of two parts the first alone is none
+pub none_second : {A B C : Type 0} (f : A → B → C) (a : Option A) → option_map₂ f a None ≡ None
+none_second f None = refl
+none_second f (Some a) = refl
 
 abbrev NoName : Option Request → Type 0
 NoName o = IfSome o (λ r. names_table r ≡ false)

@@ -1,11 +1,14 @@
 -- From the value that a text is to the request that it is.
 use Rattle.std.proofs.Common.{◌≡◌, ℕ, List, Bool, true, false, cond, Option, Some, None}
-use Rattle.std.proofs.Common.{Ok, refl, sym, ap, ◌∙◌, inl, inr, ◌⊎◌}
+use Rattle.std.proofs.Common.{Result, Ok, Err, IfOk, refl, sym, ap, ◌∙◌, inl, inr, ◌⊎◌}
 use Rattle.std.specs.Option.{ok_or}
 use Rattle.std.specs.Str.{IsUtf8, is_utf8}
 use Rattle.std.proofs.lemmas.Str.{IsUtf8-from_is_utf8, is_utf8-from_IsUtf8}
 use Rattle.serde_json.specs.Data.{Data}
 use Rattle.serde_json.specs.Read.{read}
+use Rattle.mi_tokens.specs.Meaning.{meaning}
+use Rattle.mi_tokens.specs.declared.value.Json.{Json}
+use Rattle.mi_value.specs.declared.refusal.Refusal.{Refusal}
 use Rattle.mi_value.specs.declared.refusal.Refusal.TheVariants.{Form}
 use Rattle.mi_request.specs.Answers.{IsAnswer}
 use Rattle.mi_request.specs.Lines.{json_of, request_of, request_or_refusal, command_line}
@@ -17,6 +20,11 @@ test_of false = inr refl
 
 pub json-found : (bytes : List ℕ) (d : Data) → IsUtf8 bytes → read bytes ≡ Some d → json_of bytes ≡ Some d
 json-found bytes d utf8 found = ap (λ b. cond b (read bytes) None) (is_utf8-from_IsUtf8 bytes utf8) ∙ found
+
+-- the same of a value that may be refused
+pub kept_found : (bytes : List ℕ) (r : Result Json Refusal) → IsUtf8 bytes → IfOk r (λ v. read bytes ≡ Some (meaning v)) → IfOk r (λ v. json_of bytes ≡ Some (meaning v))
+kept_found bytes (Ok v) utf8 h = json-found bytes (meaning v) utf8 h
+kept_found bytes (Err e) utf8 h = tt
 
 pub json-refused : (bytes : List ℕ) → (IsUtf8 bytes → read bytes ≡ None) → json_of bytes ≡ None
 json-refused bytes none = elim (test_of (is_utf8 bytes)) [

@@ -478,47 +478,8 @@ line-read c ms line o read apart is =
     let found : read_line c (template ms) line ≡ Some ms = ap (option_and_then (read_members (template ms))) front ∙ members-written ms p.0 apart in
     some_if words_of o (Some (c, ms)) (read ∙ ap (option_map (λ l. Some (c, l))) found)
 
--- ---- one member after another
+-- ---- a line that isn't read
 
--- what the code finds, as it is seen
-abbrev pub Found : Type 0 → Type 0
-Found A = A × Bor (List ℕ)
-
-module _ {A : Type 0} (word : A → Word) (r : Option (Found A)) (v w : Option (A × List ℕ))
-    (seen : option_map {U = A × List ℕ} (λ p. (p.0, p.1.now)) r ≡ v) (same : v ≡ w) where
-  pub word_there : (a : A) (x : Bor (List ℕ)) → r ≡ Some (a, x) → made word w ≡ Some (word a, x.now)
-  word_there a x is = ap (made word) (sym (seen ∙ same) ∙ ap (option_map {U = A × List ℕ} (λ p. (p.0, p.1.now))) is)
-
-  pub no_word : r ≡ None → made word w ≡ None
-  no_word is = ap (made word) (sym (seen ∙ same) ∙ ap (option_map {U = A × List ℕ} (λ p. (p.0, p.1.now))) is)
-
-abbrev rest_of : Template → List ℕ → Word × List ℕ → Option (List Member)
-rest_of hs m p = option_map (λ ms. (m, p.0) ∷ ms) (read_members hs p.1)
-
-pub member_then : (k : Kind) (m t rest : List ℕ) (w : Word) (hs : Template) (o : Option (List Member)) → read_member k m t ≡ Some (w, rest) → read_members hs rest ≡ o
-    → read_members ((m, k) ∷ hs) t ≡ option_map (λ ms. (m, w) ∷ ms) o
-member_then k m t rest w hs o first more = ap (option_and_then (rest_of hs m)) first ∙ ap (option_map (λ ms. (m, w) ∷ ms)) more
-
-pub no_member : (k : Kind) (m t : List ℕ) (hs : Template) → read_member k m t ≡ None → read_members ((m, k) ∷ hs) t ≡ None
-no_member k m t hs none = ap (option_and_then (rest_of hs m)) none
-
-pub at_end : (t : List ℕ) (b : Bool) → b ≡ bytes_eq t (codes "}") → b ≡ true → read_members [] t ≡ Some []
-at_end t b is end = ap (λ e. cond e (Some []) None) (sym is ∙ end)
-
-pub no_end : (t : List ℕ) (b : Bool) → b ≡ bytes_eq t (codes "}") → b ≡ false → read_members [] t ≡ None
-no_end t b is more = ap (λ e. cond e (Some []) None) (sym is ∙ more)
-
--- ---- a line behind its command
-
-module _ (c : List ℕ) (hs : Template) (line : List ℕ) where
-  pub line_from : (g : List ℕ) (r : Option (Bor (List ℕ))) → option_map (λ x. x.now) r ≡ behind g line → g ≡ command_front c → (x : Bor (List ℕ)) → r ≡ Some x
-      → read_line c hs line ≡ read_members hs x.now
-  line_from g r front same x is =
-      ap (option_and_then (read_members hs)) (ap (λ f. behind f line) (sym same) ∙ sym front ∙ ap (option_map (λ y. y.now)) is)
-
-  pub not_read : (o : Option Request) → o ≡ None → read_line c hs line ≡ None → IsRead c hs line o
-  not_read o none found =
-      ap (option_map {U = Option Command} words_of) none ∙ sym (ap (option_map {U = Option Command} (λ ms. Some (c, ms))) found)
-
-  pub was_read : (r : Request) (ms : List Member) → words_of r ≡ Some (c, ms) → read_line c hs line ≡ Some ms → IsRead c hs line (Some r)
-  was_read r ms is found = ap Some is ∙ sym (ap (option_map {U = Option Command} (λ l. Some (c, l))) found)
+pub not_read : (c : List ℕ) (hs : Template) (line : List ℕ) (o : Option Request) → o ≡ None → read_line c hs line ≡ None → IsRead c hs line o
+not_read c hs line o none found =
+    ap (option_map {U = Option Command} words_of) none ∙ sym (ap (option_map {U = Option Command} (λ ms. Some (c, ms))) found)

@@ -18,6 +18,10 @@ abbrev pub IsMaybe : List Token → List ℕ → Option Data → List Token → 
 IsMaybe old name None new = new ≡ old
 IsMaybe old name (Some d) new = IsMember old name d new
 
+-- the same of the last member, behind which the text ends
+abbrev pub IsLast : List Token → List ℕ → Data → Type 0
+IsLast old name d = (new : List Token) × IsMember old name d new × (read_key new ≡ Some (None, []))
+
 abbrev pub put_if : List ℕ → Option Data → Members → Members
 put_if name None ms = ms
 put_if name (Some d) ms = put name d ms

@@ -10,8 +10,8 @@ ghost use Rattle.serde_json.specs.Find.{as_str, as_object};
 ghost use Rattle.mi_tokens.specs.Ends.{name_text};
 ghost use Rattle.mi_tokens.specs.Tokens.{tokens_at};
 ghost use Rattle.mi_tokens.specs.declared.tokens.Context.TheVariants.{AfterComma};
-ghost use Rattle.mi_request.specs.Commands.{lower_end};
-ghost use Rattle.mi_request.specs.Flat.{IsMember, IsMaybe, command_start};
+ghost use Rattle.mi_request.specs.Commands.{lower_end, page};
+ghost use Rattle.mi_request.specs.Flat.{IsMember, IsMaybe, IsLast, command_start};
 ghost use Rattle.mi_request.specs.Json.{natural, if_there, default_if};
 ghost use Rattle.mi_request.specs.Keyed.{key_name};
 ghost use Rattle.mi_request.specs.Lines.{command_line};
@@ -32,19 +32,16 @@ const FIRST_AT: usize = 8;
 /// Where the third letter stands.
 const THIRD_AT: usize = 10;
 
-/// The object of a member that must come next.
+/// The row, as the last member.
 #[inline(always)]
-fn object_in<'a, const N: usize>(
-    arena: &'a Bump,
-    tokens: &mut Tokens<'a>,
-    name: &[u8; N],
-) -> Option<Object<'a>>
-    ensures { (s : List ℕ) → name.now ≡ name_text s → escape s ≡ s → IfSome result (λ ms. IsMember tokens.old s (object ms) tokens.new) }
+fn last_row<'a>(arena: &'a Bump, tokens: &mut Tokens<'a>) -> Option<Object<'a>>
+    ensures { IfSome result (λ ms. IsLast tokens.old (codes "row") (object ms)) }
 {
-    if !tokens.take_key(name) {
+    if !tokens.take_key(b"\"row\":") {
         return None;
     }
-    Some(Object::new(pass_object(arena, tokens)?))
+    let row = Object::new(pass_object(arena, tokens)?);
+    if tokens.take_end() { Some(row) } else { None }
 }
 
 /// The object of a member that may come next; absent it has no members.
@@ -63,12 +60,12 @@ fn edits<'a, const N: usize>(
     Some(Object::new(pass_object(arena, tokens)?))
 }
 
-/// The text of a member that must come next.
+/// The index, which must come next.
 #[inline(always)]
-fn name_in<'a, const N: usize>(tokens: &mut Tokens<'a>, name: &[u8; N]) -> Option<Name<'a>>
-    ensures { (s : List ℕ) → name.now ≡ name_text s → escape s ≡ s → IfSome result (λ n. IsMember tokens.old s (string n) tokens.new) }
+fn index_next<'a>(tokens: &mut Tokens<'a>) -> Option<Name<'a>>
+    ensures { IfSome result (λ n. IsMember tokens.old (codes "index") (string n) tokens.new) }
 {
-    if !tokens.take_key(name) {
+    if !tokens.take_key(b"\"index\":") {
         return None;
     }
     Some(Name::new(tokens.take_text()?))
@@ -97,15 +94,25 @@ fn table<'a>(tokens: &mut Tokens<'a>) -> Option<Option<Name<'a>>>
     Some(Some(Name::new(tokens.take_text()?)))
 }
 
-/// The key of one value that must come next.
+/// A number of rows, 1 to 1,000, as the last member.
+#[inline(always)]
+fn last_limit(tokens: &mut Tokens<'_>) -> Option<usize>
+    ensures { IfSome result (λ n. (d : Data) × IsLast tokens.old (codes "limit") d × (page d ≡ Some n)) }
+{
+    let n = whole(tokens, b"\"limit\":")?;
+    if tokens.take_end() { if_page(n) } else { None }
+}
+
+/// The key of one value, as the last member.
 #[inline(always)]
 fn one_key<'a>(arena: &'a Bump, tokens: &mut Tokens<'a>) -> Option<Array<'a>>
-    ensures { IfSome result (λ xs. IsMember tokens.old (codes "key") (array xs) tokens.new) }
+    ensures { IfSome result (λ xs. IsLast tokens.old (codes "key") (array xs)) }
 {
     if !tokens.take_key(b"\"key\":") {
         return None;
     }
-    Some(Array::new(pass_one(arena, tokens)?))
+    let key = Array::new(pass_one(arena, tokens)?);
+    if tokens.take_end() { Some(key) } else { None }
 }
 
 /// The key of one value at the end of an object.
@@ -156,11 +163,8 @@ pub(crate) fn keyed<'a>(arena: &'a Bump, text: &'a str, command: KeyCommand) -> 
 {
     let mut tokens = keyed_tokens(command, text)?;
     let table = table(&mut tokens)?;
-    let index = name_in(&mut tokens, b"\"index\":")?;
+    let index = index_next(&mut tokens)?;
     let key = one_key(arena, &mut tokens)?;
-    if !tokens.take_end() {
-        return None;
-    }
     Some(command.request(table, index, key))
 }
 
@@ -170,10 +174,7 @@ pub(crate) fn insert<'a>(arena: &'a Bump, text: &'a str) -> Option<Request<'a>>
 {
     let mut tokens = Tokens::behind(text, b"{\"cmd\":\"insert\",")?;
     let table = table(&mut tokens)?;
-    let row = object_in(arena, &mut tokens, b"\"row\":")?;
-    if !tokens.take_end() {
-        return None;
-    }
+    let row = last_row(arena, &mut tokens)?;
     Some(Request::Change {
         table,
         change: ChangeRequest::Insert { row, before: None },
@@ -187,10 +188,7 @@ pub(crate) fn replace<'a>(arena: &'a Bump, text: &'a str) -> Option<Request<'a>>
     let mut tokens = Tokens::behind(text, b"{\"cmd\":\"replace\",")?;
     let table = table(&mut tokens)?;
     let id = whole(&mut tokens, b"\"id\":")?;
-    let row = object_in(arena, &mut tokens, b"\"row\":")?;
-    if !tokens.take_end() {
-        return None;
-    }
+    let row = last_row(arena, &mut tokens)?;
     Some(Request::Change {
         table,
         change: ChangeRequest::Replace { id, row },
@@ -227,12 +225,9 @@ pub(crate) fn range<'a>(arena: &'a Bump, text: &'a str) -> Option<Request<'a>>
 {
     let mut tokens = Tokens::behind(text, b"{\"cmd\":\"range\",")?;
     let table = table(&mut tokens)?;
-    let index = name_in(&mut tokens, b"\"index\":")?;
+    let index = index_next(&mut tokens)?;
     let lower = lower(arena, &mut tokens)?;
-    let limit = if_page(whole(&mut tokens, b"\"limit\":")?)?;
-    if !tokens.take_end() {
-        return None;
-    }
+    let limit = last_limit(&mut tokens)?;
     Some(Request::KeyLookUp {
         table,
         look_up: KeyLookUpRequest::Range {

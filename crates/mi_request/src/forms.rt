@@ -1,8 +1,10 @@
 //! The table of commands: their names, the members that each may have, and what these are. It knows no catalog. Each form is a call of its
 //! own, so that no other form's fields are moved with what it is.
-ghost use Rattle.std.specs.Prelude.{◌≡◌, ◌∷◌, codes};
+#![tactic(auto, using(crate::proofs::FormLemmas::none_second))]
+
+ghost use Rattle.std.specs.Prelude.{◌≡◌, ◌∷◌, codes, Some};
 ghost use Rattle.mi_request.specs.Commands as commands;
-ghost use Rattle.mi_request.specs.Commands.{look_up_named, step_named, command_named, form_of, member_names, asks_key, asked, table_in};
+ghost use Rattle.mi_request.specs.Commands.{look_up_named, step_named, command_named, form_of, member_names, asks_key, asked, a_change, a_number_look_up, a_key_look_up, of_sessions};
 ghost use Rattle.mi_request.specs.Json.{has_only, option_map₂};
 ghost use Rattle.mi_request.specs.Lines as lines;
 ghost use Rattle.mi_request.specs.declared.request.Request.TheVariants as request;
@@ -11,8 +13,8 @@ use crate::bare::Bare;
 use crate::keyed::KeyCommand;
 use crate::object::Object;
 use crate::reading::{
-    array, end, flag, natural, natural_if_there, natural_or_absent, object, object_or_empty, page,
-    place, text, text_if_there, up_to,
+    end, flag, id_in, index_in, key_in, limit_in, natural, natural_if_there, natural_or_absent,
+    object_or_empty, place, row_in, table_in, up_to,
 };
 use crate::request::{
     ChangeRequest, KeyLookUpRequest, NumberLookUpRequest, Request, SessionCommand,
@@ -116,175 +118,181 @@ impl CommandName {
     }
 }
 
-#[inline(never)]
-fn insert_in<'a>(members: &Object<'a>) -> Option<ChangeRequest<'a>>
-    ensures { result ≡ commands.insert_in members.now }
+/// The change of the table that the members name.
+#[inline(always)]
+fn change_of<'a>(members: &Object<'a>, change: ChangeRequest<'a>) -> Option<Request<'a>>
+    ensures { result ≡ option_map₂ request.Change (commands.table_in members.now) (Some change.entry) }
 {
-    let row = object(members, "row")?;
+    let table = table_in(members)?;
+    Some(Request::Change { table, change })
+}
+
+/// The look-up by numbers of the table that the members name.
+#[inline(always)]
+fn look_up_by_numbers<'a>(
+    members: &Object<'a>,
+    look_up: NumberLookUpRequest<'a>,
+) -> Option<Request<'a>>
+    ensures { result ≡ option_map₂ request.NumberLookUp (commands.table_in members.now) (Some look_up.entry) }
+{
+    let table = table_in(members)?;
+    Some(Request::NumberLookUp { table, look_up })
+}
+
+/// The look-up by keys of the table that the members name.
+#[inline(always)]
+fn look_up_by_keys<'a>(members: &Object<'a>, look_up: KeyLookUpRequest<'a>) -> Option<Request<'a>>
+    ensures { result ≡ option_map₂ request.KeyLookUp (commands.table_in members.now) (Some look_up.entry) }
+{
+    let table = table_in(members)?;
+    Some(Request::KeyLookUp { table, look_up })
+}
+
+#[inline(never)]
+fn insert_in<'a>(members: &Object<'a>) -> Option<Request<'a>>
+    ensures { result ≡ asked (a_change commands.insert_in) members.now }
+{
+    let row = row_in(members)?;
     let before = place(members, "before")?;
-    Some(ChangeRequest::Insert { row, before })
+    change_of(members, ChangeRequest::Insert { row, before })
 }
 
 #[inline(never)]
-fn replace_in<'a>(members: &Object<'a>) -> Option<ChangeRequest<'a>>
-    ensures { result ≡ commands.replace_in members.now }
+fn replace_in<'a>(members: &Object<'a>) -> Option<Request<'a>>
+    ensures { result ≡ asked (a_change commands.replace_in) members.now }
 {
-    let id = natural(members, "id")?;
-    let row = object(members, "row")?;
-    Some(ChangeRequest::Replace { id, row })
+    let id = id_in(members)?;
+    let row = row_in(members)?;
+    change_of(members, ChangeRequest::Replace { id, row })
 }
 
 #[inline(never)]
-fn modify_in<'a>(members: &Object<'a>) -> Option<ChangeRequest<'a>>
-    ensures { result ≡ commands.modify_in members.now }
+fn modify_in<'a>(members: &Object<'a>) -> Option<Request<'a>>
+    ensures { result ≡ asked (a_change commands.modify_in) members.now }
 {
-    let id = natural(members, "id")?;
+    let id = id_in(members)?;
     let set = object_or_empty(members, "set")?;
     let add = object_or_empty(members, "add")?;
     let rollback = flag(members, "rollback")?;
-    Some(ChangeRequest::Modify {
-        id,
-        set,
-        add,
-        rollback,
-    })
+    change_of(
+        members,
+        ChangeRequest::Modify {
+            id,
+            set,
+            add,
+            rollback,
+        },
+    )
 }
 
 #[inline(never)]
-fn erase_in<'a>(members: &Object<'a>) -> Option<ChangeRequest<'a>>
-    ensures { result ≡ commands.erase_in members.now }
+fn erase_in<'a>(members: &Object<'a>) -> Option<Request<'a>>
+    ensures { result ≡ asked (a_change commands.erase_in) members.now }
 {
-    let id = natural(members, "id")?;
-    Some(ChangeRequest::Erase { id })
+    let id = id_in(members)?;
+    change_of(members, ChangeRequest::Erase { id })
 }
 
 #[inline(never)]
-fn relocate_in<'a>(members: &Object<'a>) -> Option<ChangeRequest<'a>>
-    ensures { result ≡ commands.relocate_in members.now }
+fn relocate_in<'a>(members: &Object<'a>) -> Option<Request<'a>>
+    ensures { result ≡ asked (a_change commands.relocate_in) members.now }
 {
-    let index = text(members, "index")?;
-    let id = natural(members, "id")?;
+    let index = index_in(members)?;
+    let id = id_in(members)?;
     let before = natural_if_there(members, "before")?;
-    Some(ChangeRequest::Relocate { index, id, before })
+    change_of(members, ChangeRequest::Relocate { index, id, before })
 }
 
 #[inline(never)]
-fn commit_in(members: &Object<'_>) -> Option<SessionCommand>
-    ensures { result ≡ commands.commit_in members.now }
+fn commit_in<'a>(members: &Object<'_>) -> Option<Request<'a>>
+    ensures { result ≡ asked (of_sessions commands.commit_in) members.now }
 {
     let revision = natural(members, "revision")?;
-    Some(SessionCommand::Commit { revision })
+    Some(Request::Session(SessionCommand::Commit { revision }))
 }
 
 #[inline(never)]
-fn reserve_in(members: &Object<'_>) -> Option<SessionCommand>
-    ensures { result ≡ commands.reserve_in members.now }
+fn reserve_in<'a>(members: &Object<'_>) -> Option<Request<'a>>
+    ensures { result ≡ asked (of_sessions commands.reserve_in) members.now }
 {
     let changes = up_to(members, "changes", MAX_RESERVED_CHANGES)?;
     let sessions = up_to(members, "sessions", MAX_RESERVED_SESSIONS)?;
-    Some(SessionCommand::Reserve { changes, sessions })
+    Some(Request::Session(SessionCommand::Reserve { changes, sessions }))
 }
 
 #[inline(never)]
-fn get_in<'a>(members: &Object<'a>) -> Option<NumberLookUpRequest<'a>>
-    ensures { result ≡ commands.get_in members.now }
+fn get_in<'a>(members: &Object<'a>) -> Option<Request<'a>>
+    ensures { result ≡ asked (a_number_look_up commands.get_in) members.now }
 {
-    let id = natural(members, "id")?;
-    Some(NumberLookUpRequest::Get { id })
+    let id = id_in(members)?;
+    look_up_by_numbers(members, NumberLookUpRequest::Get { id })
 }
 
 #[inline(never)]
-fn nth_in<'a>(members: &Object<'a>) -> Option<NumberLookUpRequest<'a>>
-    ensures { result ≡ commands.nth_in members.now }
+fn nth_in<'a>(members: &Object<'a>) -> Option<Request<'a>>
+    ensures { result ≡ asked (a_number_look_up commands.nth_in) members.now }
 {
-    let index = text(members, "index")?;
+    let index = index_in(members)?;
     let n = natural(members, "n")?;
-    Some(NumberLookUpRequest::Nth { index, n })
+    look_up_by_numbers(members, NumberLookUpRequest::Nth { index, n })
 }
 
 #[inline(never)]
-fn range_in<'a>(members: &Object<'a>) -> Option<KeyLookUpRequest<'a>>
-    ensures { result ≡ commands.range_in members.now }
+fn list_in<'a>(members: &Object<'a>) -> Option<Request<'a>>
+    ensures { result ≡ asked (a_number_look_up commands.list_in) members.now }
 {
-    let index = text(members, "index")?;
+    let index = index_in(members)?;
+    let after = natural_or_absent(members, "after")?;
+    let limit = limit_in(members)?;
+    look_up_by_numbers(
+        members,
+        NumberLookUpRequest::List {
+            index,
+            after,
+            limit,
+        },
+    )
+}
+
+#[inline(never)]
+fn rank_in<'a>(members: &Object<'a>) -> Option<Request<'a>>
+    ensures { result ≡ asked (a_number_look_up commands.rank_in) members.now }
+{
+    let index = index_in(members)?;
+    let id = id_in(members)?;
+    look_up_by_numbers(members, NumberLookUpRequest::Rank { index, id })
+}
+
+#[inline(never)]
+fn range_in<'a>(members: &Object<'a>) -> Option<Request<'a>>
+    ensures { result ≡ asked (a_key_look_up commands.range_in) members.now }
+{
+    let index = index_in(members)?;
     let lower = end(members, "lower", "ge", "gt")?;
     let upper = end(members, "upper", "le", "lt")?;
     let reverse = flag(members, "reverse")?;
-    let limit = page(members, "limit")?;
-    Some(KeyLookUpRequest::Range {
-        index,
-        lower,
-        upper,
-        reverse,
-        limit,
-    })
+    let limit = limit_in(members)?;
+    look_up_by_keys(
+        members,
+        KeyLookUpRequest::Range {
+            index,
+            lower,
+            upper,
+            reverse,
+            limit,
+        },
+    )
 }
 
-#[inline(never)]
-fn list_in<'a>(members: &Object<'a>) -> Option<NumberLookUpRequest<'a>>
-    ensures { result ≡ commands.list_in members.now }
-{
-    let index = text(members, "index")?;
-    let after = natural_or_absent(members, "after")?;
-    let limit = page(members, "limit")?;
-    Some(NumberLookUpRequest::List {
-        index,
-        after,
-        limit,
-    })
-}
-
-#[inline(never)]
-fn rank_in<'a>(members: &Object<'a>) -> Option<NumberLookUpRequest<'a>>
-    ensures { result ≡ commands.rank_in members.now }
-{
-    let index = text(members, "index")?;
-    let id = natural(members, "id")?;
-    Some(NumberLookUpRequest::Rank { index, id })
-}
-
-/// A command over a key of the table and the index that the members name.
+/// The command over a key of the table and the index that the members name.
 #[inline(never)]
 fn keyed_request<'a>(members: &Object<'a>, command: KeyCommand) -> Option<Request<'a>>
     ensures { result ≡ asked (asks_key command) members.now }
 {
-    let table = text_if_there(members, "table")?;
-    let index = text(members, "index")?;
-    let key = array(members, "key")?;
+    let table = table_in(members)?;
+    let index = index_in(members)?;
+    let key = key_in(members)?;
     Some(command.request(table, index, key))
-}
-
-/// A change, if there is one, of the table that the members name.
-fn change_of<'a>(members: &Object<'a>, change: Option<ChangeRequest<'a>>) -> Option<Request<'a>>
-    ensures { result ≡ option_map₂ request.Change (table_in members.now) change.entry }
-{
-    let table = text_if_there(members, "table")?;
-    let change = change?;
-    Some(Request::Change { table, change })
-}
-
-/// A look-up by numbers, if there is one, of the table that the members name.
-fn number_look_up_of<'a>(
-    members: &Object<'a>,
-    look_up: Option<NumberLookUpRequest<'a>>,
-) -> Option<Request<'a>>
-    ensures { result ≡ option_map₂ request.NumberLookUp (table_in members.now) look_up.entry }
-{
-    let table = text_if_there(members, "table")?;
-    let look_up = look_up?;
-    Some(Request::NumberLookUp { table, look_up })
-}
-
-/// A look-up by keys, if there is one, of the table that the members name.
-fn key_look_up_of<'a>(
-    members: &Object<'a>,
-    look_up: Option<KeyLookUpRequest<'a>>,
-) -> Option<Request<'a>>
-    ensures { result ≡ option_map₂ request.KeyLookUp (table_in members.now) look_up.entry }
-{
-    let table = text_if_there(members, "table")?;
-    let look_up = look_up?;
-    Some(Request::KeyLookUp { table, look_up })
 }
 
 /// The request that the members of a command are.
@@ -295,20 +303,20 @@ pub(crate) fn request_by<'a>(name: CommandName, members: &Object<'a>) -> Option<
         return None;
     }
     match name {
-        CommandName::Insert => change_of(members, insert_in(members)),
-        CommandName::Replace => change_of(members, replace_in(members)),
-        CommandName::Modify => change_of(members, modify_in(members)),
-        CommandName::Erase => change_of(members, erase_in(members)),
+        CommandName::Insert => insert_in(members),
+        CommandName::Replace => replace_in(members),
+        CommandName::Modify => modify_in(members),
+        CommandName::Erase => erase_in(members),
         CommandName::Keyed(command) => keyed_request(members, command),
-        CommandName::Relocate => change_of(members, relocate_in(members)),
+        CommandName::Relocate => relocate_in(members),
         CommandName::Bare(bare) => Some(Request::Session(bare.command())),
-        CommandName::Commit => Some(Request::Session(commit_in(members)?)),
-        CommandName::Reserve => Some(Request::Session(reserve_in(members)?)),
-        CommandName::Get => number_look_up_of(members, get_in(members)),
-        CommandName::Nth => number_look_up_of(members, nth_in(members)),
-        CommandName::Range => key_look_up_of(members, range_in(members)),
-        CommandName::List => number_look_up_of(members, list_in(members)),
-        CommandName::Rank => number_look_up_of(members, rank_in(members)),
-        CommandName::Size => number_look_up_of(members, Some(NumberLookUpRequest::Size)),
+        CommandName::Commit => commit_in(members),
+        CommandName::Reserve => reserve_in(members),
+        CommandName::Get => get_in(members),
+        CommandName::Nth => nth_in(members),
+        CommandName::Range => range_in(members),
+        CommandName::List => list_in(members),
+        CommandName::Rank => rank_in(members),
+        CommandName::Size => look_up_by_numbers(members, NumberLookUpRequest::Size),
     }
 }

@@ -1,5 +1,5 @@
 //! What each kind of member is. It knows no command.
-ghost use Rattle.std.specs.Prelude.{◌≡◌, option_map, option_and_then, None, false};
+ghost use Rattle.std.specs.Prelude.{◌≡◌, option_map, option_and_then, None, false, codes};
 ghost use Rattle.serde_json.specs.Data.{no_members};
 ghost use Rattle.serde_json.specs.Find.{as_str, as_array, as_bool, as_object};
 ghost use Rattle.mi_tokens.specs.Meaning.{meaning};
@@ -16,6 +16,7 @@ use crate::request::{End, NamedPlace};
 use mi_tokens::Json;
 use mi_value::limits::MAX_PAGE;
 
+#[inline(always)]
 fn name_of<'a>(value: &Json<'a>) -> Option<Name<'a>>
     ensures { result ≡ as_str (meaning value.now) }
 {
@@ -40,27 +41,43 @@ fn natural_or_null(value: &Json<'_>) -> Option<Option<u64>>
 }
 
 /// The text of a member.
+#[inline(always)]
 pub(crate) fn text<'a>(object: &Object<'a>, name: &str) -> Option<Name<'a>>
     ensures { result ≡ needed as_str name.now object.now }
 {
     name_of(object.get(name)?)
 }
 
-/// The text of a member that may be absent.
-pub(crate) fn text_if_there<'a>(object: &Object<'a>, name: &str) -> Option<Option<Name<'a>>>
-    ensures { result ≡ optional as_str name.now object.now }
+/// The index that members name.
+pub(crate) fn index_in<'a>(members: &Object<'a>) -> Option<Name<'a>>
+    ensures { result ≡ commands.index_in members.now }
 {
-    match object.get(name) {
+    text(members, "index")
+}
+
+/// The table that members name, if they name one.
+pub(crate) fn table_in<'a>(members: &Object<'a>) -> Option<Option<Name<'a>>>
+    ensures { result ≡ commands.table_in members.now }
+{
+    match members.get("table") {
         Some(value) => Some(Some(name_of(value)?)),
         None => Some(None),
     }
 }
 
 /// A whole number from 0.
+#[inline(always)]
 pub(crate) fn natural(object: &Object<'_>, name: &str) -> Option<u64>
     ensures { result ≡ needed kinds.natural name.now object.now }
 {
     natural_of(object.get(name)?)
+}
+
+/// The id of a record that members name.
+pub(crate) fn id_in(members: &Object<'_>) -> Option<u64>
+    ensures { result ≡ commands.id_in members.now }
+{
+    natural(members, "id")
 }
 
 /// A whole number from 0; null is as absent.
@@ -93,18 +110,12 @@ pub(crate) fn flag(object: &Object<'_>, name: &str) -> Option<bool>
     }
 }
 
-fn up_to_of(value: &Json<'_>, most: u64) -> Option<u64>
-    ensures { result ≡ commands.up_to most (meaning value.now) }
-{
-    let n = natural_of(value)?;
-    if n <= most { Some(n) } else { None }
-}
-
 /// A whole number from 0 to `most`.
 pub(crate) fn up_to(object: &Object<'_>, name: &str, most: u64) -> Option<u64>
     ensures { result ≡ needed (commands.up_to most) name.now object.now }
 {
-    up_to_of(object.get(name)?, most)
+    let n = natural_of(object.get(name)?)?;
+    if n <= most { Some(n) } else { None }
 }
 
 /// A number of rows, 1 to 1,000.
@@ -119,18 +130,12 @@ pub(crate) fn if_page(n: u64) -> Option<usize>
     }
 }
 
-fn page_of(value: &Json<'_>) -> Option<usize>
-    ensures { result ≡ commands.page (meaning value.now) }
-{
-    if_page(natural_of(value)?)
-}
-
 /// A number of rows, 1 to 1,000; absent it is 1,000.
-pub(crate) fn page(object: &Object<'_>, name: &str) -> Option<usize>
-    ensures { result ≡ default MAX_PAGE commands.page name.now object.now }
+pub(crate) fn limit_in(members: &Object<'_>) -> Option<usize>
+    ensures { result ≡ commands.limit_in members.now }
 {
-    match object.get(name) {
-        Some(value) => page_of(value),
+    match members.get("limit") {
+        Some(value) => if_page(natural_of(value)?),
         None => Some(MAX_PAGE),
     }
 }
@@ -148,11 +153,11 @@ fn array_of<'a>(value: &Json<'a>) -> Option<Array<'a>>
     Some(Array::new(value.as_items()?))
 }
 
-/// The object of a member.
-pub(crate) fn object<'a>(object: &Object<'a>, name: &str) -> Option<Object<'a>>
-    ensures { result ≡ needed as_object name.now object.now }
+/// The row that members have.
+pub(crate) fn row_in<'a>(members: &Object<'a>) -> Option<Object<'a>>
+    ensures { result ≡ needed as_object (codes "row") members.now }
 {
-    object_of(object.get(name)?)
+    object_of(members.get("row")?)
 }
 
 /// An object; absent it has no members.
@@ -165,11 +170,11 @@ pub(crate) fn object_or_empty<'a>(object: &Object<'a>, name: &str) -> Option<Obj
     }
 }
 
-/// The array of a member.
-pub(crate) fn array<'a>(object: &Object<'a>, name: &str) -> Option<Array<'a>>
-    ensures { result ≡ needed as_array name.now object.now }
+/// The key that members have.
+pub(crate) fn key_in<'a>(members: &Object<'a>) -> Option<Array<'a>>
+    ensures { result ≡ commands.key_in members.now }
 {
-    array_of(object.get(name)?)
+    array_of(members.get("key")?)
 }
 
 /// The place that an object with exactly `index` and `id` names.
@@ -179,8 +184,8 @@ fn place_of<'a>(object: &Object<'a>) -> Option<NamedPlace<'a>>
     if !object.has_only(&["index", "id"]) {
         return None;
     }
-    let index = text(object, "index")?;
-    let id = natural(object, "id")?;
+    let index = index_in(object)?;
+    let id = id_in(object)?;
     Some(NamedPlace { index, id })
 }
 

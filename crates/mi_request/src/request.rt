@@ -1,17 +1,15 @@
 //! From a JSON value to a request. It knows no catalog.
-ghost use Rattle.std.specs.Prelude.{◌≡◌, codes, option_and_then};
-ghost use Rattle.serde_json.specs.Find.{as_str};
+ghost use Rattle.std.specs.Prelude.{◌≡◌};
 ghost use Rattle.mi_tokens.specs.Meaning.{meaning};
 ghost use Rattle.mi_request.specs.Commands as commands;
-ghost use Rattle.mi_request.specs.Commands.{command_named, session_keeps_out};
-ghost use Rattle.mi_request.specs.Json.{needed};
+ghost use Rattle.mi_request.specs.Commands.{session_keeps_out};
 ghost use Rattle.mi_request.specs.Lines as lines;
 
 use crate::array::Array;
 use crate::forms::{CommandName, request_by};
 use crate::name::Name;
 use crate::object::Object;
-use crate::reading::object_of;
+use crate::reading::{object_of, text};
 use mi_tokens::Json;
 
 /// A place in a sequenced index, by its name: directly before the record of this id, 0 to 2^63 - 1.
@@ -179,18 +177,17 @@ pub enum ShortRequest<'a> {
     Session(SessionCommand),
 }
 
-/// The command that `cmd` names.
-fn name_in(object: &Object<'_>) -> Option<CommandName>
-    ensures { result ≡ option_and_then command_named (needed as_str (codes "cmd") object.now) }
+/// The request that an object is: `cmd` names its command.
+fn request_in<'a>(object: &Object<'a>) -> Option<Request<'a>>
+    ensures { result ≡ lines.request_in object.now }
 {
-    CommandName::of(object.get("cmd")?.as_str()?)
+    let name = CommandName::of(text(object, "cmd")?.as_str())?;
+    request_by(name, object)
 }
 
 /// The request that a JSON value is.
 pub(crate) fn request_of<'a>(value: &Json<'a>) -> Option<Request<'a>>
     ensures { result ≡ lines.request_of (meaning value.now) }
 {
-    let object = object_of(value)?;
-    let name = name_in(&object)?;
-    request_by(name, &object)
+    request_in(&object_of(value)?)
 }

@@ -1,8 +1,9 @@
 //! Lines whose members are names and whole numbers, read where they stand as they are written without spaces. It takes no memory.
-ghost use Rattle.std.specs.Prelude.{◌≡◌, ◌∷◌, [], ℕ, List, IfSome, IsSome, is_some, Option, Some, codes, option_map};
+ghost use Rattle.std.specs.Prelude.{◌≡◌, ◌∷◌, [], ℕ, List, IfSome, IsSome, is_some, Option, Some, codes, option_map, option_and_then};
 ghost use Rattle.mi_request.specs.Bare.{bare_line};
-ghost use Rattle.mi_request.specs.Short.{short_line, asked_short, table_is, index_is, id_is, whole, whole_front};
-ghost use Rattle.mi_request.specs.ShortCode.{IsRead, read_members, a_name, perhaps_name, a_whole, perhaps_whole};
+ghost use Rattle.mi_request.specs.Short.{short_line, asked_short, table_is, index_is, id_is, whole, maybe_whole, whole_front};
+ghost use Rattle.mi_request.specs.ShortCode as code;
+ghost use Rattle.mi_request.specs.ShortCode.{IsRead, Template, read_members, a_name, perhaps_name, a_whole, perhaps_whole};
 ghost use Rattle.mi_request.specs.declared.request.ChangeRequest.{ChangeRequest as AskedChange};
 ghost use Rattle.mi_request.specs.declared.request.Request.TheVariants as request;
 
@@ -16,48 +17,54 @@ use crate::words::{
 /// Where the third letter of the command's name stands in such a line.
 const LETTER_AT: usize = 10;
 
-/// A record by its id: the members of a get and of an erase.
-#[derive(Drop)]
-struct RecordIn<'a> {
-    table: Option<Name<'a>>,
-    id: u64,
-}
-
-/// Its members, to the end of the line.
+/// The table behind a front, if it is named, and what stands behind it.
 #[inline(always)]
-fn record_of(text: &[u8]) -> Option<RecordIn<'_>>
-    ensures { option_map (λ m. table_is m.table ∷ id_is m.id ∷ []) result
-        ≡ read_members ((codes "table", perhaps_name) ∷ (codes "id", a_whole) ∷ []) text.now }
+fn table_of<'a>(front: &[u8], line: &'a [u8]) -> Option<(Option<Name<'a>>, &'a [u8])>
+    ensures { (hs : Template) → option_and_then (read_members ((codes "table", perhaps_name) ∷ hs)) (code.behind front.now line.now)
+        ≡ option_and_then (λ p. option_map (λ ms. table_is p.0 ∷ ms) (read_members hs p.1.now)) result }
 {
-    let (table, rest) = maybe_name_behind(b",\"table\":\"".as_slice(), text)?;
-    let (id, rest) = whole_behind(b",\"id\":".as_slice(), rest)?;
-    if is_end(rest) {
-        Some(RecordIn { table, id })
-    } else {
-        None
-    }
+    maybe_name_behind(b",\"table\":\"", behind(front, line)?)
 }
 
-/// A number in an index: the members of a rank and of an nth.
+/// An index of a table, and what stands behind its name.
 #[derive(Drop)]
-struct NumberIn<'a> {
+struct IndexIn<'a> {
     table: Option<Name<'a>>,
     index: Name<'a>,
-    n: u64,
+    rest: &'a [u8],
 }
 
-/// Its members, the number behind this front, to the end of the line.
+/// The index behind a front.
 #[inline(always)]
-fn number_of<'a>(front: &[u8], text: &'a [u8]) -> Option<NumberIn<'a>>
-    ensures { (name : List ℕ) → front.now ≡ whole_front name
-        → option_map (λ m. table_is m.table ∷ index_is m.index ∷ (name, whole m.n) ∷ []) result
-        ≡ read_members ((codes "table", perhaps_name) ∷ (codes "index", a_name) ∷ (name, a_whole) ∷ []) text.now }
+fn index_of<'a>(front: &[u8], line: &'a [u8]) -> Option<IndexIn<'a>>
+    ensures { (hs : Template) → option_and_then (read_members ((codes "table", perhaps_name) ∷ (codes "index", a_name) ∷ hs)) (code.behind front.now line.now)
+        ≡ option_and_then (λ p. option_map (λ ms. table_is p.table ∷ index_is p.index ∷ ms) (read_members hs p.rest.now)) result }
 {
-    let (table, rest) = maybe_name_behind(b",\"table\":\"".as_slice(), text)?;
-    let (index, rest) = name_behind(b",\"index\":\"".as_slice(), rest)?;
-    let (n, rest) = whole_behind(front, rest)?;
+    let (table, rest) = table_of(front, line)?;
+    let (index, rest) = name_behind(b",\"index\":\"", rest)?;
+    Some(IndexIn { table, index, rest })
+}
+
+/// The number behind this front, at the end of the line.
+#[inline(always)]
+fn last_whole(front: &[u8], text: &[u8]) -> Option<u64>
+    ensures { (name : List ℕ) → front.now ≡ whole_front name
+        → read_members ((name, a_whole) ∷ []) text.now ≡ option_map (λ n. (name, whole n) ∷ []) result }
+{
+    let (n, rest) = whole_behind(front, text)?;
+    if is_end(rest) { Some(n) } else { None }
+}
+
+/// The ids of a relocation, at the end of the line: of the record, and of the one before which it goes, if there is one.
+#[inline(always)]
+fn ids_of(text: &[u8]) -> Option<(u64, Option<u64>)>
+    ensures { read_members ((codes "id", a_whole) ∷ (codes "before", perhaps_whole) ∷ []) text.now
+        ≡ option_map (λ p. id_is p.0 ∷ (codes "before", maybe_whole p.1) ∷ []) result }
+{
+    let (id, rest) = whole_behind(b",\"id\":", text)?;
+    let (before, rest) = maybe_whole_behind(b",\"before\":", rest)?;
     if is_end(rest) {
-        Some(NumberIn { table, index, n })
+        Some((id, before))
     } else {
         None
     }
@@ -68,10 +75,11 @@ fn number_of<'a>(front: &[u8], text: &'a [u8]) -> Option<NumberIn<'a>>
 fn get(line: &[u8]) -> Option<ShortRequest<'_>>
     ensures { IsRead (codes "get") ((codes "table", perhaps_name) ∷ (codes "id", a_whole) ∷ []) line.now (option_map asked_short result) }
 {
-    let members = record_of(behind(b"{\"cmd\":\"get\"".as_slice(), line)?)?;
+    let (table, rest) = table_of(b"{\"cmd\":\"get\"", line)?;
+    let id = last_whole(b",\"id\":", rest)?;
     Some(ShortRequest::NumberLookUp {
-        table: members.table,
-        look_up: NumberLookUpRequest::Get { id: members.id },
+        table,
+        look_up: NumberLookUpRequest::Get { id },
     })
 }
 
@@ -80,10 +88,11 @@ fn get(line: &[u8]) -> Option<ShortRequest<'_>>
 fn erase(line: &[u8]) -> Option<Request<'_>>
     ensures { IsRead (codes "erase") ((codes "table", perhaps_name) ∷ (codes "id", a_whole) ∷ []) line.now result }
 {
-    let members = record_of(behind(b"{\"cmd\":\"erase\"".as_slice(), line)?)?;
+    let (table, rest) = table_of(b"{\"cmd\":\"erase\"", line)?;
+    let id = last_whole(b",\"id\":", rest)?;
     Some(Request::Change {
-        table: members.table,
-        change: ChangeRequest::Erase { id: members.id },
+        table,
+        change: ChangeRequest::Erase { id },
     })
 }
 
@@ -92,13 +101,13 @@ fn erase(line: &[u8]) -> Option<Request<'_>>
 fn rank(line: &[u8]) -> Option<ShortRequest<'_>>
     ensures { IsRead (codes "rank") ((codes "table", perhaps_name) ∷ (codes "index", a_name) ∷ (codes "id", a_whole) ∷ []) line.now (option_map asked_short result) }
 {
-    let rest = behind(b"{\"cmd\":\"rank\"".as_slice(), line)?;
-    let members = number_of(b",\"id\":".as_slice(), rest)?;
+    let at = index_of(b"{\"cmd\":\"rank\"", line)?;
+    let id = last_whole(b",\"id\":", at.rest)?;
     Some(ShortRequest::NumberLookUp {
-        table: members.table,
+        table: at.table,
         look_up: NumberLookUpRequest::Rank {
-            index: members.index,
-            id: members.n,
+            index: at.index,
+            id,
         },
     })
 }
@@ -108,14 +117,11 @@ fn rank(line: &[u8]) -> Option<ShortRequest<'_>>
 fn nth(line: &[u8]) -> Option<ShortRequest<'_>>
     ensures { IsRead (codes "nth") ((codes "table", perhaps_name) ∷ (codes "index", a_name) ∷ (codes "n", a_whole) ∷ []) line.now (option_map asked_short result) }
 {
-    let rest = behind(b"{\"cmd\":\"nth\"".as_slice(), line)?;
-    let members = number_of(b",\"n\":".as_slice(), rest)?;
+    let at = index_of(b"{\"cmd\":\"nth\"", line)?;
+    let n = last_whole(b",\"n\":", at.rest)?;
     Some(ShortRequest::NumberLookUp {
-        table: members.table,
-        look_up: NumberLookUpRequest::Nth {
-            index: members.index,
-            n: members.n,
-        },
+        table: at.table,
+        look_up: NumberLookUpRequest::Nth { index: at.index, n },
     })
 }
 
@@ -124,16 +130,14 @@ fn nth(line: &[u8]) -> Option<ShortRequest<'_>>
 fn size(line: &[u8]) -> Option<ShortRequest<'_>>
     ensures { IsRead (codes "size") ((codes "table", perhaps_name) ∷ []) line.now (option_map asked_short result) }
 {
-    let rest = behind(b"{\"cmd\":\"size\"".as_slice(), line)?;
-    let (table, rest) = maybe_name_behind(b",\"table\":\"".as_slice(), rest)?;
-    if is_end(rest) {
-        Some(ShortRequest::NumberLookUp {
-            table,
-            look_up: NumberLookUpRequest::Size,
-        })
-    } else {
-        None
+    let (table, rest) = table_of(b"{\"cmd\":\"size\"", line)?;
+    if !is_end(rest) {
+        return None;
     }
+    Some(ShortRequest::NumberLookUp {
+        table,
+        look_up: NumberLookUpRequest::Size,
+    })
 }
 
 /// The line of a commit.
@@ -141,13 +145,9 @@ fn size(line: &[u8]) -> Option<ShortRequest<'_>>
 fn commit(line: &[u8]) -> Option<ShortRequest<'_>>
     ensures { IsRead (codes "commit") ((codes "revision", a_whole) ∷ []) line.now (option_map asked_short result) }
 {
-    let rest = behind(b"{\"cmd\":\"commit\"".as_slice(), line)?;
-    let (revision, rest) = whole_behind(b",\"revision\":".as_slice(), rest)?;
-    if is_end(rest) {
-        Some(ShortRequest::Session(SessionCommand::Commit { revision }))
-    } else {
-        None
-    }
+    let rest = behind(b"{\"cmd\":\"commit\"", line)?;
+    let revision = last_whole(b",\"revision\":", rest)?;
+    Some(ShortRequest::Session(SessionCommand::Commit { revision }))
 }
 
 /// The line of a relocation, before a record or to the end.
@@ -156,19 +156,16 @@ fn relocate(line: &[u8]) -> Option<Request<'_>>
     ensures { IsRead (codes "relocate")
         ((codes "table", perhaps_name) ∷ (codes "index", a_name) ∷ (codes "id", a_whole) ∷ (codes "before", perhaps_whole) ∷ []) line.now result }
 {
-    let rest = behind(b"{\"cmd\":\"relocate\"".as_slice(), line)?;
-    let (table, rest) = maybe_name_behind(b",\"table\":\"".as_slice(), rest)?;
-    let (index, rest) = name_behind(b",\"index\":\"".as_slice(), rest)?;
-    let (id, rest) = whole_behind(b",\"id\":".as_slice(), rest)?;
-    let (before, rest) = maybe_whole_behind(b",\"before\":".as_slice(), rest)?;
-    if is_end(rest) {
-        Some(Request::Change {
-            table,
-            change: ChangeRequest::Relocate { index, id, before },
-        })
-    } else {
-        None
-    }
+    let at = index_of(b"{\"cmd\":\"relocate\"", line)?;
+    let (id, before) = ids_of(at.rest)?;
+    Some(Request::Change {
+        table: at.table,
+        change: ChangeRequest::Relocate {
+            index: at.index,
+            id,
+            before,
+        },
+    })
 }
 
 /// The command without members that a line is.

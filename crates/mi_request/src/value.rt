@@ -29,6 +29,20 @@ fn owned_value(alloc: Global, text: &str) -> Result<Value, Refusal>
     }
 }
 
+/// The same, which stays in `kept`, and is lent from there.
+fn kept_value<'a>(
+    alloc: Global,
+    arena: &'a Bump,
+    kept: &'a mut Value,
+    text: &str,
+) -> Result<Json<'a>, Refusal>
+    ensures ok { IfOk result (λ v. read text.now ≡ Some (meaning v)) }
+    ensures err { IfErr result (λ e. (e ≡ Refusal.Memory) ⊎ ((e ≡ Refusal.Json) × (read text.now ≡ None))) }
+{
+    *kept = owned_value(alloc, text)?;
+    Ok(lend(arena, kept)?)
+}
+
 /// The value that bytes are. One that `serde_json` read stays in `kept`, which lends its texts. Refusals: `Json` where the bytes are not
 /// UTF-8 or no JSON, and `Memory`.
 pub(crate) fn read_value<'a>(
@@ -43,9 +57,8 @@ pub(crate) fn read_value<'a>(
     let Ok(text) = text_of(bytes) else {
         return Err(Refusal::Json);
     };
-    if let Some(value) = pass_text(arena, text) {
-        return Ok(value);
+    match pass_text(arena, text) {
+        Some(value) => Ok(value),
+        None => kept_value(alloc, arena, kept, text),
     }
-    *kept = owned_value(alloc, text)?;
-    Ok(lend(arena, kept)?)
 }

@@ -1,15 +1,14 @@
 -- The table, the id, what is set and what is added are all that such a modify has.
-use Rattle.std.proofs.Common.{codes, refl, subst}
+use Rattle.std.proofs.Common.{codes, refl}
 use Rattle.json.specs.Print.{escape_byte}
 use Rattle.serde_json.specs.Data.{put}
-use Rattle.mi_request.specs.Flat.{IsRest, put_if, named}
-use Rattle.mi_request.proofs.FlatLemmas.{rest_end, rest_member, rest_maybe, line_means, modify_asked}
+use Rattle.mi_request.specs.Flat.{put_if, named}
+use Rattle.mi_request.proofs.FlatLemmas.{rest_end, rest_member, rest_maybe, modify_asked, line_from}
 use Rattle.mi_request.proofs.flat.modify.Goals as goal
 
 pub returns : goal.returns
 unfolding escape_byte
 returns c =
-    let b = c.in_ok-tokens.ensures in
     let t = c.in_ok-table.ensures in
     let i = c.in_ok-id.ensures (codes "id") refl refl in
     let s = c.in_ok-set.ensures (codes "set") refl refl in
@@ -21,6 +20,5 @@ returns c =
     let add = rest_maybe _ _ (codes "add") a.0 third all a.1 (rest_end _ all (c.if-not-take_end.ensures refl)) in
     let set = rest_maybe _ _ (codes "set") s.0 second all s.1 add in
     let id = rest_member _ _ (codes "id") i.0 first all i.1 set in
-    let rest = rest_maybe _ _ (codes "table") t.0 (named (codes "modify")) all t.1 id in
-    line_means (codes "modify") c.args.text.now b.0 all _ refl b.1 c.utf8.text (subst (λ ts. IsRest ts (named (codes "modify")) all) b.2 rest)
+    line_from (codes "modify") c.args.text.now _ _ t.0 all _ refl c.utf8.text c.in_ok-tokens.ensures t.1 id
     (modify_asked t.0 i.0 s.0 a.0 _ _ _ _ t.2 i.2 s.2 a.2)

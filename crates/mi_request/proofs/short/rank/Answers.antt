@@ -1,33 +1,22 @@
--- The members of a rank stand behind its command, and nothing else.
-use Rattle.std.proofs.Common.{◌≡◌, ◌∷◌, [], List, None, codes, option_map, refl, ap, sym, ◌∙◌, rules}
-use Rattle.mi_request.specs.Short.{Member, whole, table_is, index_is, asked_short}
+-- The index and the id stand behind the command, and nothing else.
+use Rattle.std.proofs.Common.{◌∷◌, [], Some, codes, option_map, refl, ap, sym, ◌∙◌}
+use Rattle.mi_request.specs.Short.{table_is, index_is, asked_short}
 use Rattle.mi_request.specs.ShortCode.{a_name, a_whole, perhaps_name, Template}
-use Rattle.mi_request.specs.declared.request.NumberLookUpRequest.TheVariants as by_number
-use Rattle.mi_request.specs.declared.request.Request.TheVariants as request
-use Rattle.mi_request.specs.declared.short.NumberIn.{NumberIn}
-use Rattle.mi_request.proofs.WordLemmas.{line_from, not_read, was_read}
+use Rattle.mi_request.proofs.WordLemmas.{not_read}
 use Rattle.mi_request.proofs.short.rank.Goals as goal
 
-abbrev members : Template
-members = (codes "table", perhaps_name) ∷ (codes "index", a_name) ∷ (codes "id", a_whole) ∷ []
+abbrev last : Template
+last = (codes "id", a_whole) ∷ []
 
-abbrev words : NumberIn → List Member
-words m = table_is m.table ∷ index_is m.index ∷ (codes "id", whole m.n) ∷ []
+pub returns-in_err-at : goal.returns-in_err-at
+returns-in_err-at c = not_read (codes "rank") ((codes "table", perhaps_name) ∷ (codes "index", a_name) ∷ last) c.args.line.now _ (ap (option_map asked_short) c.from_residual.ensures) (c.in_err-at.ensures last)
 
-pub returns-in_err-members : goal.returns-in_err-members
-returns-in_err-members c =
-    let command : c.as_slice.result.now ≡ codes "{\"cmd\":\"rank\"" = search rules in
-    let number : c.as_slice-2.result.now ≡ codes ",\"id\":" = search rules in
-    let nothing : c.from_residual-in_err-members.result ≡ None = search rules in
-    not_read (codes "rank") members c.args.line.now (option_map asked_short c.from_residual-in_err-members.result) (ap (option_map asked_short) nothing)
-    (line_from (codes "rank") members c.args.line.now c.as_slice.result.now c.behind.result c.behind.ensures command c.in_ok-rest.rest c.in_ok-rest.was
-    ∙ sym (c.number_of.ensures (codes "id") number) ∙ ap (option_map words) c.in_err-members.was)
+pub returns-in_err-id : goal.returns-in_err-id
+returns-in_err-id c =
+    not_read (codes "rank") ((codes "table", perhaps_name) ∷ (codes "index", a_name) ∷ last) c.args.line.now _ (ap (option_map asked_short) c.from_residual-in_err-id.ensures)
+    (c.in_ok-at.ensures last ∙ ap (option_map (λ ms. table_is c.in_ok-at.at.table ∷ index_is c.in_ok-at.at.index ∷ ms)) (c.in_err-id.ensures (codes "id") refl))
 
 pub returns : goal.returns
 returns c =
-    let command : c.as_slice.result.now ≡ codes "{\"cmd\":\"rank\"" = search rules in
-    let number : c.as_slice-2.result.now ≡ codes ",\"id\":" = search rules in
-    let m = c.in_ok-members.members in
-    was_read (codes "rank") members c.args.line.now (request.NumberLookUp m.table (by_number.Rank m.index m.n)) (words m) refl
-    (line_from (codes "rank") members c.args.line.now c.as_slice.result.now c.behind.result c.behind.ensures command c.in_ok-rest.rest c.in_ok-rest.was
-    ∙ sym (c.number_of.ensures (codes "id") number) ∙ ap (option_map words) c.in_ok-members.was)
+    sym (ap (option_map (λ ms. Some (codes "rank", ms)))
+    (c.in_ok-at.ensures last ∙ ap (option_map (λ ms. table_is c.in_ok-at.at.table ∷ index_is c.in_ok-at.at.index ∷ ms)) (c.in_ok-id.ensures (codes "id") refl)))

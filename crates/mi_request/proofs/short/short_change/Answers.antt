@@ -1,5 +1,5 @@
 -- What is read is the request of the line, and a short line of a change is read where its letter says.
-use Rattle.std.proofs.Common.{◌∷◌, [], codes, sym, ◌∙◌, inl, inr, arith}
+use Rattle.std.proofs.Common.{◌∷◌, [], codes, inl, inr, arith}
 use Rattle.mi_request.specs.ShortCode.{a_name, perhaps_name, a_whole, perhaps_whole}
 use Rattle.mi_request.proofs.ShortLemmas.{told_change}
 use Rattle.mi_request.proofs.WordLemmas.{read-lines}

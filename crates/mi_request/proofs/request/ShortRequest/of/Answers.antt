@@ -1,8 +1,8 @@
 -- What is read is the request of the line, and a short line is read where its letter says.
-use Rattle.std.proofs.Common.{◌≡◌, ◌∷◌, [], List, ℕ, Option, Some, codes, is_some, option_map, ◌∙◌}
+use Rattle.std.proofs.Common.{◌≡◌, ◌∷◌, [], List, ℕ, Option, Some, codes, option_map, ◌∙◌}
 use Rattle.std.specs.Prelude.{IfSome}
 use Rattle.mi_request.specs.Short.{short_line, asked_short}
-use Rattle.mi_request.specs.ShortCode.{IsRead, Template, a_name, perhaps_name, a_whole, perhaps_whole}
+use Rattle.mi_request.specs.ShortCode.{IsRead, Template, a_name, perhaps_name, a_whole}
 use Rattle.mi_request.specs.declared.request.ShortRequest.{ShortRequest}
 use Rattle.mi_request.proofs.ShortLemmas.{by_letter, by_no_letter, read_short, short_there}
 use Rattle.mi_request.proofs.WordLemmas.{read-lines}
