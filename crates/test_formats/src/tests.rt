@@ -1,5 +1,6 @@
 //! Tables of what is read and written, and of random numbers.
 
+mod asking;
 mod bound;
 mod lines;
 mod random;

@@ -1,9 +1,11 @@
 //! Which lines are commands over the schema of accounts, and the word by which the others are refused.
-use mi_catalog::{Catalog, built_in};
-use mi_protocol::{Command, LineReader, bind};
+use super::asking::{check_text, split_row, word_of};
+use super::replies::accounts;
+use mi_catalog::Catalog;
+use mi_protocol::{LineReader, bind};
 use mi_value::Refusal;
 use std::alloc::Global;
-use std::test::Fail;
+use std::process::Abort;
 
 /// The word, or `ok`, and the line.
 const LINES: &str = r#"json {"cmd":"undo"
@@ -124,26 +126,29 @@ table {"cmd":"size","table":"c"}
 form {"cmd":"size","table":0}
 "#;
 
-fn command_of(alloc: Global, line: &[u8], catalog: &Catalog) -> Result<Command, Refusal> {
+/// Why a line is refused, if it is.
+fn refusal_of(alloc: Global, line: &[u8], catalog: &Catalog) -> Option<Refusal> {
     let mut lines = LineReader::new(alloc);
-    bind(alloc, lines.parse(line)?, catalog)
+    match lines.parse(line) {
+        Ok(request) => bind(alloc, request, catalog).err(),
+        Err(refusal) => Some(refusal),
+    }
 }
 
-/// The refusal's word, or `ok`.
-fn verdict(alloc: Global, line: &[u8], catalog: &Catalog) -> &'static str {
-    match command_of(alloc, line, catalog).err() {
-        Some(refusal) => refusal.word(),
-        None => "ok",
+/// Asserts the word of a row of `LINES`.
+fn assert_line(rt: &impl Abort, alloc: Global, catalog: &Catalog, row: &str) {
+    let (want, line) = split_row(row);
+    let refusal = refusal_of(alloc, line.as_bytes(), catalog);
+    check_text(rt, word_of(refusal), want, line);
+}
+
+fn assert_lines(rt: &impl Abort, alloc: Global, catalog: &Catalog) {
+    for row in LINES.lines() {
+        assert_line(rt, alloc, catalog, row);
     }
 }
 
 #[test]
-fn lines_are_bound_or_refused(rt: HostRuntime) -> Result<(), Fail> {
-    let alloc = rt.alloc();
-    let catalog = Catalog::of(alloc, built_in(alloc)?)?;
-    for text in LINES.lines() {
-        let (want, line) = text.split_once(' ').unwrap_or(("", text));
-        assert_eq!(rt; verdict(alloc, line.as_bytes(), &catalog), want, "{line}");
-    }
-    Ok(())
+fn lines_are_bound_or_refused(rt: HostRuntime) {
+    assert_lines(&rt, rt.alloc(), &accounts(&rt, rt.alloc()));
 }

@@ -1,8 +1,9 @@
 //! Worked lines, over no catalog.
+use super::asking::{check_text, split_row, word_of};
 use mi_request::LineReader;
 use mi_value::Refusal;
 use std::alloc::{AllocError, Global};
-use std::test::Fail;
+use std::process::Abort;
 
 /// The word, or `ok`, and the line.
 const LINES: &str = r#"json {"cmd":"undo"
@@ -83,10 +84,7 @@ fn refusal_of(alloc: Global, line: &[u8]) -> Option<Refusal> {
 }
 
 fn verdict(alloc: Global, line: &[u8]) -> &'static str {
-    match refusal_of(alloc, line) {
-        Some(refusal) => refusal.word(),
-        None => "ok",
-    }
+    word_of(refusal_of(alloc, line))
 }
 
 fn brackets(alloc: Global, n: usize) -> Result<Vec<u8>, AllocError> {
@@ -95,23 +93,29 @@ fn brackets(alloc: Global, n: usize) -> Result<Vec<u8>, AllocError> {
     Ok(line)
 }
 
+/// Asserts the word of a row of `LINES`.
+fn assert_line(rt: &impl Abort, alloc: Global, row: &str) {
+    let (want, line) = split_row(row);
+    check_text(rt, verdict(alloc, line.as_bytes()), want, line);
+}
+
 #[test]
 fn lines_are_requests_or_refused(rt: HostRuntime) {
-    let alloc = rt.alloc();
-    for text in LINES.lines() {
-        let (want, line) = text.split_once(' ').unwrap_or(("", text));
-        assert_eq!(rt; verdict(alloc, line.as_bytes()), want, "{line}");
+    for row in LINES.lines() {
+        assert_line(&rt, rt.alloc(), row);
     }
-    assert_eq!(rt; verdict(alloc, b"\xff"), "json");
+    check_text(&rt, verdict(rt.alloc(), b"\xff"), "json", "no UTF-8");
+}
+
+/// Asserts the word of so many brackets.
+fn assert_brackets(rt: &impl Abort, alloc: Global, n: usize, want: &str) {
+    let line = brackets(alloc, n).expect(rt, "memory is there");
+    check_text(rt, verdict(alloc, line.as_slice()), want, "brackets");
 }
 
 /// Brackets are read to a depth that is bounded: few are no command, many no JSON.
 #[test]
-fn brackets_have_a_limit(rt: HostRuntime) -> Result<(), Fail> {
-    let alloc = rt.alloc();
-    for (n, want) in [(100, "form"), (1000, "json")] {
-        let line = brackets(alloc, n)?;
-        assert_eq!(rt; verdict(alloc, line.as_slice()), want);
-    }
-    Ok(())
+fn brackets_have_a_limit(rt: HostRuntime) {
+    assert_brackets(&rt, rt.alloc(), 100, "form");
+    assert_brackets(&rt, rt.alloc(), 1000, "json");
 }

@@ -2,11 +2,12 @@
 //!
 //! A table of documents has the word of the fault, or `ok`, behind a mark, and from the next line on the document. Those that differ
 //! in one place only are rows of a frame.
+use super::asking::{check, check_number, check_text, split_row};
+use super::replies::accounts;
 use mi_schema::{Catalog, Schema, SchemaFault, built_in, read_catalog, read_schema};
-use mi_value::{Key, Record, Value, ValueRef};
+use mi_value::{Record, Value, ValueRef};
 use std::alloc::{AllocError, Global};
 use std::process::Abort;
-use std::test::Fail;
 
 /// Schemas of which little is there, or whose first line is no column's and no table's.
 const FAULTS: &str = r#"
@@ -224,22 +225,38 @@ fn verdict(alloc: Global, documents: Documents, text: &str) -> &'static str {
     }
 }
 
+/// Asserts the word of a document of a table.
+fn assert_verdict(rt: &impl Abort, alloc: Global, documents: Documents, part: &str) {
+    let (want, text) = part.split_once('\n').unwrap_or((part, ""));
+    if !want.is_empty() {
+        check_text(rt, verdict(alloc, documents, text), want, text);
+    }
+}
+
 /// Asserts the word of each document in a table.
 fn assert_verdicts(rt: &impl Abort, alloc: Global, documents: Documents, table: &str) {
     for part in table.split("\n=== ") {
-        let (want, text) = part.split_once('\n').unwrap_or((part, ""));
-        if !want.is_empty() {
-            assert_eq!(rt; verdict(alloc, documents, text), want, "{text}");
-        }
+        assert_verdict(rt, alloc, documents, part);
     }
+}
+
+/// Asserts the word of a schema of a frame.
+fn assert_row(rt: &impl Abort, alloc: Global, frame: &Frame, row: &str) -> Result<(), AllocError> {
+    let (want, part) = split_row(row);
+    let text = format!(in alloc; "{}{part}{}", frame.front, frame.back)?;
+    check_text(
+        rt,
+        schema_verdict(alloc, text.as_str()),
+        want,
+        text.as_str(),
+    );
+    Ok(())
 }
 
 /// Asserts the word of each schema of a frame.
 fn assert_framed(rt: &impl Abort, alloc: Global, frame: &Frame) -> Result<(), AllocError> {
     for row in frame.rows.split('\n') {
-        let (want, part) = row.split_once(' ').unwrap_or((row, ""));
-        let text = format!(in alloc; "{}{part}{}", frame.front, frame.back)?;
-        assert_eq!(rt; schema_verdict(alloc, text.as_str()), want, "{text}");
+        assert_row(rt, alloc, frame, row)?;
     }
     Ok(())
 }
@@ -286,25 +303,18 @@ fn same_numbers(a: &Schema, b: &Schema) -> bool {
 
 fn assert_same_columns(rt: &impl Abort, a: &Schema, b: &Schema) {
     let count = a.columns().len();
-    assert_eq!(rt; count, b.columns().len());
+    check_number(rt, count as u64, b.columns().len() as u64, "columns");
     for i in 0..count {
-        assert!(rt; same_column(a, b, i), "column {i}");
+        check(rt, same_column(a, b, i), a.columns()[i].name.as_str());
     }
 }
 
 fn assert_same_indexes(rt: &impl Abort, a: &Schema, b: &Schema) {
     let count = a.index_count();
-    assert_eq!(rt; count, b.index_count());
+    check_number(rt, count as u64, b.index_count() as u64, "indexes");
     for i in 0..count {
-        assert!(rt; same_index(a, b, i), "index {i}");
+        check(rt, same_index(a, b, i), a.index_name(i));
     }
-}
-
-/// What schemas are asked whether it fits them: records, and keys.
-#[derive(Drop)]
-struct Asked {
-    records: Vec<Record>,
-    keys: Vec<Key>,
 }
 
 /// Of each type a value.
@@ -318,26 +328,12 @@ const VALUES: [ValueRef<'static>; 3] = [
 const PARTS: [(usize, usize); 6] = [(0, 0), (0, 1), (1, 2), (2, 3), (1, 3), (0, 3)];
 
 /// A key of these values.
-fn key_of(alloc: Global, values: &[ValueRef<'static>]) -> Result<Key, AllocError> {
+fn key_of(alloc: Global, values: &[ValueRef<'static>]) -> Result<Vec<Value>, AllocError> {
     let mut key = Vec::new(alloc);
     for value in values {
         key.push(value.to_value(alloc)?)?;
     }
-    Ok(Key::new(key))
-}
-
-/// A record and a key of each part of the values.
-fn asked_of_parts(alloc: Global) -> Result<Asked, AllocError> {
-    let mut asked = Asked {
-        records: Vec::new(alloc),
-        keys: Vec::new(alloc),
-    };
-    for (from, to) in PARTS {
-        let part = VALUES.get(from..to).unwrap_or(&VALUES);
-        asked.records.push(Record::new(alloc, part)?)?;
-        asked.keys.push(key_of(alloc, part)?)?;
-    }
-    Ok(asked)
+    Ok(key)
 }
 
 /// Whether a key fits the same index of both schemas, or of neither, as a whole one and as the first values of one.
@@ -348,39 +344,72 @@ fn same_fit(a: &Schema, b: &Schema, i: usize, key: &[Value]) -> bool {
         && a.fits_key(i, key, false) == b.fits_key(i, key, false)
 }
 
-fn assert_same_keys(rt: &impl Abort, a: &Schema, b: &Schema, keys: &[Key]) {
+/// Asserts that a key of some values fits alike.
+fn assert_same_key(rt: &impl Abort, a: &Schema, b: &Schema, key: &[Value]) {
     for i in 0..a.index_count() {
-        for key in keys {
-            assert!(rt; same_fit(a, b, i, key.values()), "a key of index {i}");
-        }
+        check(rt, same_fit(a, b, i, key), "a key of an index");
     }
 }
 
-fn assert_same_fits(rt: &impl Abort, alloc: Global, a: &Schema, b: &Schema) {
-    let asked = asked_of_parts(alloc).expect(rt, "memory is there");
-    for record in asked.records.as_slice() {
-        assert!(rt; a.fits_record(record) == b.fits_record(record), "a record");
+/// Asserts that a record of some values fits both schemas or neither.
+fn assert_same_record(rt: &impl Abort, a: &Schema, b: &Schema, record: &Record) {
+    check(
+        rt,
+        a.fits_record(record) == b.fits_record(record),
+        "a record",
+    );
+}
+
+/// Asserts that a record and a key of each part of the values fit alike.
+fn assert_same_fits(
+    rt: &impl Abort,
+    alloc: Global,
+    a: &Schema,
+    b: &Schema,
+) -> Result<(), AllocError> {
+    for (from, to) in &PARTS {
+        let part = VALUES.get(*from..*to).unwrap_or(&VALUES);
+        assert_same_record(rt, a, b, &Record::new(alloc, part)?);
+        assert_same_key(rt, a, b, key_of(alloc, part)?.as_slice());
     }
-    assert_same_keys(rt, a, b, asked.keys.as_slice());
+    Ok(())
 }
 
 /// Asserts that two schemas are equal in every reader.
-fn assert_same_schema(rt: &impl Abort, alloc: Global, a: &Schema, b: &Schema) {
-    assert_eq!(rt; a.table_name(), b.table_name());
+fn assert_same_schema(
+    rt: &impl Abort,
+    alloc: Global,
+    a: &Schema,
+    b: &Schema,
+) -> Result<(), AllocError> {
+    check_text(rt, a.table_name(), b.table_name(), "the name");
     assert_same_columns(rt, a, b);
     assert_same_indexes(rt, a, b);
-    assert!(rt; same_numbers(a, b), "numbers");
-    assert_same_fits(rt, alloc, a, b);
+    check(rt, same_numbers(a, b), "numbers");
+    assert_same_fits(rt, alloc, a, b)
 }
 
 /// Asserts that two catalogs are equal in every reader.
-fn assert_same_catalog(rt: &impl Abort, alloc: Global, a: &Catalog, b: &Catalog) {
-    assert_eq!(rt; a.first_revision(), b.first_revision());
-    assert_eq!(rt; a.table_count(), b.table_count());
+fn assert_same_catalog(
+    rt: &impl Abort,
+    alloc: Global,
+    a: &Catalog,
+    b: &Catalog,
+) -> Result<(), AllocError> {
+    check_number(rt, a.first_revision(), b.first_revision(), "the revision");
+    check_number(rt, a.table_count() as u64, b.table_count() as u64, "tables");
     for i in 0..a.table_count() {
-        assert_same_schema(rt, alloc, a.table(i), b.table(i));
-        assert_eq!(rt; b.find_table(a.table(i).table_name()), Some(i));
+        let table = a.table(i);
+        check(
+            rt,
+            b.find_table(table.table_name()) == Some(i),
+            "a table's number",
+        );
+        if i < b.table_count() {
+            assert_same_schema(rt, alloc, table, b.table(i))?;
+        }
     }
+    Ok(())
 }
 
 /// A schema with n sequenced indexes.
@@ -402,50 +431,71 @@ fn accounts_in_format(alloc: Global, format: u64) -> Result<String, AllocError> 
 }
 
 #[test]
-fn schemas_are_read_or_refused(rt: HostRuntime) -> Result<(), Fail> {
-    for table in [FAULTS, TWO_FAULTS] {
-        assert_verdicts(&rt, rt.alloc(), Documents::Schemas, table);
-    }
-    for frame in &[COLUMNS, INDEXES, NUMBERS, NAMES] {
-        assert_framed(&rt, rt.alloc(), frame)?;
-    }
-    assert!(rt; is_no_toml(rt.alloc(), b"table = \"\xff\""));
-    Ok(())
-}
-
-#[test]
-fn indexes_have_a_limit(rt: HostRuntime) -> Result<(), Fail> {
+fn schemas_are_read_or_refused(rt: HostRuntime) -> Result<(), AllocError> {
     let alloc = rt.alloc();
-    for (n, want) in [(15, "ok"), (16, "limit")] {
-        let text = many_indexes(alloc, n)?;
-        assert_eq!(rt; schema_verdict(alloc, text.as_str()), want);
-    }
+    assert_verdicts(&rt, alloc, Documents::Schemas, FAULTS);
+    assert_verdicts(&rt, alloc, Documents::Schemas, TWO_FAULTS);
+    assert_framed(&rt, alloc, &COLUMNS)?;
+    assert_framed(&rt, alloc, &INDEXES)?;
+    assert_framed(&rt, alloc, &NUMBERS)?;
+    assert_framed(&rt, alloc, &NAMES)?;
+    check(&rt, is_no_toml(alloc, b"table = \"\xff\""), "no UTF-8");
+    Ok(())
+}
+
+/// Asserts the word of a schema with n sequenced indexes.
+fn assert_many(rt: &impl Abort, alloc: Global, n: usize, want: &str) -> Result<(), AllocError> {
+    let text = many_indexes(alloc, n)?;
+    check_text(
+        rt,
+        schema_verdict(alloc, text.as_str()),
+        want,
+        "many indexes",
+    );
     Ok(())
 }
 
 #[test]
-fn faults_are_shown(rt: HostRuntime) -> Result<(), Fail> {
+fn indexes_have_a_limit(rt: HostRuntime) -> Result<(), AllocError> {
+    assert_many(&rt, rt.alloc(), 15, "ok")?;
+    assert_many(&rt, rt.alloc(), 16, "limit")
+}
+
+#[test]
+fn faults_are_shown(rt: HostRuntime) -> Result<(), AllocError> {
     let shown = format!(in rt.alloc(); "schema: {}", SchemaFault::ColType)?;
-    assert_eq!(rt; shown.as_str(), "schema: type");
+    check_text(&rt, shown.as_str(), "schema: type", "a fault");
     Ok(())
 }
 
+fn assert_copied(rt: &impl Abort, alloc: Global, schema: &Schema) -> Result<(), AllocError> {
+    assert_same_schema(rt, alloc, &schema.copy(alloc)?, schema)
+}
+
+fn assert_built_in(rt: &impl Abort, alloc: Global, schema: &Schema) -> Result<(), AllocError> {
+    assert_same_schema(rt, alloc, schema, &built_in(alloc)?)
+}
+
 #[test]
-fn accounts_are_built_in(rt: HostRuntime) -> Result<(), Fail> {
+fn accounts_are_built_in(rt: HostRuntime) -> Result<(), AllocError> {
     let alloc = rt.alloc();
-    let read = schema_of(alloc, ACCOUNTS)?;
-    assert_same_schema(&rt, alloc, &read, &built_in(alloc)?);
-    assert_same_schema(&rt, alloc, &read.copy(alloc)?, &read);
-    Ok(())
+    let read = schema_of(alloc, ACCOUNTS).expect(&rt, "accounts are read");
+    assert_built_in(&rt, alloc, &read)?;
+    assert_copied(&rt, alloc, &read)
 }
 
 #[test]
-fn catalogs_are_read_or_refused(rt: HostRuntime) -> Result<(), Fail> {
+fn catalogs_are_read_or_refused(rt: HostRuntime) -> Result<(), AllocError> {
     let alloc = rt.alloc();
     assert_verdicts(&rt, alloc, Documents::Catalogs, CATALOGS);
-    assert_eq!(rt; catalog_verdict(alloc, ACCOUNTS), "ok");
+    check_text(&rt, catalog_verdict(alloc, ACCOUNTS), "ok", "accounts");
     let third = accounts_in_format(alloc, 3)?;
-    assert_eq!(rt; catalog_verdict(alloc, third.as_str()), "shape");
+    check_text(
+        &rt,
+        catalog_verdict(alloc, third.as_str()),
+        "shape",
+        "format 3",
+    );
     Ok(())
 }
 
@@ -458,20 +508,25 @@ fn has_second_table(catalog: &Catalog) -> bool {
 }
 
 #[test]
-fn catalogs_are_copied(rt: HostRuntime) -> Result<(), Fail> {
-    let alloc = rt.alloc();
-    let two = catalog_of(alloc, TWO)?;
-    assert!(rt; has_second_table(&two));
-    assert_same_catalog(&rt, alloc, &two.copy(alloc)?, &two);
-    Ok(())
+fn catalogs_are_copied(rt: HostRuntime) -> Result<(), AllocError> {
+    let two = catalog_of(rt.alloc(), TWO).expect(&rt, "two tables are read");
+    check(&rt, has_second_table(&two), "the second table");
+    assert_same_catalog(&rt, rt.alloc(), &two.copy(rt.alloc())?, &two)
+}
+
+/// The catalog of accounts, read from its text in the first format.
+fn read_accounts(rt: &impl Abort, alloc: Global) -> Catalog {
+    let text = accounts_in_format(alloc, 1).expect(rt, "memory is there");
+    catalog_of(alloc, text.as_str()).expect(rt, "accounts are read")
 }
 
 #[test]
-fn accounts_are_a_catalog(rt: HostRuntime) -> Result<(), Fail> {
+fn accounts_are_a_catalog(rt: HostRuntime) -> Result<(), AllocError> {
     let alloc = rt.alloc();
-    let accounts = Catalog::of(alloc, built_in(alloc)?)?;
-    let first = accounts_in_format(alloc, 1)?;
-    let read = catalog_of(alloc, first.as_str())?;
-    assert_same_catalog(&rt, alloc, &accounts, &read);
-    Ok(())
+    assert_same_catalog(
+        &rt,
+        alloc,
+        &accounts(&rt, alloc),
+        &read_accounts(&rt, alloc),
+    )
 }

@@ -9,7 +9,8 @@ mod one_key;
 mod rooms;
 mod three;
 
-use super::nodes::take;
+use super::asking::{check, check_number, check_option};
+use super::nodes::{name_of, take};
 use mi_chain::Chains;
 use mi_node::{NodeRef, Pool};
 use mi_value::{Probe, Value};
@@ -47,10 +48,8 @@ fn assert_first(rt: &impl Abort, chains: &Chains<OneKey>, p: &Pool<u8>, node: No
     requires { (rs : Seq Ref) × AreChained chains.now one_keying p.now rs }
 {
     let key = [Value::Int(7)];
-    let Some(first) = chains.first_of(p, Probe::Key(&key)) else {
-        panic!(rt; "no node of the key");
-    };
-    assert_eq!(rt; first.name(), node.name());
+    let first = chains.first_of(p, Probe::Key(&key));
+    check_option(rt, name_of(first), Some(node.name()), "the first node");
 }
 
 /// Asserts the order of two nodes.
@@ -58,12 +57,10 @@ fn assert_both(rt: &impl Abort, chains: &Chains<OneKey>, p: &Pool<u8>, one: Node
     requires { AreChained chains.now one_keying p.now (one ∷ two ∷ []) }
 {
     assert_first(rt, chains, p, one);
-    let Some(next) = chains.next_of(p, one) else {
-        panic!(rt; "no second node");
-    };
-    assert_eq!(rt; next.name(), two.name());
-    assert!(rt; chains.next_of(p, two).is_none());
-    assert_eq!(rt; chains.groups(p), 1);
+    let next = chains.next_of(p, one);
+    check_option(rt, name_of(next), Some(two.name()), "the second node");
+    check(rt, chains.next_of(p, two).is_none(), "the end");
+    check_number(rt, chains.groups(p), 1, "keys");
 }
 
 /// The first node leaves and comes back, and room is made.
@@ -84,7 +81,7 @@ fn leave_and_return(
     let remembered = p.link(one, 1);
     chains.relink(p, one, remembered);
     assert_both(rt, chains, p, one, two);
-    assert!(rt; chains.make_room(alloc, p, 1000).is_ok());
+    check(rt, chains.make_room(alloc, p, 1000).is_ok(), "room");
     assert_both(rt, chains, p, one, two);
 }
 

@@ -4,6 +4,7 @@
 ghost use Rattle.std.specs.Prelude.{◌≡◌, None};
 ghost use Rattle.mi_node.specs.Pool.{IsHeld, ref_of, taken};
 
+use super::asking::check_number;
 use super::nodes::take;
 use mi_node::{NodeRef, Pool};
 use std::cell::Cell;
@@ -40,11 +41,11 @@ fn a_hundred_chunks_are_freed(rt: HostRuntime) {
     let drops = Cell::new(0);
     let mut pool = Pool::with_slots(rt.alloc(), 3);
     take_many(&rt, &mut pool, &drops);
-    assert_eq!(rt; drops.get(), 34_134);
+    check_number(&rt, drops.get(), 34_134, "drops");
     take_many(&rt, &mut pool, &drops);
-    assert_eq!(rt; drops.get(), 68_268);
+    check_number(&rt, drops.get(), 68_268, "drops");
     drop(pool);
-    assert_eq!(rt; drops.get(), 2 * MANY);
+    check_number(&rt, drops.get(), 2 * MANY, "drops");
 }
 
 /// A new node of a value: where it is refused once, the value that came back is taken again.
@@ -55,7 +56,7 @@ pub(super) fn take_at_last(rt: &impl Abort, pool: &mut Pool<u64>, value: u64) ->
     match pool.take(value) {
         Ok(node) => node,
         Err((_, back)) => {
-            assert_eq!(rt; back, value);
+            check_number(rt, back, value, "the value that comes back");
             take(rt, pool, back)
         }
     }
@@ -69,7 +70,7 @@ fn a_refused_growth_changes_nothing(rt: HostRuntime) {
     let first = take_at_last(&rt, &mut pool, 0);
     for number in 1..2_300 {
         let node = take_at_last(&rt, &mut pool, number);
-        assert_eq!(rt; u64::from(node.name()), number);
-        assert_eq!(rt; *pool.value(first), 0);
+        check_number(&rt, u64::from(node.name()), number, "the place to come");
+        check_number(&rt, *pool.value(first), 0, "the first node's value");
     }
 }

@@ -1,9 +1,10 @@
 //! Worked rows through each call of the map from ids to nodes, with ids of one page of 64 and of several, and refused room.
+use super::asking::{check, check_number};
 use super::growth::take_at_last;
 use super::nodes::take;
 use mi_ids::{IdEntry, Ids};
 use mi_node::{NodeRef, Pool};
-use std::alloc::AllocError;
+use std::alloc::{AllocError, Global};
 use std::mem::size_of;
 use std::process::Abort;
 use std::test::Fail;
@@ -51,30 +52,38 @@ fn make(ids: &mut Ids, nodes: &[NodeRef; 2], call: Call, id: u64) -> Result<(), 
     Ok(())
 }
 
-/// Asserts that an id is there or not, and live or not.
-fn assert_has(rt: &impl Abort, ids: &Ids, nodes: &[NodeRef; 2], id: u64, has: Has) {
-    let Some((n, live)) = has else {
-        assert!(rt; ids.get(id).is_none());
-        assert!(rt; ids.live(id).is_none());
-        return;
-    };
-    let Some(entry) = ids.get(id) else {
-        panic!(rt; "id {id} is not there");
-    };
-    assert_eq!(rt; entry.node.name(), nodes[n.min(1)].name());
-    assert_eq!(rt; entry.live, live);
-    assert_live(rt, ids, id, entry);
+/// Whether an id has this: it is there or not, and live or not.
+fn has_this(ids: &Ids, nodes: &[NodeRef; 2], id: u64, has: Has) -> bool {
+    match (ids.get(id), has) {
+        (None, None) => ids.live(id).is_none(),
+        (Some(entry), Some((n, live))) => {
+            entry.live == live
+                && entry.node.name() == nodes[n.min(1)].name()
+                && is_live_as(ids, id, entry)
+        }
+        _ => false,
+    }
 }
 
-/// Asserts that an id is live if its entry is, and has the entry's node.
-fn assert_live(rt: &impl Abort, ids: &Ids, id: u64, entry: IdEntry) {
+/// Whether an id is live if its entry is, and has the entry's node.
+fn is_live_as(ids: &Ids, id: u64, entry: IdEntry) -> bool {
     match ids.live(id) {
-        None => assert!(rt; !entry.live),
-        Some(node) => {
-            assert!(rt; entry.live);
-            assert_eq!(rt; node.name(), entry.node.name());
-        }
+        None => !entry.live,
+        Some(node) => entry.live && node.name() == entry.node.name(),
     }
+}
+
+/// Asserts what an id has.
+fn assert_has(rt: &impl Abort, ids: &Ids, nodes: &[NodeRef; 2], id: u64, has: Has) {
+    assert!(rt;
+        has_this(ids, nodes, id, has),
+        "id {id} doesn't have {has:?}"
+    );
+}
+
+/// Asserts how many ids there are.
+fn assert_count(rt: &impl Abort, ids: &Ids, count: usize) {
+    check_number(rt, ids.len() as u64, count as u64, "ids");
 }
 
 /// Two ids of one page, its two ends, those on both sides of its edge, and those that are far apart.
@@ -99,16 +108,21 @@ fn make_all(
         make(ids, nodes, *call, id)?;
         assert_has(rt, ids, nodes, pair.0, *one);
         assert_has(rt, ids, nodes, pair.1, *two);
-        assert!(rt; ids.len() == *count);
+        assert_count(rt, ids, *count);
     }
     Ok(())
+}
+
+/// Two nodes, whose names are asked for alone.
+fn two_nodes(rt: &impl Abort, alloc: Global) -> [NodeRef; 2] {
+    let mut pool: Pool<u8> = Pool::with_slots(alloc, 1);
+    [take(rt, &mut pool, 0), take(rt, &mut pool, 1)]
 }
 
 /// Two ids through each call.
 #[test]
 fn two_ids_through_each_call(rt: HostRuntime) -> Result<(), Fail> {
-    let mut pool: Pool<u8> = Pool::with_slots(rt.alloc(), 1);
-    let nodes = [take(&rt, &mut pool, 0), take(&rt, &mut pool, 1)];
+    let nodes = two_nodes(&rt, rt.alloc());
     let mut ids = Ids::new(rt.alloc());
     for pair in &PAIRS {
         make_all(&rt, &mut ids, &nodes, *pair)?;
@@ -148,26 +162,35 @@ fn empty_but_one(ids: &mut Ids) {
     }
 }
 
+/// The last id of a page goes, after it was kept and live again.
+fn last_leaves(rt: &impl Abort, ids: &mut Ids, nodes: &[NodeRef; 2]) {
+    empty_but_one(ids);
+    assert_has(rt, ids, nodes, 100, Some((0, false)));
+    ids.revive(100);
+    assert_has(rt, ids, nodes, 100, Some((0, true)));
+    assert_count(rt, ids, 129);
+    ids.remove(100);
+    assert_run(rt, ids, nodes, (64, 128), None);
+    assert_count(rt, ids, 128);
+}
+
+/// Asserts that a page has the second node, and those beside it the first.
+fn assert_pages(rt: &impl Abort, ids: &Ids, nodes: &[NodeRef; 2]) {
+    assert_run(rt, ids, nodes, (0, 64), Some((0, true)));
+    assert_run(rt, ids, nodes, (64, 128), Some((1, true)));
+    assert_run(rt, ids, nodes, (128, 192), Some((0, true)));
+}
+
 /// The ids of a page go, the last of them after it was kept and live again, and come again with another node. Those of
 /// the pages beside it stay.
 #[test]
 fn a_page_goes_with_its_last_id(rt: HostRuntime) -> Result<(), Fail> {
-    let mut pool: Pool<u8> = Pool::with_slots(rt.alloc(), 1);
-    let nodes = [take(&rt, &mut pool, 0), take(&rt, &mut pool, 1)];
+    let nodes = two_nodes(&rt, rt.alloc());
     let mut ids = Ids::new(rt.alloc());
     insert_run(&mut ids, &nodes, 0, 192, 0)?;
-    empty_but_one(&mut ids);
-    assert_has(&rt, &ids, &nodes, 100, Some((0, false)));
-    ids.revive(100);
-    assert_has(&rt, &ids, &nodes, 100, Some((0, true)));
-    assert_eq!(rt; ids.len(), 129);
-    ids.remove(100);
-    assert_run(&rt, &ids, &nodes, (64, 128), None);
-    assert_eq!(rt; ids.len(), 128);
+    last_leaves(&rt, &mut ids, &nodes);
     insert_run(&mut ids, &nodes, 64, 128, 1)?;
-    assert_run(&rt, &ids, &nodes, (0, 64), Some((0, true)));
-    assert_run(&rt, &ids, &nodes, (64, 128), Some((1, true)));
-    assert_run(&rt, &ids, &nodes, (128, 192), Some((0, true)));
+    assert_pages(&rt, &ids, &nodes);
     Ok(())
 }
 
@@ -191,24 +214,28 @@ fn scatter(ids: &mut Ids, nodes: &[NodeRef; 2]) -> Result<(), AllocError> {
     Ok(())
 }
 
-/// Three hundred ids that lie all over, so that each has a page, and the ids beside them, which aren't there.
-#[test]
-fn scattered_ids(rt: HostRuntime) -> Result<(), Fail> {
-    let mut pool: Pool<u8> = Pool::with_slots(rt.alloc(), 1);
-    let nodes = [take(&rt, &mut pool, 0), take(&rt, &mut pool, 1)];
-    let mut ids = Ids::new(rt.alloc());
-    scatter(&mut ids, &nodes)?;
+/// Asserts what three hundred scattered ids have, and that the ids beside them aren't there.
+fn assert_scattered(rt: &impl Abort, ids: &Ids, nodes: &[NodeRef; 2]) {
     for k in 0..300u64 {
         let has = if k % 3 == 2 {
             None
         } else {
             Some((0, k % 3 == 0))
         };
-        assert_has(&rt, &ids, &nodes, scattered(k), has);
-        assert_has(&rt, &ids, &nodes, scattered(k) ^ 1, None);
-        assert_has(&rt, &ids, &nodes, scattered(k) ^ 64, None);
+        assert_has(rt, ids, nodes, scattered(k), has);
+        assert_has(rt, ids, nodes, scattered(k) ^ 1, None);
+        assert_has(rt, ids, nodes, scattered(k) ^ 64, None);
     }
-    assert_eq!(rt; ids.len(), 200);
+    assert_count(rt, ids, 200);
+}
+
+/// Three hundred ids that lie all over, so that each has a page, and the ids beside them, which aren't there.
+#[test]
+fn scattered_ids(rt: HostRuntime) -> Result<(), Fail> {
+    let nodes = two_nodes(&rt, rt.alloc());
+    let mut ids = Ids::new(rt.alloc());
+    scatter(&mut ids, &nodes)?;
+    assert_scattered(&rt, &ids, &nodes);
     Ok(())
 }
 
@@ -217,7 +244,11 @@ fn assert_below(rt: &impl Abort, ids: &Ids, apart: u64, count: u64) {
     for k in 0..count {
         assert!(rt; ids.live(k.wrapping_mul(apart)).is_some(), "id {k}");
     }
-    assert!(rt; ids.get(count.wrapping_mul(apart)).is_none());
+    check(
+        rt,
+        ids.get(count.wrapping_mul(apart)).is_none(),
+        "the next id",
+    );
 }
 
 /// Inserts forty ids that stand this far apart. Where room for one is refused, those before it are still there, and room
@@ -231,23 +262,28 @@ fn insert_all(rt: &impl Abort, ids: &mut Ids, node: NodeRef, apart: u64) -> Resu
         ids.insert(k.wrapping_mul(apart), node);
     }
     assert_below(rt, ids, apart, 40);
-    assert_eq!(rt; ids.len(), 40);
+    assert_count(rt, ids, 40);
     Ok(())
+}
+
+/// Forty ids that stand this far apart, of a node.
+fn refuse_room(rt: &impl Abort, alloc: Global, apart: u64) -> Result<(), AllocError> {
+    let mut pool: Pool<u64> = Pool::with_slots(alloc, 1);
+    let node = take_at_last(rt, &mut pool, 0);
+    let mut ids = Ids::new(alloc);
+    insert_all(rt, &mut ids, node, apart)
 }
 
 /// Run with an allocation that fails, it sees that refused room leaves the ids as they were, and can be asked for again:
 /// with ids of one page, and with a page for each.
 #[test]
-fn refused_room_leaves_the_ids(rt: HostRuntime) -> Result<(), Fail> {
-    let mut pool: Pool<u64> = Pool::with_slots(rt.alloc(), 1);
-    let node = take_at_last(&rt, &mut pool, 0);
-    insert_all(&rt, &mut Ids::new(rt.alloc()), node, 1)?;
-    insert_all(&rt, &mut Ids::new(rt.alloc()), node, 64)?;
-    Ok(())
+fn refused_room_leaves_the_ids(rt: HostRuntime) -> Result<(), AllocError> {
+    refuse_room(&rt, rt.alloc(), 1)?;
+    refuse_room(&rt, rt.alloc(), 64)
 }
 
 /// An entry has eight bytes.
 #[test]
 fn an_entry_is_small(rt: HostRuntime) {
-    assert_eq!(rt; size_of::<IdEntry>(), 8);
+    check_number(&rt, size_of::<IdEntry>() as u64, 8, "bytes of an entry");
 }

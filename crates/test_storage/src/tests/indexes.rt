@@ -1,4 +1,5 @@
 //! What no clause says: that there is memory for a table's structures and for a row.
+use super::asking::check_number;
 use mi_catalog::built_in;
 use mi_index::{Nodes, Stored};
 use mi_value::Record;
@@ -19,5 +20,5 @@ fn a_row_comes_into_all_indexes(rt: HostRuntime) {
     let Ok(node) = nodes.link_in(alloc, stored, 1, 7, None) else {
         panic!(rt; "no memory");
     };
-    assert_eq!(&rt; nodes.pool.value(node).id, 1);
+    check_number(&rt, nodes.pool.value(node).id, 1, "the row");
 }

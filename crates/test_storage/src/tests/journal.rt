@@ -2,12 +2,13 @@
 ghost use Rattle.std.specs.Prelude.{◌≡◌};
 ghost use Rattle.mi_journal.specs.Noted.{without_entry};
 
+use super::asking::{check, check_number};
 use mi_journal::Journal;
 use std::process::Abort;
 use std::test::Fail;
 
 fn assert_depth(rt: &impl Abort, journal: &Journal<u64>, depth: usize) {
-    assert_eq!(rt; journal.depth(), depth);
+    check_number(rt, journal.depth() as u64, depth as u64, "sessions");
 }
 
 /// Asserts which entry left a journal, if one did.
@@ -31,7 +32,7 @@ fn joins_and_pops(rt: HostRuntime) -> Result<(), Fail> {
     assert_depth(&rt, &journal, 0);
     journal.reserve(2, 2)?;
     let (changes, sessions) = journal.room();
-    assert!(&rt; changes >= 2 && sessions >= 2);
+    check(&rt, changes >= 2 && sessions >= 2, "room for two");
     journal.open_session();
     journal.note(0, 7);
     journal.open_session();

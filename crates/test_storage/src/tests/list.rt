@@ -5,6 +5,7 @@ ghost use Rattle.mi_node.specs.Pool.{IsHeld};
 ghost use Rattle.mi_node.specs.Refs.{Ref};
 ghost use Rattle.mi_list.specs.Listed.{IsListed};
 
+use super::asking::check_option;
 use super::nodes::{name_of, take_three};
 use mi_list::List;
 use mi_node::{NodeRef, Pool};
@@ -18,16 +19,21 @@ fn assert_names(rt: &impl Abort, list: &List, p: &Pool<u8>, names: &[u32])
     let mut at = list.first(p);
     let mut before = None;
     for name in names {
+        check_option(rt, name_of(*&at), Some(*name), "a node");
         let Some(node) = at else {
-            panic!(rt; "no node where {name} was to stand");
+            return;
         };
-        assert_eq!(rt; node.name(), *name);
-        assert_eq!(rt; name_of(list.prev(p, node)), before);
+        check_option(
+            rt,
+            name_of(list.prev(p, node)),
+            before,
+            "the node before it",
+        );
         before = Some(*name);
         at = list.next(p, node);
     }
-    assert!(rt; at.is_none());
-    assert_eq!(rt; name_of(list.last(p)), before);
+    check_option(rt, name_of(at), None, "the end");
+    check_option(rt, name_of(list.last(p)), before, "the last node");
 }
 
 /// Puts three nodes into an empty list, the second of them last.

@@ -1,7 +1,9 @@
 //! What no clause says: that keys of a pattern are spread over the buckets, otherwise for each secret.
+use super::asking::check_few;
 use mi_index::hash_values;
 use mi_value::{Text, Value};
 use std::alloc::{AllocError, Global};
+use std::process::Abort;
 
 /// Numbers one behind another, and numbers that end in 17 and in 40 zeros.
 const STEPS: [i64; 3] = [1, 1 << 17, 1 << 40];
@@ -22,17 +24,24 @@ fn buckets_used(alloc: Global, secret: u64, step: i64) -> Result<usize, AllocErr
     Ok(used.iter().filter(|one| **one).count())
 }
 
+/// Secrets of the hash.
+const SECRETS: [u64; 4] = [0, 1, 0x0123_4567_89AB_CDEF, u64::MAX];
+
+fn assert_spread(rt: &impl Abort, alloc: Global, secret: u64) -> Result<(), AllocError> {
+    for step in &STEPS {
+        let used = buckets_used(alloc, secret, *step)?;
+        assert!(rt; used > 2489, "secret {secret}, step {step}: {used}");
+    }
+    Ok(())
+}
+
 /// By chance it would be 4096 (1 - 1/e) = 2589, and five deviations are 100.
 #[test]
-fn numbers_of_a_pattern_are_spread(rt: HostRuntime) {
-    for secret in [0, 1, 0x0123_4567_89AB_CDEF, u64::MAX] {
-        for step in STEPS {
-            let Ok(used) = buckets_used(rt.alloc(), secret, step) else {
-                panic!(rt; "no memory");
-            };
-            assert!(rt; used > 2489, "secret {secret}, step {step}: {used}");
-        }
+fn numbers_of_a_pattern_are_spread(rt: HostRuntime) -> Result<(), AllocError> {
+    for secret in &SECRETS {
+        assert_spread(&rt, rt.alloc(), *secret)?;
     }
+    Ok(())
 }
 
 /// The hash of a text of zero bytes.
@@ -44,16 +53,19 @@ fn hash_of_zeros(alloc: Global, length: usize) -> Result<u64, AllocError> {
     Ok(hash_values(7, &[Value::Text(Text::new(zeros))]))
 }
 
+/// Asserts that the hashes of texts of two lengths differ.
+fn assert_apart(rt: &impl Abort, hash: u64, other: u64, longer: usize, shorter: usize) {
+    assert!(rt; hash != other, "{shorter} and {longer}");
+}
+
 /// Texts of 0 to 20 zero bytes have hashes of their own: the length counts.
 #[test]
 fn lengths_count(rt: HostRuntime) -> Result<(), AllocError> {
     for longer in 1..21 {
         let hash = hash_of_zeros(rt.alloc(), longer)?;
         for shorter in 0..longer {
-            assert!(rt;
-                hash != hash_of_zeros(rt.alloc(), shorter)?,
-                "{shorter} and {longer}"
-            );
+            let other = hash_of_zeros(rt.alloc(), shorter)?;
+            assert_apart(&rt, hash, other, longer, shorter);
         }
     }
     Ok(())
@@ -65,5 +77,5 @@ fn buckets_are_others_for_each_secret(rt: HostRuntime) {
     let same = (0..4096i64)
         .filter(|n| bucket_of(1, *n) == bucket_of(2, *n))
         .count();
-    assert!(rt; same < 10, "{same}");
+    check_few(&rt, same as u64, 9, "numbers have the same bucket");
 }

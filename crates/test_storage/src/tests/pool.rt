@@ -4,31 +4,27 @@
 ghost use Rattle.std.specs.Prelude.{◌≡◌};
 ghost use Rattle.mi_node.specs.Pool.{IsHeld, without, with_value};
 
-use super::nodes::take;
+use super::asking::{check, check_few, check_number, check_option, check_text};
+use super::nodes::{name_of, take};
 use mi_node::{Counted, Link, NO_LINK, NodeRef, Pool, Tag};
 use std::cell::Cell;
 use std::mem::size_of;
 use std::process::Abort;
-
-/// Asserts that two texts are the same.
-fn assert_same(rt: &impl Abort, text: &str, want: &str) {
-    assert_eq!(rt; text, want);
-}
 
 /// The text "x" of a node makes room for another, which is given back.
 fn swap_and_give(rt: &impl Abort, pool: &mut Pool<&'static str>, node: NodeRef, text: &'static str)
     requires { IsHeld pool.old node }
     ensures { pool.new ≡ without (with_value pool.old node.name text.entry) node.name }
 {
-    assert_same(rt, pool.swap_value(node, text), "x");
-    assert_same(rt, pool.give(node), text);
+    check_text(rt, pool.swap_value(node, text), "x");
+    check_text(rt, pool.give(node), text);
 }
 
 /// Asserts the text of a node.
 fn assert_text(rt: &impl Abort, pool: &Pool<&'static str>, node: NodeRef, text: &str)
     requires { IsHeld pool.now node }
 {
-    assert_same(rt, *pool.value(node), text);
+    check_text(rt, *pool.value(node), text);
 }
 
 #[test]
@@ -41,7 +37,7 @@ fn texts_are_kept_by_reference(rt: HostRuntime) {
     let three = take(&rt, &mut pool, "w");
     assert_text(&rt, &pool, two, "y");
     assert_text(&rt, &pool, three, "w");
-    assert_eq!(rt; pool.slots(), 16);
+    check_number(&rt, pool.slots() as u64, 16, "links of a node");
 }
 
 /// A link to a node that has the greatest numbers.
@@ -61,15 +57,15 @@ fn full_link(node: NodeRef) -> Link {
 
 /// Asserts that a link is that one.
 fn assert_full(rt: &impl Abort, link: Link) {
-    assert!(rt; link.size == u32::MAX && link.height == u8::MAX);
-    assert!(rt; link.tag.key == u64::MAX && link.tag.stamp == 7);
-    assert!(rt; link.back.is_none());
-    assert!(rt; link.forth.is_some());
+    let tag = link.tag.key == u64::MAX && link.tag.stamp == 7;
+    let full = link.size == u32::MAX && link.height == u8::MAX && tag;
+    check(rt, full, "the numbers of a link");
+    check(rt, link.back.is_none() && link.forth.is_some(), "its nodes");
 }
 
 /// Asserts the size that a link has.
 fn assert_size(rt: &impl Abort, link: Link, size: u32) {
-    assert_eq!(rt; link.size, size);
+    check_number(rt, u64::from(link.size), u64::from(size), "the size");
 }
 
 #[test]
@@ -89,7 +85,7 @@ fn links_are_read_counted(rt: HostRuntime) {
     pool.set_link(node, 2, full_link(node));
     let mut counted = Counted::new(&pool);
     assert_full(&rt, counted.link(node, 2));
-    assert_eq!(rt; *counted.value(node), 10);
+    check_number(&rt, u64::from(*counted.value(node)), 10, "the value");
 }
 
 /// A node of a place that is used again has no links.
@@ -130,8 +126,21 @@ fn a_place_is_used_again(rt: HostRuntime) {
     let mut pool: Pool<u8> = Pool::with_slots(rt.alloc(), 1);
     let one = take(&rt, &mut pool, 1);
     let two = take_instead(&rt, &mut pool, one, 2);
-    assert_eq!(rt; two.name(), one.name());
-    assert_eq!(rt; *pool.value(two), 2);
+    check_number(
+        &rt,
+        u64::from(two.name()),
+        u64::from(one.name()),
+        "the place",
+    );
+    check_number(&rt, u64::from(*pool.value(two)), 2, "its value");
+}
+
+/// Takes three nodes at places that were given back.
+fn take_old(rt: &impl Abort, pool: &mut Pool<u8>) {
+    for value in 0..3 {
+        let node = take(rt, pool, value);
+        check_few(rt, u64::from(node.name()), 2, "is no old place");
+    }
 }
 
 /// Three places that are given back are used again, in whatever order.
@@ -142,11 +151,12 @@ fn places_are_used_again(rt: HostRuntime) {
     let two = take(&rt, &mut pool, 2);
     let three = take(&rt, &mut pool, 3);
     let (last, first, middle) = (pool.give(three), pool.give(one), pool.give(two));
-    assert_eq!(rt; (first, middle, last), (1, 2, 3));
-    for value in 0..3 {
-        let node = take(&rt, &mut pool, value);
-        assert!(rt; node.name() < 3);
-    }
+    check(
+        &rt,
+        first == 1 && middle == 2 && last == 3,
+        "the values come back",
+    );
+    take_old(&rt, &mut pool);
 }
 
 /// Past a chunk of places the first node keeps what it has, and nodes are named one after the other.
@@ -159,19 +169,22 @@ fn many_nodes_stand_in_chunks(rt: HostRuntime) {
     pool.set_link(first, 1, link);
     for value in 0..2_300 {
         let node = take(&rt, &mut pool, value);
-        assert_eq!(rt; node.name(), value + 1);
+        let name = u64::from(node.name());
+        check_number(&rt, name, u64::from(value) + 1, "the next name");
     }
-    assert_eq!(rt; *pool.value(first), 7);
-    assert!(rt;
-        pool.link(first, 1)
-            .back
-            .is_some_and(|back| back.name() == 0)
+    check_number(
+        &rt,
+        u64::from(*pool.value(first)),
+        7,
+        "the first node's value",
     );
+    let back = name_of(pool.link(first, 1).back);
+    check_option(&rt, back, Some(0), "the first node's link");
 }
 
 /// Asserts that a value that came back is the text "x", and that the pool can go on with it.
 fn take_again(rt: &impl Abort, pool: &mut Pool<&'static str>, value: &'static str) {
-    assert_same(rt, value, "x");
+    check_text(rt, value, "x");
     let node = take(rt, pool, value);
     assert_text(rt, pool, node, "x");
 }
@@ -204,14 +217,14 @@ fn each_value_is_dropped_once(rt: HostRuntime) {
     let two = take(&rt, &mut pool, Counting { drops: &drops });
     let three = take(&rt, &mut pool, Counting { drops: &drops });
     drop(pool.give(two));
-    assert_eq!(rt; drops.get(), 1);
+    check_number(&rt, drops.get(), 1, "drops");
     drop(pool.swap_value(three, Counting { drops: &drops }));
-    assert_eq!(rt; drops.get(), 2);
+    check_number(&rt, drops.get(), 2, "drops");
     drop(pool);
-    assert_eq!(rt; drops.get(), 4);
+    check_number(&rt, drops.get(), 4, "drops");
 }
 
 #[test]
 fn a_reference_is_small(rt: HostRuntime) {
-    assert_eq!(rt; size_of::<NodeRef>(), 4);
+    check_number(&rt, size_of::<NodeRef>() as u64, 4, "bytes of a reference");
 }

@@ -5,9 +5,10 @@ ghost use Rattle.mi_node.specs.Refs.{Ref};
 ghost use Rattle.mi_chain.specs.Chained.{AreChained};
 ghost use Rattle.test_storage.specs.Numbered.{number_keying, AreNumbered, IsPulled, AreSeenAlike};
 
-use super::super::nodes::{name_of, take};
+use super::super::asking::{check, check_each, check_number};
+use super::super::nodes::take;
 use super::no_chains;
-use super::three::{ByNumber, next_if};
+use super::three::{ByNumber, names_of_key};
 use mi_chain::Chains;
 use mi_node::{Link, NodeRef, Pool};
 use mi_value::{Probe, Value};
@@ -59,7 +60,7 @@ fn add_all(
     let mut names = Vec::new(alloc);
     'keys: for before in 0..KEYS.len() {
         let name = add(rt, chains, p, KEYS[before], before as u64);
-        assert!(rt; names.push(name).is_ok());
+        check(rt, names.push(name).is_ok(), "memory");
     }
     names
 }
@@ -75,19 +76,18 @@ fn assert_list(
 )
     requires { (rs : Seq Ref) × AreChained chains.now number_keying p.now rs }
 {
-    let values = [Value::Int(key)];
-    let first = chains.first_of(p, Probe::Key(&values));
-    let second = next_if(chains, p, *&first);
-    let third = next_if(chains, p, *&second);
-    let fourth = next_if(chains, p, *&third);
-    for (found, number) in [
-        (first, list[0]),
-        (second, list[1]),
-        (third, list[2]),
-        (fourth, list[3]),
-    ] {
-        assert_eq!(rt; name_of(found), named(names, number));
-    }
+    let want = [
+        named(names, list[0]),
+        named(names, list[1]),
+        named(names, list[2]),
+        named(names, list[3]),
+    ];
+    check_each(
+        rt,
+        &names_of_key(chains, p, key),
+        &want,
+        "the nodes of a key",
+    );
 }
 
 /// The name of the node of this number, and none for 0.
@@ -131,6 +131,17 @@ fn pull_two(rt: &impl Abort, chains: &mut Chains<ByNumber>, p: &mut Pool<i64>, n
     assert_list(rt, chains, p, names, 5, [1, 4, 7, 0]);
 }
 
+/// How many keys room is asked for, and whether it is made.
+const ROOMS: [(u64, bool); 7] = [
+    (0, true),
+    (16, true),
+    (17, true),
+    (u64::MAX, false),
+    (1000, true),
+    (1 << 62, false),
+    (100, true),
+];
+
 /// Asks for rooms one after another; after each, made or refused, every list is as before.
 fn ask_rooms(
     rt: &impl Abort,
@@ -144,16 +155,9 @@ fn ask_rooms(
     ensures list { (rs : Seq Ref) × AreChained chains.new number_keying p.new rs }
     ensures slot { chains.new.slot ≡ 1 }
 {
-    'rooms: for (n, made) in [
-        (0, true),
-        (16, true),
-        (17, true),
-        (u64::MAX, false),
-        (1000, true),
-        (1 << 62, false),
-        (100, true),
-    ] {
-        assert_eq!(rt; chains.make_room(alloc, p, n).is_ok(), made);
+    'rooms: for (n, made) in &ROOMS {
+        let is_made = chains.make_room(alloc, p, *n).is_ok();
+        check(rt, is_made == *made, "room");
         assert_lists(rt, chains, p, names);
     }
 }
@@ -161,8 +165,8 @@ fn ask_rooms(
 fn assert_lists(rt: &impl Abort, chains: &Chains<ByNumber>, p: &Pool<i64>, names: &[u32])
     requires { (rs : Seq Ref) × AreChained chains.now number_keying p.now rs }
 {
-    for (key, list) in LISTS {
-        assert_list(rt, chains, p, names, key, list);
+    for (key, list) in &LISTS {
+        assert_list(rt, chains, p, names, *key, *list);
     }
 }
 
@@ -172,7 +176,7 @@ fn rooms_and_pulls_change_no_list(rt: HostRuntime) {
     let mut p: Pool<i64> = Pool::with_slots(rt.alloc(), 2);
     let mut chains = no_chains(&rt, rt.alloc(), ByNumber);
     let names = add_all(&rt, rt.alloc(), &mut chains, &mut p);
-    assert_eq!(rt; chains.groups(&p), 4);
+    check_number(&rt, chains.groups(&p), 4, "keys");
     ask_rooms(&rt, rt.alloc(), &mut chains, &mut p, &names);
     pull_two(&rt, &mut chains, &mut p, &names);
 }

@@ -6,6 +6,7 @@ ghost use Rattle.mi_node.specs.Refs.{Ref};
 ghost use Rattle.mi_chain.specs.Chained.{AreChained};
 ghost use Rattle.test_storage.specs.Numbered.{number_keying, IsAmong};
 
+use super::super::asking::{check, check_each, check_number};
 use super::super::nodes::{name_of, take_three};
 use super::no_chains;
 use mi_chain::{Chains, KeyHash};
@@ -49,11 +50,7 @@ impl KeyHash<i64> for ByNumber {
 }
 
 /// The node after this one among those of its key, if there is one.
-pub(super) fn next_if(
-    chains: &Chains<ByNumber>,
-    p: &Pool<i64>,
-    node: Option<NodeRef>,
-) -> Option<NodeRef>
+fn next_if(chains: &Chains<ByNumber>, p: &Pool<i64>, node: Option<NodeRef>) -> Option<NodeRef>
     requires { (rs : Seq Ref) × AreChained chains.now number_keying p.now rs × IsAmong node rs }
     ensures { (rs : Seq Ref) → AreChained chains.now number_keying p.now rs → IsAmong node rs → IsAmong result rs }
 {
@@ -63,7 +60,24 @@ pub(super) fn next_if(
     }
 }
 
-/// Asserts that the nodes of a key begin with these three, where none stands for the end.
+/// The names of the first four nodes of a key. None stands for the end.
+pub(super) fn names_of_key(chains: &Chains<ByNumber>, p: &Pool<i64>, key: i64) -> [Option<u32>; 4]
+    requires { (rs : Seq Ref) × AreChained chains.now number_keying p.now rs }
+{
+    let values = [Value::Int(key)];
+    let first = chains.first_of(p, Probe::Key(&values));
+    let second = next_if(chains, p, *&first);
+    let third = next_if(chains, p, *&second);
+    let fourth = next_if(chains, p, *&third);
+    [
+        name_of(first),
+        name_of(second),
+        name_of(third),
+        name_of(fourth),
+    ]
+}
+
+/// Asserts that the nodes of a key are these, where none stands for the end.
 fn assert_list(
     rt: &impl Abort,
     chains: &Chains<ByNumber>,
@@ -73,13 +87,13 @@ fn assert_list(
 )
     requires { (rs : Seq Ref) × AreChained chains.now number_keying p.now rs }
 {
-    let values = [Value::Int(key)];
-    let first = chains.first_of(p, Probe::Key(&values));
-    let second = next_if(chains, p, *&first);
-    let third = next_if(chains, p, *&second);
-    for (found, node) in [(first, list[0]), (second, list[1]), (third, list[2])] {
-        assert_eq!(rt; name_of(found), name_of(node));
-    }
+    let names = [name_of(list[0]), name_of(list[1]), name_of(list[2]), None];
+    check_each(
+        rt,
+        &names_of_key(chains, p, key),
+        &names,
+        "the nodes of a key",
+    );
 }
 
 /// Puts three nodes into chains of no node, with the stamps 0, 1 and 2.
@@ -121,7 +135,7 @@ fn first_leaves(
 {
     chains.remove(p, one);
     let stamp = p.link(one, 1).tag.stamp;
-    assert!(rt; chains.make_room(alloc, p, 1000).is_ok());
+    check(rt, chains.make_room(alloc, p, 1000).is_ok(), "room");
     assert_list(rt, chains, p, 7, [Some(two), Some(three), None]);
     chains.insert(p, one, stamp);
 }
@@ -157,7 +171,6 @@ fn three_of_one_key(rt: HostRuntime) {
     assert_list(&rt, &chains, &p, 7, [Some(one), Some(two), Some(three)]);
     first_leaves(&rt, rt.alloc(), &mut chains, &mut p, one, two, three);
     assert_list(&rt, &chains, &p, 7, [Some(one), Some(two), Some(three)]);
-    assert!(rt; chains.next_of(&p, three).is_none());
     second_leaves(&rt, &mut chains, &mut p, one, two, three);
     assert_list(&rt, &chains, &p, 7, [Some(one), Some(two), Some(three)]);
 }
@@ -176,7 +189,7 @@ fn refuse_room(
     requires { AreChained chains.old number_keying p.old (one ∷ two ∷ three ∷ []) }
     ensures { AreChained chains.new number_keying p.new (one ∷ two ∷ three ∷ []) }
 {
-    assert!(rt; chains.make_room(alloc, p, n).is_err());
+    check(rt, chains.make_room(alloc, p, n).is_err(), "no room");
     assert_list(rt, chains, p, 5, [Some(one), Some(three), None]);
     assert_list(rt, chains, p, -5, [Some(two), None, None]);
     assert_list(rt, chains, p, 6, [None, None, None]);
@@ -190,7 +203,7 @@ fn refused_room_changes_no_list(rt: HostRuntime) {
     let (one, two, three) = (nodes.one, nodes.two, nodes.three);
     let mut chains = no_chains(&rt, rt.alloc(), ByNumber);
     fill(&mut chains, &mut p, one, two, three);
-    assert_eq!(rt; chains.groups(&p), 2);
+    check_number(&rt, chains.groups(&p), 2, "keys");
     refuse_room(
         &rt,
         rt.alloc(),

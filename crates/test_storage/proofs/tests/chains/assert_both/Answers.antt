@@ -5,8 +5,8 @@ use Rattle.test_storage.proofs.tests.chains.assert_both.Goals as goal
 pub assert_first-requires : goal.assert_first-requires
 assert_first-requires g c = (c.args.one ∷ c.args.two ∷ [], c.requires)
 
-pub next_of-requires : goal.next_of-requires
-next_of-requires g c = ([], c.args.two ∷ [], c.requires)
+pub next_of-next-requires : goal.next_of-next-requires
+next_of-next-requires g c = ([], c.args.two ∷ [], c.requires)
 
-pub next_of-requires-2 : goal.next_of-requires-2
-next_of-requires-2 g c = (c.args.one ∷ [], [], c.requires)
+pub next_of-requires : goal.next_of-requires
+next_of-requires g c = (c.args.one ∷ [], [], c.requires)

@@ -13,3 +13,6 @@ assert_list-requires-2 g c = let rs = c.args.one ∷ c.args.two ∷ c.args.three
 
 pub assert_list-requires-3 : goal.assert_list-requires-3
 assert_list-requires-3 g c = let rs = c.args.one ∷ c.args.two ∷ c.args.three ∷ [] in (rs, c.make_room.ensures.list rs c.requires)
+
+pub returns : goal.returns
+returns g c = let rs = c.args.one ∷ c.args.two ∷ c.args.three ∷ [] in c.make_room.ensures.list rs c.requires

@@ -1,5 +1,5 @@
 -- New chains have no nodes, through a slot that the pool has.
-use Rattle.std.proofs.Common.{◌<◌, [], ◌∷◌, arith}
+use Rattle.std.proofs.Common.{◌<◌, arith}
 use Rattle.mi_node.proofs.EntryLemmas.{slot_counts}
 use Rattle.test_storage.specs.Numbered.{number_keying}
 use Rattle.mi_chain.proofs.CallLemmas.{new_chains}
@@ -9,6 +9,3 @@ pub fill-requires-clause-chained : goal.fill-requires-clause-chained
 fill-requires-clause-chained g c =
     let fits : 1 < c.take_three-nodes.new.pool.slots = grind (arith, slot_counts) in
     new_chains c.no_chains-chains.result 1 _ number_keying c.take_three-nodes.new.pool c.no_chains-chains.ensures fits
-
-pub next_of-requires : goal.next_of-requires
-next_of-requires g c = (c.take_three-nodes.result.one ∷ c.take_three-nodes.result.two ∷ [], [], c.first_leaves.ensures.list)
