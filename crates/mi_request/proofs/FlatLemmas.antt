@@ -1,4 +1,5 @@
 -- An object that is read member by member is what its text means, and so each flat line is the request of its members.
+-- Cited by `flat::insert`, `flat::keyed`, `flat::last_limit`, `flat::lower`, `flat::modify` and 3 more.
 use Rattle.std.proofs.Common.{IfSome, option_and_then, sym, ◌≡◌, ℕ, ◌-◌, List, [], ◌∷◌, ◌++◌, length, Option, Some, None, Ok, IsUtf8, codes, false, refl, ap, ◌∙◌, subst, arith, append_assoc}
 use Rattle.json.specs.Json.{parse_map, read_key, members, value}
 use Rattle.json.specs.Lex.{lex, between, punctuate, tokens}

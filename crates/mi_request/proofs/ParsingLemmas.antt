@@ -1,4 +1,5 @@
 -- From the value that a text is to the request that it is.
+-- Cited by `line_reader::read_any`, `value::read_value`, `FlatLemmas` and `ShortLemmas`.
 use Rattle.std.proofs.Common.{◌≡◌, ℕ, List, Bool, true, false, cond, Option, Some, None}
 use Rattle.std.proofs.Common.{Result, Ok, Err, IfOk, refl, sym, ap, ◌∙◌, inl, inr, ◌⊎◌}
 use Rattle.std.specs.Option.{ok_or}

@@ -1,4 +1,5 @@
 -- A short line means its request, and each is found.
+-- Cited by `LineReader::parse`, `LineReader::read`, `ShortRequest::of`, 2 more, `mi_clients`, `mi_commands` and `mi_replay`.
 use Rattle.std.proofs.Common.{◌≡◌, ℕ, zero, suc, ◌^◌, ◌<◌, ◌≤◌, length, subst, List, [], ◌∷◌, ◌++◌, Bool, true, false, cond, ◌&&◌, ◌==◌, Option, Some, None, is_some, option_map, option_and_then}
 use Rattle.std.proofs.Common.{Result, Ok, Err, IsUtf8, codes, decimal, nat_lt, get_or, refl, sym, ap, ap₂, ◌∙◌, ◌⊎◌, inl, inr, arith, ltb-true, append_assoc, ne_eqb}
 use Rattle.std.proofs.lemmas.Option.{none-some, same_Some, cond_some}

@@ -1,4 +1,5 @@
 -- What changes, taking back and settling leave of a container and the journal of its changes.
+-- Cited by `Journaled::back`, `Journaled::end_oldest`, `Journaled::insert`, `Journaled::modify` and `Journaled::settle`.
 use Rattle.std.proofs.Common.{◌≡◌, ℕ, ◌<◌, Option, Some, None, List, [], ◌∷◌, ◌++◌, map, length, refl, ap, sym, ◌∙◌, subst, arith}
 use Rattle.std.proofs.lemmas.List.{append_assoc, append-nil, map-append}
 use Rattle.mi_catalog.specs.Shape.{Shape}

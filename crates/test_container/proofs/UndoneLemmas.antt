@@ -1,4 +1,5 @@
 -- What changes, taking back and settling leave of a container and the inverses of its changes.
+-- Cited by `Journaled::modify`, `Undoable::erase`, `Undoable::insert`, `Undoable::modify`, `Undoable::relocate` and 3 more.
 use Rattle.std.proofs.Common.{◌≡◌, ℕ, Some, None, List, [], ◌∷◌, ◌++◌, reverse, refl, ap, sym, ◌∙◌, subst}
 use Rattle.std.specs.declared.option.Option.{Option}
 use Rattle.std.proofs.lemmas.List.{reverse-append}

@@ -1,4 +1,5 @@
 -- Nodes for tests: one more with a greater stamp, and one that comes back.
+-- Cited by `rooms::add`, `rooms::pull_two` and `three::fill`.
 use Rattle.std.proofs.Common.{◌≡◌, ◌<◌, ◌+◌, ◌==◌, ℕ, ℤ, Bool, true, false, cond, List, [], ◌∷◌, ◌++◌, length, length-append, append-nil, None, sym}
 use Rattle.std.proofs.Common.{ap, ◌∙◌, subst, arith, refl}
 use Rattle.mi_node.specs.Pool.{Pooled, ref_of, link_of, no_link, IsHeld, Keeps, taken}

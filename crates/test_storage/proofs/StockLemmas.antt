@@ -1,4 +1,5 @@
 -- Nodes for tests, in a tree or out of it: what the calls need and what they leave.
+-- Cited by `Stock::add`, `Stock::after`, `Stock::before`, `Stock::find`, `Stock::keeps` and 12 more.
 use Rattle.std.proofs.Common.{◌≡◌, ◌==◌, ℕ, zero, suc, ◌+◌, ◌<◌, ◌≤◌, Bool, true, false, cond, ◌⊎◌, inl, inr, List, [], ◌∷◌}
 use Rattle.std.proofs.Common.{◌++◌, length, Option, Some, None, refl, sym, ap, ◌∙◌, subst, arith, append_assoc, length-append}
 use Rattle.std.specs.declared.cmp.Ordering.{Ordering}

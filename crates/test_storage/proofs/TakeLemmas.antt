@@ -1,4 +1,5 @@
 -- Which nodes are held after `take`.
+-- Cited by `chains::two_of_one_key` and `nodes::take_three`.
 use Rattle.std.proofs.Common.{◌≡◌, None, sym, subst}
 use Rattle.mi_node.specs.Pool.{Pooled, ref_of, IsHeld, taken}
 use Rattle.mi_node.specs.Refs.{Ref}

@@ -1,4 +1,5 @@
 -- Nodes for tests: what the calls need and what they leave.
+-- Cited by `chains::fill`, `chains::leave_and_return`, `rooms::pull`, `three::first_leaves`, `three::names_of_key` and 3 more.
 use Rattle.std.proofs.Common.{◌≡◌, ◌==◌, ℕ, ℤ, Bool, true, false, cond, List, [], ◌∷◌, ◌++◌, Option, Some, None, sym, ap, ◌∙◌, subst, append_assoc, arith}
 use Rattle.std.specs.List.{filter}
 use Rattle.mi_node.specs.Pool.{Pooled, link_of, IsHeld}
