@@ -1,5 +1,6 @@
 //! The container that is served: what each call answers and leaves.
 
+mod asking;
 mod beside;
 mod change;
 mod container;

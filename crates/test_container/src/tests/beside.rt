@@ -1,6 +1,7 @@
 //! A container beside the plain database: the same random changes to both, taken back and settled, and every answer and view compared.
 ghost use Rattle.test_container.specs.Undone.{CanTakeBack};
 
+use super::asking::check;
 use super::change::{Answer, Change, TABLE};
 use super::container::BY_ID;
 use super::reference::Reference;
@@ -57,13 +58,14 @@ impl Tally {
         .iter()
         .all(|count| *count >= 50)
     }
+
+    fn want_each(&self, rt: &impl Abort) {
+        assert!(rt; self.has_each(), "{self:?}");
+    }
 }
 
-fn schema(alloc: Global) -> Result<Schema, Fail> {
-    match read_schema(alloc, TABLE.as_bytes()) {
-        Ok(schema) => Ok(schema),
-        Err(_) => Err(Fail::from("the schema isn't read")),
-    }
+fn schema(rt: &impl Abort, alloc: Global) -> Schema {
+    read_schema(alloc, TABLE.as_bytes()).expect(rt, "the schema is read")
 }
 
 /// What the container answers to a change.
@@ -152,7 +154,7 @@ impl<C: Container> Both<C> {
     {
         for _ in 0..most {
             let was_there = self.undoable.unwind();
-            assert_eq!(rt; was_there, self.reference.undo());
+            check(rt, was_there == self.reference.undo(), "both take it back");
             if !was_there {
                 break;
             }
@@ -166,7 +168,8 @@ impl<C: Container> Both<C> {
         ensures { CanTakeBack self.new.undoable.schema (C.shape self.new.undoable.rows) (C.plain self.new.undoable.rows) self.new.undoable.inverses.items }
     {
         let was_there = self.undoable.settle();
-        assert_eq!(rt; was_there, self.reference.commit_oldest());
+        let settles = self.reference.commit_oldest();
+        check(rt, was_there == settles, "both settle");
         if was_there {
             self.tally.settled = self.tally.settled.saturating_add(1);
         }
@@ -213,7 +216,7 @@ impl<C: Container> Both<C> {
             self.step(rt, alloc)?;
         }
         self.end(rt, alloc)?;
-        assert!(rt; self.tally.has_each(), "{:?}", self.tally);
+        self.tally.want_each(rt);
         Ok(())
     }
 }
@@ -221,8 +224,8 @@ impl<C: Container> Both<C> {
 /// A container and the plain database of one table.
 fn check_beside<C: Container>(rt: &impl Abort, alloc: Global, seed: u64) -> Result<(), Fail> {
     let mut both = Both {
-        undoable: Undoable::<C>::open(alloc, schema(alloc)?)?,
-        reference: Reference::open(alloc, schema(alloc)?)?,
+        undoable: Undoable::<C>::open(alloc, schema(rt, alloc))?,
+        reference: Reference::open(alloc, schema(rt, alloc))?,
         random: Random::new(seed),
         tally: Tally::default(),
     };

@@ -1,7 +1,7 @@
 //! Each call of a container once, and changes taken back: what indexes show is worked out by hand.
 ghost use Rattle.test_container.specs.Undone.{CanTakeBack};
 
-use super::change::Answer;
+use super::asking::{assert_answer, assert_id, assert_number, check};
 use super::undoable::Undoable;
 use super::walks::check_walks;
 use mi_container::Container;
@@ -74,20 +74,6 @@ fn shows<C: Container>(undoable: &Undoable<C>, id: u64, k: i64, s: &str, f: bool
     }
 }
 
-/// Asserts which record is answered, if one is.
-fn assert_id(rt: &impl Abort, got: Option<u64>, want: Option<u64>) {
-    assert_eq!(rt; got, want);
-}
-
-pub(super) fn assert_number(rt: &impl Abort, got: u64, want: u64) {
-    assert_eq!(rt; got, want);
-}
-
-/// Asserts what a change answers.
-fn assert_answer(rt: &impl Abort, got: Answer, want: Answer) {
-    assert_eq!(rt; got, want);
-}
-
 /// Asserts the ids that an index shows, by steps from the first to the last.
 fn assert_ids<C: Container>(rt: &impl Abort, undoable: &Undoable<C>, index: usize, want: &[u64])
     requires { CanTakeBack undoable.now.schema (C.shape undoable.now.rows) (C.plain undoable.now.rows) undoable.now.inverses.items }
@@ -143,7 +129,7 @@ fn unwind_to_four<C: Container>(rt: &impl Abort, undoable: &mut Undoable<C>)
     requires { CanTakeBack undoable.old.schema (C.shape undoable.old.rows) (C.plain undoable.old.rows) undoable.old.inverses.items }
     ensures { CanTakeBack undoable.new.schema (C.shape undoable.new.rows) (C.plain undoable.new.rows) undoable.new.inverses.items }
 {
-    assert!(rt; undoable.unwind());
+    check(rt, undoable.unwind(), "a change is taken back");
     check_views(rt, undoable, &OF_FOUR);
 }
 
@@ -270,8 +256,8 @@ const KEYS: [Found; 5] = [
 fn check_look_ups<C: Container>(rt: &impl Abort, alloc: Global, undoable: &Undoable<C>)
     requires { CanTakeBack undoable.now.schema (C.shape undoable.now.rows) (C.plain undoable.now.rows) undoable.now.inverses.items }
 {
-    assert!(rt; shows(undoable, 3, 13, "d", true, 0));
-    assert!(rt; !undoable.has(4));
+    check(rt, shows(undoable, 3, 13, "d", true, 0), "the last record");
+    check(rt, !undoable.has(4), "no fifth record");
     for want in &KEYS {
         let key = key_of(rt, alloc, &want.key);
         assert_id(rt, undoable.find(rt, want.index, &key), want.id);
@@ -457,12 +443,17 @@ const CONFLICTS: [Conflict; 6] = [
     },
 ];
 
+/// Asserts which row refuses a record, if one does.
+fn assert_conflict(rt: &impl Abort, got: Option<(usize, u64)>, want: Option<(usize, u64)>) {
+    assert_eq!(rt; got, want);
+}
+
 /// Asks which row refuses a record.
 fn check_conflicts<C: Container>(rt: &impl Abort, alloc: Global, rows: &C) {
     for it in &CONFLICTS {
         let row = record(rt, alloc, it.k, it.s, true, it.n);
         let conflict = rows.conflict(&row, it.except);
-        assert_eq!(rt; conflict, it.want);
+        assert_conflict(rt, conflict, it.want);
     }
 }
 
@@ -511,7 +502,7 @@ fn check_add<C: Container>(rt: &impl Abort, alloc: Global, undoable: &mut Undoab
     ensures { CanTakeBack undoable.new.schema (C.shape undoable.new.rows) (C.plain undoable.new.rows) undoable.new.inverses.items }
 {
     assert_answer(rt, undoable.add(rt, alloc, 0, N, 1, true), Ok(None));
-    assert!(rt; shows(undoable, 0, 10, "a", false, 2));
+    check(rt, shows(undoable, 0, 10, "a", false, 2), "the sum");
     check_and_unwind(rt, undoable, &ADDED);
 }
 
@@ -532,7 +523,7 @@ fn check_lost<C: Container>(rt: &impl Abort, alloc: Global, undoable: &mut Undoa
     let lost = undoable.add(rt, alloc, 0, K, 2, false);
     assert_answer(rt, lost, Err(Refusal::Lost { index: BY_K, id: 2 }));
     check_and_unwind(rt, undoable, &LOST);
-    assert!(rt; shows(undoable, 0, 10, "a", false, 1));
+    check(rt, shows(undoable, 0, 10, "a", false, 1), "no sum");
 }
 
 /// A move in the list before a record or to its end: the list afterwards.
@@ -625,10 +616,10 @@ fn settle_all<C: Container>(rt: &impl Abort, undoable: &mut Undoable<C>)
     ensures { CanTakeBack undoable.new.schema (C.shape undoable.new.rows) (C.plain undoable.new.rows) undoable.new.inverses.items }
 {
     for _ in 0..5 {
-        assert!(rt; undoable.settle());
+        check(rt, undoable.settle(), "a change is settled");
     }
-    assert!(rt; !undoable.settle());
-    assert!(rt; !undoable.unwind());
+    check(rt, !undoable.settle(), "all are settled");
+    check(rt, !undoable.unwind(), "none is taken back");
 }
 
 const SECOND_AGAIN: Row = Row {
@@ -736,11 +727,11 @@ fn check_reuse<C: Container>(rt: &impl Abort, alloc: Global, undoable: &mut Undo
 {
     add_account(rt, alloc, undoable);
     assert_answer(rt, undoable.add(rt, alloc, 0, BALANCE, 4, false), Ok(None));
-    assert!(rt; has_account(undoable, 5));
-    assert!(rt; undoable.unwind());
-    assert!(rt; has_account(undoable, 1));
-    assert!(rt; undoable.unwind());
-    assert!(rt; !undoable.has(0));
+    check(rt, has_account(undoable, 5), "the balance is changed");
+    check(rt, undoable.unwind(), "a change is taken back");
+    check(rt, has_account(undoable, 1), "it is as it was");
+    check(rt, undoable.unwind(), "a change is taken back");
+    check(rt, !undoable.has(0), "no account");
     add_account(rt, alloc, undoable);
 }
 

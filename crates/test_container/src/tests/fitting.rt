@@ -5,6 +5,7 @@ ghost use Rattle.mi_value.specs.Edits as edits_meaning;
 ghost use Rattle.mi_catalog.specs.Fits as fits_meaning;
 ghost use Rattle.mi_catalog.specs.Shape.{index_at};
 
+use super::asking::check_below;
 use mi_catalog::{Column, IndexKind, Schema};
 use mi_value::limits::MAX_TEXT;
 use mi_value::{ColumnType, Edit, Value};
@@ -76,6 +77,6 @@ pub(super) fn kind_at(rt: &impl Abort, schema: &Schema, index: usize) -> IndexKi
     ensures there { index < length schema.now.indexes }
     ensures kind { result ≡ (index_at schema.now index).kind }
 {
-    assert!(rt; index < schema.index_count());
+    check_below(rt, index, schema.index_count());
     schema.kind(index)
 }

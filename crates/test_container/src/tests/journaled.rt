@@ -2,6 +2,7 @@
 ghost use Rattle.std.specs.Prelude.{IfOk};
 ghost use Rattle.test_container.specs.Journaled.{CanGoBack};
 
+use super::asking::{assert_id, assert_number, check, check_below};
 use super::fitting::fits_edits;
 use mi_catalog::Schema;
 use mi_container::{Container, Inverse};
@@ -52,7 +53,7 @@ impl<C: Container> Journaled<C> {
     {
         self.journal.reserve(2, 2).expect(rt, "memory is there");
         let (changes, sessions) = self.journal.room();
-        assert!(rt; changes >= 2 && sessions >= 2);
+        check(rt, changes >= 2 && sessions >= 2, "room for two");
     }
 
     /// Opens a session.
@@ -70,9 +71,9 @@ impl<C: Container> Journaled<C> {
         ensures { CanGoBack self.new.schema (C.shape self.new.rows) (C.plain self.new.rows) self.new.journal.sessions }
     {
         self.journal.reserve(1, 0).expect(rt, "memory is there");
-        assert!(rt; self.journal.depth() > 0);
+        check_below(rt, 0, self.journal.depth());
         self.rows.keeps_rules();
-        assert!(rt; self.schema.fits_record(&row));
+        check(rt, self.schema.fits_record(&row), "a record that fits");
         match self.rows.insert(alloc, row, None) {
             Ok((id, inverse)) => {
                 self.journal.note(0, inverse);
@@ -88,9 +89,9 @@ impl<C: Container> Journaled<C> {
         ensures { CanGoBack self.new.schema (C.shape self.new.rows) (C.plain self.new.rows) self.new.journal.sessions }
     {
         self.journal.reserve(1, 0).expect(rt, "memory is there");
-        assert!(rt; self.journal.depth() > 0);
+        check_below(rt, 0, self.journal.depth());
         self.rows.keeps_rules();
-        assert!(rt; fits_edits(self.schema.columns(), edits));
+        check(rt, fits_edits(self.schema.columns(), edits), "edits");
         match self.rows.modify(alloc, id, edits, false) {
             Ok(inverse) => {
                 self.journal.note(0, inverse);
@@ -105,7 +106,7 @@ impl<C: Container> Journaled<C> {
         requires { CanGoBack self.old.schema (C.shape self.old.rows) (C.plain self.old.rows) self.old.journal.sessions }
         ensures { CanGoBack self.new.schema (C.shape self.new.rows) (C.plain self.new.rows) self.new.journal.sessions }
     {
-        assert!(rt; self.journal.depth() >= 2);
+        check_below(rt, 1, self.journal.depth());
         self.journal.join_top();
     }
 
@@ -145,8 +146,8 @@ impl<C: Container> Journaled<C> {
         requires { CanGoBack self.old.schema (C.shape self.old.rows) (C.plain self.old.rows) self.old.journal.sessions }
         ensures { CanGoBack self.new.schema (C.shape self.new.rows) (C.plain self.new.rows) self.new.journal.sessions }
     {
-        assert!(rt; self.journal.depth() > 0);
-        assert!(rt; self.journal.take_oldest().is_none());
+        check_below(rt, 0, self.journal.depth());
+        check(rt, self.journal.take_oldest().is_none(), "all are settled");
         self.journal.end_oldest();
     }
 
@@ -154,8 +155,8 @@ impl<C: Container> Journaled<C> {
     fn end_newest(&mut self, rt: &impl Abort)
         requires { CanGoBack self.old.schema (C.shape self.old.rows) (C.plain self.old.rows) self.old.journal.sessions }
     {
-        assert!(rt; self.journal.depth() > 0);
-        assert!(rt; self.journal.pop().is_none());
+        check_below(rt, 0, self.journal.depth());
+        check(rt, self.journal.pop().is_none(), "all are taken back");
         self.journal.end_session();
     }
 }
@@ -166,7 +167,7 @@ fn add<C: Container>(rt: &impl Abort, alloc: Global, kept: &mut Journaled<C>, n:
     ensures { CanGoBack kept.new.schema (C.shape kept.new.rows) (C.plain kept.new.rows) kept.new.journal.sessions }
 {
     let row = Record::new(alloc, &[ValueRef::Int(n)]).expect(rt, "memory is there");
-    assert_eq!(rt; kept.insert(rt, alloc, row), Some(id));
+    assert_id(rt, kept.insert(rt, alloc, row), Some(id));
 }
 
 /// The number of a record, if it has one.
@@ -178,7 +179,7 @@ fn number_of(row: &Record) -> Option<i64> {
 }
 
 /// Asserts the number of a record, if it is there.
-fn assert_number<C: Container>(rt: &impl Abort, kept: &Journaled<C>, id: u64, want: Option<i64>) {
+fn assert_kept<C: Container>(rt: &impl Abort, kept: &Journaled<C>, id: u64, want: Option<i64>) {
     let got = match kept.rows.get(id, &mut Steps::new()) {
         Some(row) => number_of(row),
         None => None,
@@ -193,13 +194,13 @@ fn assert_change(rt: &impl Abort, got: Option<Noted>, want: Option<Noted>) {
 
 /// Asserts how many sessions are open.
 fn assert_depth<C: Container>(rt: &impl Abort, kept: &Journaled<C>, want: usize) {
-    assert_eq!(rt; kept.journal.depth(), want);
+    assert_number(rt, kept.journal.depth() as u64, want as u64);
 }
 
 /// Asserts that no session is open, and that one record is there.
 fn assert_one_left<C: Container>(rt: &impl Abort, kept: &Journaled<C>) {
     assert_depth(rt, kept, 0);
-    assert_eq!(rt; kept.rows.size(), 1);
+    assert_number(rt, kept.rows.size(), 1);
 }
 
 /// Adds a number for good.
@@ -223,8 +224,9 @@ fn lose_one<C: Container>(rt: &impl Abort, alloc: Global, kept: &mut Journaled<C
     kept.start(rt);
     add(rt, alloc, kept, 8, 1);
     kept.start(rt);
-    assert!(rt; kept.modify(rt, alloc, 1, &[Edit::Put(0, Value::Int(7))]));
-    assert_number(rt, kept, 1, None);
+    let changed = kept.modify(rt, alloc, 1, &[Edit::Put(0, Value::Int(7))]);
+    check(rt, changed, "it is changed");
+    assert_kept(rt, kept, 1, None);
     kept.squash(rt);
     assert_depth(rt, kept, 1);
 }
@@ -235,9 +237,9 @@ fn check_back<C: Container>(rt: &impl Abort, alloc: Global, kept: &mut Journaled
 {
     lose_one(rt, alloc, kept);
     assert_change(rt, kept.back(), Some((0, Some((BY_N, 0)))));
-    assert_number(rt, kept, 1, Some(8));
+    assert_kept(rt, kept, 1, Some(8));
     assert_change(rt, kept.back(), Some((0, None)));
-    assert_number(rt, kept, 1, None);
+    assert_kept(rt, kept, 1, None);
     assert_change(rt, kept.back(), None);
     kept.end_newest(rt);
     assert_one_left(rt, kept);
@@ -252,7 +254,7 @@ fn check_settled<C: Container>(rt: &impl Abort, alloc: Global, kept: &mut Journa
     assert_change(rt, kept.settle(), Some((0, Some((BY_N, 0)))));
     assert_change(rt, kept.settle(), None);
     kept.end_oldest(rt);
-    assert_number(rt, kept, 0, Some(7));
+    assert_kept(rt, kept, 0, Some(7));
     assert_one_left(rt, kept);
 }
 

@@ -7,6 +7,7 @@ ghost use Rattle.mi_catalog.specs.Fitting.{FitsWhole, FitsPrefix, FitsLookUp};
 ghost use Rattle.mi_model.specs.Database.{table_of};
 ghost use Rattle.mi_model.specs.Table.{has as has_row};
 
+use super::asking::{check, check_below};
 use super::change::{Answer, Change, Rows, Way};
 use super::fitting::{fits_edits, kind_at};
 use mi_catalog::{Catalog, Schema};
@@ -36,7 +37,7 @@ impl Reference {
         ensures schema { result.now ≡ schema_at self.now.plain.catalog 0 }
     {
         let catalog = self.plain.catalog();
-        assert!(rt; catalog.table_count() > 0);
+        check_below(rt, 0, catalog.table_count());
         catalog.table(0)
     }
 
@@ -48,8 +49,8 @@ impl Reference {
     {
         let schema = self.schema(rt);
         let kind = kind_at(rt, schema, i);
-        assert!(rt; kind.has_keys());
-        assert!(rt; schema.fits_key(i, key, kind.is_hashed()));
+        check(rt, kind.has_keys(), "it has keys");
+        check(rt, schema.fits_key(i, key, kind.is_hashed()), "a key of it");
     }
 
     /// Stops unless it is hashed.
@@ -57,7 +58,7 @@ impl Reference {
         ensures table { HasTable self.now.plain.catalog 0 }
         ensures index { IsHashedIndex self.now.plain.catalog 0 i }
     {
-        assert!(rt; kind_at(rt, self.schema(rt), i).is_hashed());
+        check(rt, kind_at(rt, self.schema(rt), i).is_hashed(), "hashed");
     }
 
     /// Stops unless it is hashed, and values are a whole key of it.
@@ -67,7 +68,7 @@ impl Reference {
         ensures key { FitsWhole self.now.plain.catalog 0 i key.now }
     {
         self.want_hashed(rt, i);
-        assert!(rt; self.schema(rt).fits_key(i, key, true));
+        check(rt, self.schema(rt).fits_key(i, key, true), "a whole key");
     }
 
     /// Stops unless it is ordered or ranked.
@@ -75,7 +76,7 @@ impl Reference {
         ensures table { HasTable self.now.plain.catalog 0 }
         ensures index { IsSortedIndex self.now.plain.catalog 0 i }
     {
-        assert!(rt; kind_at(rt, self.schema(rt), i).is_sorted());
+        check(rt, kind_at(rt, self.schema(rt), i).is_sorted(), "sorted");
     }
 
     /// Stops unless it is ordered or ranked, and values are a key of it, or the first values of one.
@@ -85,8 +86,8 @@ impl Reference {
         ensures key { FitsPrefix self.now.plain.catalog 0 i key.now }
     {
         let schema = self.schema(rt);
-        assert!(rt; kind_at(rt, schema, i).is_sorted());
-        assert!(rt; schema.fits_key(i, key, false));
+        check(rt, kind_at(rt, schema, i).is_sorted(), "it is sorted");
+        check(rt, schema.fits_key(i, key, false), "a prefix");
     }
 
     /// Stops unless it is sequenced.
@@ -94,7 +95,8 @@ impl Reference {
         ensures table { HasTable self.now.plain.catalog 0 }
         ensures index { IsSequencedIndex self.now.plain.catalog 0 i }
     {
-        assert!(rt; kind_at(rt, self.schema(rt), i).is_sequenced());
+        let kind = kind_at(rt, self.schema(rt), i);
+        check(rt, kind.is_sequenced(), "it is sequenced");
     }
 
     /// Stops unless it shows one list.
@@ -102,7 +104,8 @@ impl Reference {
         ensures table { HasTable self.now.plain.catalog 0 }
         ensures index { IsListedIndex self.now.plain.catalog 0 i }
     {
-        assert!(rt; kind_at(rt, self.schema(rt), i).shows_one_list());
+        let kind = kind_at(rt, self.schema(rt), i);
+        check(rt, kind.shows_one_list(), "it shows one list");
     }
 
     /// Stops unless a record may be placed there.
@@ -119,7 +122,8 @@ impl Reference {
         requires { HasTable self.now.plain.catalog 0 }
         ensures { IsTrue (has_row (table_of self.now.plain 0) id) }
     {
-        assert!(rt; self.plain.get(0, id, &mut Steps::new()).is_some());
+        let found = self.plain.get(0, id, &mut Steps::new());
+        check(rt, found.is_some(), "a record");
     }
 
     fn insert(
@@ -129,7 +133,7 @@ impl Reference {
         row: Record,
         before: Option<(usize, u64)>,
     ) -> Answer {
-        assert!(rt; self.schema(rt).fits_record(&row));
+        check(rt, self.schema(rt).fits_record(&row), "a record that fits");
         self.want_place(rt, before);
         match self.plain.insert(alloc, 0, row, before) {
             Ok(id) => Ok(Some(id)),
@@ -138,7 +142,7 @@ impl Reference {
     }
 
     fn replace(&mut self, rt: &impl Abort, alloc: Global, id: u64, row: Record) -> Answer {
-        assert!(rt; self.schema(rt).fits_record(&row));
+        check(rt, self.schema(rt).fits_record(&row), "a record that fits");
         match self.plain.replace(alloc, 0, id, row) {
             Ok(()) => Ok(None),
             Err((refusal, _)) => Err(refusal),
@@ -153,7 +157,7 @@ impl Reference {
         edits: &[Edit],
         rollback: bool,
     ) -> Answer {
-        assert!(rt; fits_edits(self.schema(rt).columns(), edits));
+        check(rt, fits_edits(self.schema(rt).columns(), edits), "edits");
         self.plain.modify(alloc, 0, id, edits, rollback)?;
         Ok(None)
     }

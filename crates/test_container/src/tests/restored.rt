@@ -1,4 +1,5 @@
 //! Containers that are restored from rows and lists, and tables of which none is.
+use super::asking::check;
 use super::container::TABLE;
 use mi_container::RestoreFault;
 use mi_multi::MultiIndex;
@@ -54,8 +55,9 @@ fn restored(
         all.push(ids).expect(rt, "memory is there");
     }
     let made = MultiIndex::restored(alloc, schema, 7, rows, all.as_slice(), next, arrivals)?;
-    for id in ids {
-        assert!(rt; made.get(id, &mut Steps::new()).is_some());
+    for id in &ids {
+        let row = made.get(*id, &mut Steps::new());
+        check(rt, row.is_some(), "a row is there");
     }
     Ok(made.size())
 }

@@ -6,6 +6,7 @@ ghost use Rattle.mi_container.specs.Asked.{IsKeyed, IsHashed, IsSorted, IsSequen
 ghost use Rattle.mi_container.specs.Data.{as_table};
 ghost use Rattle.test_container.specs.Undone.{CanTakeBack};
 
+use super::asking::{check, check_below};
 use super::change::{Answer, Rows, Way};
 use super::fitting::{fits_edits, kind_at};
 use mi_catalog::Schema;
@@ -41,7 +42,7 @@ impl<C: Container> Undoable<C> {
         requires { CanTakeBack self.now.schema (C.shape self.now.rows) (C.plain self.now.rows) self.now.inverses.items }
         ensures { IsKeyed (C.shape self.now.rows) index }
     {
-        assert!(rt; kind_at(rt, &self.schema, index).has_keys());
+        check(rt, kind_at(rt, &self.schema, index).has_keys(), "keys");
     }
 
     /// Stops unless it is hashed.
@@ -49,7 +50,7 @@ impl<C: Container> Undoable<C> {
         requires { CanTakeBack self.now.schema (C.shape self.now.rows) (C.plain self.now.rows) self.now.inverses.items }
         ensures { IsHashed (C.shape self.now.rows) index }
     {
-        assert!(rt; kind_at(rt, &self.schema, index).is_hashed());
+        check(rt, kind_at(rt, &self.schema, index).is_hashed(), "hashed");
     }
 
     /// Stops unless it is ordered or ranked.
@@ -57,7 +58,7 @@ impl<C: Container> Undoable<C> {
         requires { CanTakeBack self.now.schema (C.shape self.now.rows) (C.plain self.now.rows) self.now.inverses.items }
         ensures { IsSorted (C.shape self.now.rows) index }
     {
-        assert!(rt; kind_at(rt, &self.schema, index).is_sorted());
+        check(rt, kind_at(rt, &self.schema, index).is_sorted(), "sorted");
     }
 
     /// Stops unless it is sequenced.
@@ -65,7 +66,8 @@ impl<C: Container> Undoable<C> {
         requires { CanTakeBack self.now.schema (C.shape self.now.rows) (C.plain self.now.rows) self.now.inverses.items }
         ensures { IsSequenced (C.shape self.now.rows) index }
     {
-        assert!(rt; kind_at(rt, &self.schema, index).is_sequenced());
+        let kind = kind_at(rt, &self.schema, index);
+        check(rt, kind.is_sequenced(), "it is sequenced");
     }
 
     /// Stops unless it shows one list.
@@ -73,7 +75,8 @@ impl<C: Container> Undoable<C> {
         requires { CanTakeBack self.now.schema (C.shape self.now.rows) (C.plain self.now.rows) self.now.inverses.items }
         ensures { ShowsOneList (C.shape self.now.rows) index }
     {
-        assert!(rt; kind_at(rt, &self.schema, index).shows_one_list());
+        let kind = kind_at(rt, &self.schema, index);
+        check(rt, kind.shows_one_list(), "it shows one list");
     }
 
     /// Stops unless a record may be placed there.
@@ -91,8 +94,8 @@ impl<C: Container> Undoable<C> {
         requires { CanTakeBack self.now.schema (C.shape self.now.rows) (C.plain self.now.rows) self.now.inverses.items }
         ensures { WholeKey (C.shape self.now.rows) index key.now }
     {
-        assert!(rt; index < self.schema.index_count());
-        assert!(rt; self.schema.fits_key(index, key, true));
+        check_below(rt, index, self.schema.index_count());
+        check(rt, self.schema.fits_key(index, key, true), "a whole key");
     }
 
     /// Stops unless they are a key of it, or the first values of one.
@@ -100,15 +103,15 @@ impl<C: Container> Undoable<C> {
         requires { CanTakeBack self.now.schema (C.shape self.now.rows) (C.plain self.now.rows) self.now.inverses.items }
         ensures { KeyPrefix (C.shape self.now.rows) index key.now }
     {
-        assert!(rt; index < self.schema.index_count());
-        assert!(rt; self.schema.fits_key(index, key, false));
+        check_below(rt, index, self.schema.index_count());
+        check(rt, self.schema.fits_key(index, key, false), "a prefix");
     }
 
     /// Stops unless there is a record of this id.
     fn want_record(&self, rt: &impl Abort, id: u64)
         ensures { IsTrue (has_row (as_table (C.plain self.now.rows)) id) }
     {
-        assert!(rt; self.has(id));
+        check(rt, self.has(id), "a record");
     }
 
     /// Whether there is a record of this id.
@@ -131,7 +134,7 @@ impl<C: Container> Undoable<C> {
     {
         self.inverses.reserve(1)?;
         self.rows.keeps_rules();
-        assert!(rt; self.schema.fits_record(&row));
+        check(rt, self.schema.fits_record(&row), "a record that fits");
         self.want_place(rt, before);
         match self.rows.insert(alloc, row, before) {
             Ok((id, inverse)) => {
@@ -149,7 +152,7 @@ impl<C: Container> Undoable<C> {
     {
         self.inverses.reserve(1)?;
         self.rows.keeps_rules();
-        assert!(rt; self.schema.fits_record(&row));
+        check(rt, self.schema.fits_record(&row), "a record that fits");
         match self.rows.replace(id, row) {
             Ok(inverse) => {
                 self.inverses.push_back_reserved(inverse);
@@ -173,7 +176,7 @@ impl<C: Container> Undoable<C> {
     {
         self.inverses.reserve(1)?;
         self.rows.keeps_rules();
-        assert!(rt; fits_edits(self.schema.columns(), edits));
+        check(rt, fits_edits(self.schema.columns(), edits), "edits");
         match self.rows.modify(alloc, id, edits, rollback) {
             Ok(inverse) => {
                 let lost = inverse.lost();

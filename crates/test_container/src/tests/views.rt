@@ -1,6 +1,7 @@
 //! What a container shows beside what the plain database shows.
 ghost use Rattle.test_container.specs.Undone.{CanTakeBack};
 
+use super::asking::assert_number;
 use super::change::Way;
 use super::container::BY_ID;
 use super::fitting::kind_at;
@@ -44,7 +45,7 @@ fn key_of(
     Ok(key)
 }
 
-/// Asserts that both answer the same record in an index, or none.
+/// Asserts that both answer the same record or number in an index, or none.
 fn assert_id(rt: &impl Abort, got: Option<u64>, want: Option<u64>, index: usize) {
     assert_eq!(rt; got, want, "index {index}");
 }
@@ -54,13 +55,8 @@ fn assert_record(rt: &impl Abort, id: u64, row: &Record, other: &Record) {
     assert!(rt; is_same(row, other), "record {id}: {row:?} and {other:?}");
 }
 
-/// Asserts that both answer the same record to a key, or none.
+/// Asserts that both answer the same record or number to a key, or none.
 fn assert_found(rt: &impl Abort, got: Option<u64>, want: Option<u64>, key: &[Value]) {
-    assert_eq!(rt; got, want, "{key:?}");
-}
-
-/// Asserts that both answer the same number to a key.
-fn assert_counted(rt: &impl Abort, got: u64, want: u64, key: &[Value]) {
     assert_eq!(rt; got, want, "{key:?}");
 }
 
@@ -99,8 +95,9 @@ fn compare_rows<C: Container>(
 )
     requires { CanTakeBack undoable.now.schema (C.shape undoable.now.rows) (C.plain undoable.now.rows) undoable.now.inverses.items }
 {
-    assert_eq!(rt; got.len() as u64, undoable.rows.size(), "index {index}");
-    assert_eq!(rt; got.len(), want.len(), "index {index}");
+    let count = Some(got.len() as u64);
+    assert_id(rt, count, Some(undoable.rows.size()), index);
+    assert_id(rt, count, Some(want.len() as u64), index);
     for ((id, row), (want, other)) in got.iter().zip(want.iter()) {
         assert_id(rt, Some(*id), Some(*want), index);
         assert_record(rt, *id, row, other);
@@ -131,6 +128,16 @@ fn compare_walk<C: Container>(
     Ok(())
 }
 
+/// A walk of all rows of an index.
+fn whole(index: usize, reverse: bool, first: u64) -> Way {
+    Way {
+        index,
+        reverse,
+        first,
+        limit: ALL,
+    }
+}
+
 /// The list that an index shows, from both ends.
 fn compare_list<C: Container>(
     rt: &impl Abort,
@@ -146,15 +153,8 @@ fn compare_list<C: Container>(
     assert_id(rt, first, reference.first(rt, index), index);
     assert_id(rt, last, reference.last(rt, index), index);
     if let (Some(first), Some(last)) = (first, last) {
-        for (reverse, first) in [(false, first), (true, last)] {
-            let way = Way {
-                index,
-                reverse,
-                first,
-                limit: ALL,
-            };
-            compare_walk(rt, alloc, undoable, reference, way)?;
-        }
+        compare_walk(rt, alloc, undoable, reference, whole(index, false, first))?;
+        compare_walk(rt, alloc, undoable, reference, whole(index, true, last))?;
     }
     Ok(())
 }
@@ -189,8 +189,10 @@ fn compare_bound_ranks<C: Container>(
 {
     let lower = undoable.lower_rank(rt, index, key);
     let upper = undoable.upper_rank(rt, index, key);
-    assert_counted(rt, lower, reference.lower_rank(rt, index, key), key);
-    assert_counted(rt, upper, reference.upper_rank(rt, index, key), key);
+    let want_lower = reference.lower_rank(rt, index, key);
+    let want_upper = reference.upper_rank(rt, index, key);
+    assert_found(rt, Some(lower), Some(want_lower), key);
+    assert_found(rt, Some(upper), Some(want_upper), key);
 }
 
 /// All that a sorted index shows of a key, or of the first values of one.
@@ -244,10 +246,10 @@ fn compare_key<C: Container>(
         reference.find(rt, index, key),
         key,
     );
-    assert_counted(
+    assert_found(
         rt,
-        undoable.count(rt, index, key),
-        reference.count(rt, index, key),
+        Some(undoable.count(rt, index, key)),
+        Some(reference.count(rt, index, key)),
         key,
     );
     let kind = kind_at(rt, &undoable.schema, index);
@@ -296,8 +298,8 @@ fn compare_ranks<C: Container>(
         let found = undoable.nth(rt, index, n);
         assert_id(rt, found, reference.nth(rt, index, n), index);
         if let Some(id) = found {
-            let rank = undoable.rank_of(rt, index, id);
-            assert_eq!(rt; rank, reference.rank_of(rt, index, id), "index {index}");
+            let rank = Some(undoable.rank_of(rt, index, id));
+            assert_id(rt, rank, Some(reference.rank_of(rt, index, id)), index);
         }
     }
 }
@@ -311,8 +313,8 @@ pub(super) fn compare<C: Container>(
 ) -> Result<(), Fail>
     requires { CanTakeBack undoable.now.schema (C.shape undoable.now.rows) (C.plain undoable.now.rows) undoable.now.inverses.items }
 {
-    assert_eq!(rt; undoable.rows.size(), reference.size(rt));
-    assert_eq!(rt; undoable.depth(), reference.depth());
+    assert_number(rt, undoable.rows.size(), reference.size(rt));
+    assert_number(rt, undoable.depth(), reference.depth());
     for index in 0..undoable.schema.index_count() {
         let kind = kind_at(rt, &undoable.schema, index);
         if kind.shows_one_list() {

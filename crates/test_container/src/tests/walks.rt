@@ -1,8 +1,9 @@
 //! Walks along an index of the four records, both ways.
 ghost use Rattle.test_container.specs.Undone.{CanTakeBack};
 
+use super::asking::{assert_number, check};
 use super::change::Way;
-use super::container::{BY_F_S, LINE, assert_number};
+use super::container::{BY_F_S, LINE};
 use super::undoable::Undoable;
 use mi_container::Container;
 use mi_value::{Record, ValueRef};
@@ -67,7 +68,7 @@ const WALKS: [Walk; 5] = [
 /// Asserts the id of a row, and its `k`.
 fn assert_row(rt: &impl Abort, id: u64, row: &Record, want: u64, k: i64) {
     assert_number(rt, id, want);
-    assert!(rt; row.get(0) == Some(ValueRef::Int(k)));
+    check(rt, row.get(0) == Some(ValueRef::Int(k)), "a row's number");
 }
 
 /// Asserts which rows are walked.
