@@ -86,11 +86,9 @@ class Watcher:
         connections = told["connections"]
         unsent = sum(it["unsent"] for it in connections)
         journal = told.get("journal") or {}
+        room = process.room_beside(process.locked_file(self.number)) if journal else None
         return Sample(time.monotonic(), sizes, now.revision, now.depth, holder, self.turns, usage, len(connections), unsent,
-                      journal.get("bytes"), journal.get("full"), lines_of(told), told.get("uptime"), process.room_beside(self.journal_file(journal)), held_for(told))
-
-    def journal_file(self, journal: Dict[str, Any]) -> Optional[str]:
-        return process.locked_file(self.number) if journal else None
+                      journal.get("bytes"), journal.get("full"), lines_of(told), told.get("uptime"), room, held_for(told))
 
     def sizes(self) -> List[Tuple[str, int]]:
         names = [it.name for it in self.db.schema.tables] if self.db.schema else ["(first)"]
