@@ -18,8 +18,8 @@ fn assert_ids(rt: &impl Abort, stock: &Stock<'_>, ids: &[Option<u32>; 4]) {
     check_each(rt, &found, ids, "the ids in order");
 }
 
-/// Keys of a small tree of the ids 12, 10 and 11, whose keys are 3, 5 and 5: the first node not before each, the first behind it, and its
-/// own; how many keys are less, and how many aren't greater.
+/// Keys of a small tree of the ids 12, 10 and 11, whose keys are 3, 5 and 5. Of each are told the first node that isn't before it, the first
+/// behind it, and its own. Then come how many keys are less, and how many aren't greater.
 const AT_KEYS: [(i64, [Option<u32>; 5]); 5] = [
     (2, [Some(12), Some(12), None, Some(0), Some(0)]),
     (3, [Some(12), Some(10), Some(12), Some(0), Some(1)]),
