@@ -90,6 +90,24 @@ fn turn<'a, D: Sessions + Drop, L: Log + Drop>(
     }
 }
 
+/// Connections 2 and 3 come with these streams, and there are three turns.
+fn three_turns<'a, D: Sessions + Drop, L: Log + Drop>(
+    alloc: Global,
+    ledger: &mut Ledger<D, L>,
+    row: &mut Vec<Client<Pipe<'a>>>,
+    first: Pipe<'a>,
+    second: Pipe<'a>,
+) -> Result<(), Fail>
+    requires attends { Attends (ids row.old.items) (hub_of ledger.old).attached }
+    requires settled { IsSettled L.appended L.synced ledger.old }
+{
+    come(alloc, ledger, row, 2, first)?;
+    come(alloc, ledger, row, 3, second)?;
+    turn(alloc, ledger, row)?;
+    turn(alloc, ledger, row)?;
+    turn(alloc, ledger, row)
+}
+
 /// Three turns of two connections, 2 and 3, that have sent these bytes, over a journal that has room for so many.
 fn serve_two<'a>(
     alloc: Global,
@@ -102,11 +120,7 @@ fn serve_two<'a>(
     let log = DeviceLog::new(device);
     let mut ledger = Ledger::<Plain, DeviceLog<MemoryDevice>>::new(hub(alloc)?, log);
     let mut row = Vec::new(alloc);
-    come(alloc, &mut ledger, &mut row, 2, first)?;
-    come(alloc, &mut ledger, &mut row, 3, second)?;
-    turn(alloc, &mut ledger, &mut row)?;
-    turn(alloc, &mut ledger, &mut row)?;
-    turn(alloc, &mut ledger, &mut row)
+    three_turns(alloc, &mut ledger, &mut row, first, second)
 }
 
 /// What is replied to connection 3, beside connection 2, which has sent other bytes.
@@ -236,27 +250,52 @@ fn a_holder_is_ended(rt: HostRuntime) -> Result<(), Fail> {
     Ok(())
 }
 
+/// Two lines of the connection beside a row are answered.
+fn serve_lines<'a, D: Sessions + Drop, L: Log + Drop>(
+    alloc: Global,
+    ledger: &Ledger<D, L>,
+    row: &[Client<Pipe<'a>>],
+    beside: &mut Beside<Pipe<'a>>,
+) -> Result<(), Fail> {
+    let schema = SchemaLine::of(alloc, "a \"t\"\n")?;
+    let mut buffer = [0u8; 4096];
+    for _line in 0..2u64 {
+        beside.serve(alloc, ledger, row, &mut buffer, &schema, 7);
+    }
+    Ok(())
+}
+
+/// Connection 2 comes with a stream. The one beside it is served four times, and what that has asked to end is ended in between.
+fn turns_beside<'a, D: Sessions + Drop, L: Log + Drop>(
+    alloc: Global,
+    ledger: &mut Ledger<D, L>,
+    row: &mut Vec<Client<Pipe<'a>>>,
+    first: Pipe<'a>,
+    beside: &mut Beside<Pipe<'a>>,
+) -> Result<(), Fail>
+    requires attends { Attends (ids row.old.items) (hub_of ledger.old).attached }
+    requires settled { IsSettled L.appended L.synced ledger.old }
+{
+    come(alloc, ledger, row, 2, first)?;
+    turn(alloc, ledger, row)?;
+    serve_lines(alloc, ledger, row.as_slice(), beside)?;
+    end_beside(beside, row);
+    serve_lines(alloc, ledger, row.as_slice(), beside)?;
+    turn(alloc, ledger, row)
+}
+
 /// A connection beside connection 2 is served four times, and what it has asked to end is ended in between. Whether connection 2 is gone then, nobody holds
 /// sessions, and the other one, whose last line was none of the service's, is gone too.
 fn serve_beside<'a>(alloc: Global, first: Pipe<'a>, other: Pipe<'a>) -> Result<bool, Fail> {
     let log = DeviceLog::new(MemoryDevice::new(alloc, 100, 100));
     let mut ledger = Ledger::<Plain, DeviceLog<MemoryDevice>>::new(hub(alloc)?, log);
     let mut row = Vec::new(alloc);
-    come(alloc, &mut ledger, &mut row, 2, first)?;
-    turn(alloc, &mut ledger, &mut row)?;
-    let schema = SchemaLine::of(alloc, "a \"t\"\n")?;
-    let mut buffer = [0u8; 4096];
     let mut beside = Beside::new();
     beside.seat(alloc, 3, other);
-    for _line in 0..2u64 {
-        beside.serve(alloc, &ledger, row.as_slice(), &mut buffer, &schema, 7);
+    match turns_beside(alloc, &mut ledger, &mut row, first, &mut beside) {
+        Ok(()) => Ok(row.is_empty() && ledger.hub().holder().is_none() && beside.is_free()),
+        Err(fail) => Err(fail),
     }
-    end_beside(&mut beside, &mut row);
-    for _line in 0..2u64 {
-        beside.serve(alloc, &ledger, row.as_slice(), &mut buffer, &schema, 7);
-    }
-    turn(alloc, &mut ledger, &mut row)?;
-    Ok(row.is_empty() && ledger.hub().holder().is_none() && beside.is_free())
 }
 
 /// Beside the others a status is told, and a holder is ended; a line of the tables is refused and changes nothing, and who asks it goes.

@@ -170,6 +170,14 @@ impl<'a> JournalFiles for OneFile<'a> {
     }
 }
 
+/// What a journal's file has, where there is one.
+fn bytes_of(alloc: Global, file: Option<&MemoryFile>) -> Result<Result<String, String>, Fail> {
+    match file {
+        Some(file) => Ok(Ok(String::from_utf8_lossy(alloc, file.bytes.as_slice())?)),
+        None => Ok(Err(String::from_str(alloc, "no file")?)),
+    }
+}
+
 /// What a file has once it is opened, or the line of the failure.
 fn left_of(
     alloc: Global,
@@ -184,10 +192,7 @@ fn left_of(
         named: Cell::new(named),
     };
     match opened(alloc, &files, hub(alloc)?, "j", Keeping::Synced, "head") {
-        Ok(ledger) => match ledger.log().device().file() {
-            Some(file) => Ok(Ok(String::from_utf8_lossy(alloc, file.bytes.as_slice())?)),
-            None => Ok(Err(String::from_str(alloc, "no file")?)),
-        },
+        Ok(ledger) => bytes_of(alloc, ledger.log().device().file()),
         Err(fault) => Ok(Err(fault.failure.to_string(alloc)?)),
     }
 }
