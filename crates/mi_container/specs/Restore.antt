@@ -1,4 +1,5 @@
 -- A container that is restored from a table: its rows come in by their ids, and then each index is put in the order of its list.
+--     image_table      the table that an image is
 --     restamped_in, restamped_all      rows get other stamps in one index
 --     moved_all      rows go to the end of the list of one index, one after another
 --     High, Low      no row has a stamp there that is below a count, or each has
@@ -21,7 +22,12 @@ use Rattle.mi_container.specs.Data.{Content, Data, has_stamps, order_at, content
 use Rattle.mi_container.specs.Changes.{with_content, relocated_in}
 use Rattle.mi_container.specs.Fits.{IsThere}
 use Rattle.mi_container.specs.declared.restore.RestoreFault.{RestoreFault}
+use Rattle.mi_container.specs.declared.restore.TableImage.{TableImage}
 use Rattle.mi_container.specs.declared.restore.RestoreFault.TheVariants as fault
+
+-- the table that an image is
+abbrev pub image_table : TableImage → Table
+image_table i = record { rows = i.rows.items; lists = map (λ l. l.items) i.lists.items; next = i.next; arrivals = i.arrivals }
 
 -- another stamp in the index of number x
 abbrev pub with_stamp : ℕ → ℕ → Content → Content

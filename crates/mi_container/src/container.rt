@@ -16,6 +16,7 @@ ghost use Rattle.mi_container.specs.Data.{Data, IsData, as_table};
 ghost use Rattle.mi_container.specs.Held.{HoldsNodes};
 ghost use Rattle.mi_container.specs.Changes.{opened_data};
 ghost use Rattle.mi_container.specs.Secrets.{opened_secrets};
+ghost use Rattle.mi_container.specs.Restore.{image_table, IsRestoreFault};
 ghost use Rattle.mi_container.specs.Backs.{row_seen};
 ghost use Rattle.mi_container.specs.Inverse.{taken_back, settled, lost_to};
 ghost use Rattle.mi_container.specs.Inverse.Inverse.{Inserted};
@@ -24,6 +25,7 @@ ghost use Rattle.mi_container.specs.Run.Change.{Replace, Erase, Relocate};
 ghost use Rattle.mi_container.specs.Makes.{Makes, MakesInsert, MakesModify, MeetsOn, insert_answer, insert_row_answer, replace_answer, erase_answer, modify_answer, IsNoLoss};
 
 use crate::inverse::{Inverse, RowRef};
+use crate::restore::{RestoreFault, TableImage};
 use mi_catalog::Schema;
 use mi_value::{Edit, Lower, Record, Refusal, Steps, Upper, Value};
 use std::alloc::{AllocError, Global};
@@ -64,6 +66,23 @@ pub trait Container: Drop {
         ensures plain { IfOk result (λ made. plain made ≡ opened_data schema) }
         ensures held { IfOk result (λ made. held made ≡ []) }
         ensures secrets { IfOk result (λ made. secrets made ≡ opened_secrets secret schema) };
+
+    /// A container that holds a table: these rows, by ids that rise below `next`, and each index in the order of its list, of
+    /// which there is one an index. A list has each id once; that of a sequenced index is its order, and that of an ordered, ranked
+    /// or hashed one with parts the order in which rows of one key stand. No node is kept.
+    ///
+    /// A refusal says what is wrong with the table, or that memory was refused; then nothing is left.
+    fn restored(
+        alloc: Global,
+        schema: Schema,
+        secret: u64,
+        image: TableImage,
+    ) -> Result<Self, RestoreFault>
+        ensures shape { IfOk result (λ made. shape made ≡ schema) }
+        ensures table { IfOk result (λ made. as_table (plain made) ≡ image_table image) }
+        ensures kept { IfOk result (λ made. (plain made).kept ≡ []) }
+        ensures secrets { IfOk result (λ made. secrets made ≡ opened_secrets secret schema) }
+        ensures fault { IfErr result (λ e. IsRestoreFault schema (image_table image) e) };
 
     /// Adds a record and answers its id. It goes last in each index among its equals; in the sequenced index that `before`
     /// names it stands directly before the record that `before` names.
@@ -168,6 +187,10 @@ pub trait Container: Drop {
     /// How many records there are.
     fn size(&self) -> u64
         ensures { result ≡ size_of (as_table (plain self.now)) };
+
+    /// How many bytes of memory it takes: its nodes, its indexes, its map of ids, and records that don't lie in their nodes. No clause says how
+    /// many; tests do. Its time doesn't grow with the table.
+    fn memory(&self) -> u64;
 
     /// The first id with a whole key in an index with keys, or none. Takes no memory.
     fn find(&self, index: usize, key: &[Value]) -> Option<u64>

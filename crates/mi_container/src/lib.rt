@@ -11,4 +11,4 @@ mod restore;
 
 pub use container::Container;
 pub use inverse::{Inverse, MAX_PLACES, OldPlaces, RowRef, Undo};
-pub use restore::RestoreFault;
+pub use restore::{RestoreFault, TableImage};

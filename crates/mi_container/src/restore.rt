@@ -1,8 +1,23 @@
-//! Why no container is restored from a table. Plain data.
+//! A table as plain data, and why no container is restored from one.
 ghost use Rattle.std.specs.Prelude.{◌≡◌};
 ghost use Rattle.mi_container.specs.declared.restore.RestoreFault.TheVariants.{Memory};
 
+use mi_value::Record;
 use std::alloc::{AllocError, AllocFailed};
+
+/// A table as it is kept outside of a process. No stamp is in it, only order.
+#[derive(Drop)]
+pub struct TableImage {
+    /// The rows by rising ids.
+    pub rows: Vec<(u64, Record)>,
+    /// For each index, by its number, every id once: in the order of the index, where it shows one list; of a hashed one in an order that keeps
+    /// that of rows of one key.
+    pub lists: Vec<Vec<u64>>,
+    /// The next id.
+    pub next: u64,
+    /// The count of arrivals.
+    pub arrivals: u64,
+}
 
 /// Why no container is restored from a table.
 #[derive(Clone, Copy, Debug, PartialEq, Eq)]

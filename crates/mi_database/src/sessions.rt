@@ -222,6 +222,10 @@ impl<C: Container> Sessions for Linked<C> {
         self.at(table).size()
     }
 
+    fn memory(&self, table: usize) -> Option<u64> {
+        Some(self.at(table).memory())
+    }
+
     fn get(&self, table: usize, id: u64, steps: &mut Steps) -> Option<&Record> {
         self.at(table).get(id, steps)
     }

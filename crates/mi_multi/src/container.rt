@@ -1,7 +1,7 @@
 //! The container as callers of its trait see it. Each call is the container's own.
 use crate::multi::MultiIndex;
 use mi_catalog::Schema;
-use mi_container::{Container, Inverse, RowRef};
+use mi_container::{Container, Inverse, RestoreFault, RowRef, TableImage};
 use mi_value::{Edit, Lower, Record, Refusal, Steps, Upper, Value};
 use std::alloc::{AllocError, Global};
 
@@ -24,6 +24,21 @@ impl Container for MultiIndex {
 
     fn new(alloc: Global, schema: Schema, secret: u64) -> Result<Self, AllocError> {
         MultiIndex::new(alloc, schema, secret)
+    }
+
+    fn restored(
+        alloc: Global,
+        schema: Schema,
+        secret: u64,
+        image: TableImage,
+    ) -> Result<Self, RestoreFault> {
+        let TableImage {
+            rows,
+            lists,
+            next,
+            arrivals,
+        } = image;
+        MultiIndex::restored(alloc, schema, secret, rows, lists.as_slice(), next, arrivals)
     }
 
     fn insert(
@@ -76,6 +91,10 @@ impl Container for MultiIndex {
 
     fn size(&self) -> u64 {
         self.size()
+    }
+
+    fn memory(&self) -> u64 {
+        self.memory()
     }
 
     fn find(&self, index: usize, key: &[Value]) -> Option<u64> {

@@ -180,6 +180,11 @@ impl Sessions for Plain {
         self.tables[table].size()
     }
 
+    fn memory(&self, table: usize) -> Option<u64> {
+        let _ = table;
+        None
+    }
+
     fn get(&self, table: usize, id: u64, steps: &mut Steps) -> Option<&Record> {
         let _ = steps;
         self.tables[table].get(id)

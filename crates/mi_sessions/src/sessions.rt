@@ -131,6 +131,11 @@ pub trait Sessions {
         requires { HasTable (state self.now).catalog table }
         ensures { result ≡ size_of (table_of (state self.now) table) };
 
+    /// How many bytes of memory a table takes: its nodes, its indexes, its map of ids, and records that don't lie in their nodes. None, where
+    /// the database doesn't count them. No clause says how many; tests do.
+    fn memory(&self, table: usize) -> Option<u64>
+        requires { HasTable (state self.now).catalog table };
+
     /// The record of an id, or none. At most one look-up.
     fn get(&self, table: usize, id: u64, steps: &mut Steps) -> Option<&Record>
         requires { HasTable (state self.now).catalog table }

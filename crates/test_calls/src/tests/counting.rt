@@ -119,6 +119,10 @@ impl<D: Sessions> Sessions for Counting<D> {
         self.inner.size(table)
     }
 
+    fn memory(&self, table: usize) -> Option<u64> {
+        self.inner.memory(table)
+    }
+
     fn get(&self, table: usize, id: u64, steps: &mut Steps) -> Option<&Record> {
         self.ask().get(table, id, steps)
     }
