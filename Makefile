@@ -130,7 +130,7 @@ install:
 	@install -m 644 bench/README.md '$(SHARE)/bench/'
 	@install -m 644 examples/* '$(SHARE)/examples/'
 	@install -m 644 scripts/program.py scripts/schema_lint.py '$(SHARE)/scripts/'
-	@install -m 644 scripts/journal.py scripts/reference.py '$(SHARE)/scripts/'
+	@install -m 644 scripts/bases.py scripts/journal.py scripts/reference.py '$(SHARE)/scripts/'
 	@install -m 644 $(filter-out %/tests,$(wildcard clients/python/*.*)) '$(SHARE)/clients/python/'
 	@install -m 644 $(wildcard clients/python/mi_client/*.*) '$(SHARE)/clients/python/mi_client/'
 	@install -m 644 $(wildcard clients/python/mi_tools/*.*) '$(SHARE)/clients/python/mi_tools/'

@@ -7,8 +7,11 @@
     journal.py compact FILE [--to NEW]                          a shorter journal of the same database, in a new file that is then renamed
     journal.py copy FILE NEW                                    its text up to the last newline, also of one that is in use
 
+A journal may have a base, FILE.base, which has the tables behind some line, and segments, FILE.000002 and on: `mi_service --rebase` makes
+them. check, stat and copy take them all, from the base on; compact takes a journal of one file.
+
 A journal's first line is its header, {"journal":1,"revision":R,"schema":"HASH"}: the format, the first revision and the hash of the
-schema. It is no command, so `mi_server < FILE` refuses it and then does the other lines, as one connection. Of each holder that went
+schema. That of a later segment has its number too, and the SHA-256 of the segment before it. It is no command, so `mi_server < FILE` refuses it and then does the other lines, as one connection. Of each holder that went
 away there is an undo for each session that it held. A journal's text ends at its first zero byte. Behind its last newline a torn line may
 stand, and behind the text room: zeros that the service writes over. Where other bytes stand behind zeros, a start of the service would cut
 them off; that is damage here, but for `copy`. Of a file that is in use the text is read that is there at the beginning.
@@ -19,13 +22,14 @@ were held. So the database is the same, the open sessions are, and as many of th
 locked, and a file that another program has locked is refused; so are a file whose place the new one takes, and the new one until its name
 stays. Where --to names no file yet, one that has come meanwhile keeps its name, and the status is 4. Symbolic links are followed.
 
-Statuses: 0; 2 where the words are wrong, or name another schema than the journal's; 3 where the journal is damaged, with the number of the first
-such line, from 1; 4 where a file can't be read or written, or is in use. A torn end is said, and is no damage."""
+Statuses: 0; 2 where the words are wrong, or name another schema than the journal's; 3 where the journal or its base is damaged, with the number of
+the first such line, from 1; 4 where a file can't be read or written, or is in use. A torn end is said, and is no damage."""
 import argparse
 import bisect
 import collections
 import contextlib
 import fcntl
+import hashlib
 import itertools
 import os
 import re
@@ -37,6 +41,7 @@ import tempfile
 import threading
 import time
 
+import bases
 from reference import CHANGES, LONGEST_LINE, MOST_SESSIONS, STEPS, Refusal, form, is_count, is_text, read
 
 sys.path.insert(0, f"{os.path.dirname(os.path.dirname(os.path.realpath(__file__)))}/clients/python")
@@ -51,11 +56,11 @@ CHANGED = tuple(b'{"id":|{"ok":true}|{"erased":|{"ok":true,"revision":|{"committ
 
 
 class Damaged(Exception):
-    """A line that no journal has: its number, from 1, and why."""
+    """A line that no journal has: its number, from 1, and why. `path` is the segment's, where the journal has several."""
 
-    def __init__(self, number, why):
+    def __init__(self, number, why, path=None):
         super().__init__(f"line {number}: {why}")
-        self.number = number
+        self.number, self.path = number, path
 
 
 class Progress:
@@ -78,8 +83,13 @@ class OtherSchema(Exception):
 Line = collections.namedtuple("Line", "number start end name members")
 
 
-def header(text):
-    """The revision and the schema's hash that a first line says."""
+def header(text, number=1):
+    """The revision and the schema's hash that the first line of a segment says, and of a later one the sum of the segment before it."""
+    if number > 1:
+        found = bases.header_of(text)
+        if found is None or found["segment"] != number:
+            raise Damaged(1, f"no header of segment {number}")
+        return found["revision"], found["schema"], found["previous"]
     try:
         found = read(text)
     except Refusal:
@@ -94,7 +104,7 @@ def header(text):
         raise Damaged(1, "its hash isn't of hexadecimal digits")
     if text != f'{{"journal":{FORMAT},"revision":{found["revision"]},"schema":"{found["schema"]}"}}'.encode():
         raise Damaged(1, "a header that is written in another way, or has something behind it")
-    return found["revision"], found["schema"]
+    return found["revision"], found["schema"], None
 
 
 def command(number, text):
@@ -109,10 +119,10 @@ def command(number, text):
 
 
 class Journal:
-    """A journal that is read once, by `lines`. Its last newline ends at `end`, where `torn` bytes of a torn line stand. Behind those stand zeros:
-    `room` bytes, or `lost` ones, of which the last is none."""
+    """A segment of a journal that is read once, by `lines`. Its last newline ends at `end`, where `torn` bytes of a torn line stand. Behind those
+    stand zeros: `room` bytes, or `lost` ones, of which the last is none."""
 
-    def __init__(self, file, what="reading"):
+    def __init__(self, file, what="reading", number=1):
         handle = file.fileno()
         text = text_of(handle)
         self.file, self.end = file, end_before(handle, text)
@@ -123,7 +133,7 @@ class Journal:
         self.first = file.readline() if self.end else b""
         if not self.first:
             raise Damaged(1, "no whole header")
-        self.revision, self.schema = header(self.first[:-1])
+        self.revision, self.schema, self.previous = header(self.first[:-1], number)
 
     def lines(self):
         at, number = len(self.first), 2
@@ -136,6 +146,101 @@ class Journal:
         if self.lost:
             raise Damaged(number, f"zeros, and {self.lost} bytes up to the last that is none, which a start of the service would cut off: as in a copy "
                                   "that was made while lines were written, or behind a stop of the machine")
+
+
+class Chain:
+    """A journal: its base, where it has one, and its segments from there on, the last of which may be in use."""
+
+    def __init__(self, path, what="reading"):
+        self.path, self.base, self.files = path, base_of(path), contextlib.ExitStack()
+        first = self.base.segment if self.base else 1
+        self.segments = [it for it in bases.segments_of(path) if it.number >= first]
+        with contextlib.ExitStack() as opened:
+            if not self.segments or self.segments[0].number != first:
+                self.segments = [bases.Segment(first, bases.segment_path(path, first))]
+            self.journals = [self.opened(opened, it, what) for it in self.segments]
+            for n, (segment, journal) in enumerate(zip(self.segments, self.journals)):
+                self.check_header(n, segment, journal)
+            self.files = opened.pop_all()
+
+    def __enter__(self):
+        return self
+
+    def __exit__(self, *_):
+        self.files.close()
+
+    def named(self, segment):
+        return segment.path if segment.number > 1 else None
+
+    def opened(self, opened, segment, what):
+        try:
+            return Journal(opened.enter_context(open(segment.path, "rb")), what, segment.number)
+        except Damaged as damaged:
+            damaged.path = self.named(segment)
+            raise
+
+    def check_header(self, n, segment, journal):
+        """Whether a segment's header is that of this journal, behind its base or the segment before it."""
+        if n == 0 and self.base and bases.sum_of(journal.first[:-1]) != self.base.sum:
+            raise Damaged(1, "the header of another journal than the base's", self.named(segment))
+        if n > 0 and journal.previous != text_sum(self.journals[n - 1]):
+            raise Damaged(1, "the sum of another segment than the one before it", self.named(segment))
+        if journal.schema != (self.base or self.journals[0]).schema:
+            raise Damaged(1, "the header of another schema", self.named(segment))
+
+    @property
+    def last(self):
+        return self.journals[-1]
+
+    @property
+    def revision(self):
+        return self.base.revision if self.base else self.journals[0].revision
+
+    @property
+    def first_bytes(self):
+        """How many bytes are headers."""
+        return sum(len(it.first) for it in self.journals)
+
+    @property
+    def end(self):
+        return sum(it.end for it in self.journals)
+
+    def lines(self):
+        """The lines behind the base. Where each begins and ends is counted from the first segment's start."""
+        before, skip = 0, self.base.line if self.base else 0
+        for segment, journal in zip(self.segments, self.journals):
+            try:
+                for line in itertools.islice(journal.lines(), skip, None):
+                    yield line._replace(start=line.start + before, end=line.end + before)
+                if journal is not self.last and (journal.torn or journal.room):
+                    raise Damaged(1, "a torn end or room, and a later segment is there")
+            except Damaged as damaged:
+                damaged.path = damaged.path or self.named(segment)
+                raise
+            before, skip = before + journal.end, 0
+
+
+def base_of(path):
+    """The base of a journal, or None where it has none."""
+    try:
+        with open(bases.base_path(path), "rb") as file:
+            return bases.read_base(file.read())
+    except FileNotFoundError:
+        return None
+    except bases.BadBase as bad:
+        raise Damaged(bad.number, str(bad).split(": ", 1)[1], bases.base_path(path)) from None
+
+
+def text_sum(journal):
+    """The SHA-256 of a segment's whole lines."""
+    digest, at = hashlib.sha256(), 0
+    while at < journal.end:
+        piece = os.pread(journal.file.fileno(), min(1 << 20, journal.end - at), at)
+        if not piece:
+            raise OSError("a segment has become shorter")
+        digest.update(piece)
+        at += len(piece)
+    return digest.hexdigest()
 
 
 def behind(places, start):
@@ -238,15 +343,26 @@ def may_be_kept(line):
 
 
 def check(path, replay, schema):
-    with open(path, "rb") as file:
-        journal = Journal(file, "checking")
-        count = sum(1 for it in journal.lines() if may_be_kept(it))
+    with Chain(path, "checking") as chain:
+        if replay and (chain.base or len(chain.segments) > 1):
+            raise ValueError(f"{path}: --replay is of a journal of one file, without a base: a start of mi_service asks the lines of this one")
+        count = sum(1 for it in chain.lines() if may_be_kept(it))
+    journal = chain.last
     if replay:
         check_schema(path, journal.schema, schema)
     asked = "" if replay else "; its lines weren't asked (--replay PROGRAM asks them)"
-    print(f"{path}: {count} lines, schema {journal.schema}, ok as a file{end_note(journal)}{asked}", flush=True)
+    print(f"{path}: {chain_note(chain)}{count} lines, schema {journal.schema}, ok as a file{end_note(journal)}{asked}", flush=True)
     if replay:
         replay_check(path, replay, schema, count + 1)
+
+
+def chain_note(chain):
+    """What stands in front of a journal's lines, where that is more than one file."""
+    if chain.base is None and len(chain.segments) == 1:
+        return ""
+    rows = f"a base of {sum(len(it.rows) for it in chain.base.tables)} rows, " if chain.base else ""
+    first, last = chain.segments[0].number, chain.segments[-1].number
+    return f"{rows}segment{'' if first == last else 's'} {first}{'' if first == last else f' to {last}'}, "
 
 
 def check_schema(path, digest, schema):
@@ -294,12 +410,11 @@ def replay_check(path, program, schema, count):
 
 
 def stat(path):
-    with open(path, "rb") as file:
-        journal = Journal(file)
-        blocks, counts = blocks_of(journal)
-    lines, size = sum(counts.values()), journal.end - len(journal.first)
+    with Chain(path) as chain:
+        blocks, counts = blocks_of(chain)
+    lines, size = sum(counts.values()), chain.end - chain.first_bytes
     needless = sum(end - start for start, end in blocks.dropped)
-    print(f"{path}: {lines} lines of {size} bytes, {size / max(lines, 1):.1f} each{end_note(journal)}")
+    print(f"{path}: {chain_note(chain)}{lines} lines of {size} bytes, {size / max(lines, 1):.1f} each{end_note(chain.last)}")
     for name, count in counts.most_common():
         print(f"  {count:>10} {name}" + ("" if name in CHANGES or name in SESSIONS else ", which changes nothing"))
     print(f"  sessions: {counts['start']} started, " + ", ".join(f"{blocks.ended[it]} {it}" for it in ("undone", "squashed", "committed")))
@@ -358,6 +473,8 @@ def claimed(path):
 
 def compact(path, new):
     """The new file has the old one's mode; it takes the old one's place, or the name that is asked for, once it is whole."""
+    if os.path.exists(bases.base_path(path)) or len(bases.segments_of(path)) > 1:
+        raise ValueError(f"{path}: it has a base or later segments: mi_service --rebase makes it shorter")
     # (of a link the file that it leads to, whose place is on another disk perhaps)
     new = os.path.realpath(path if new is None else new)
     folder = os.path.dirname(new)
@@ -387,17 +504,32 @@ def compact(path, new):
 
 
 def copy(path, new):
-    """A file's text up to the last newline goes to a new one, which has its mode; it is neither locked nor changed."""
-    with open(path, "rb") as file, open(new, "xb", opener=lambda name, how: os.open(name, how, 0o600)) as target:
+    """A journal's base, and of each of its segments the text up to the last newline, go to new files, which have their modes; the old ones are
+    neither locked nor changed. A base that was replaced meanwhile has other segments, so some of these are missing: then nothing is there."""
+    with contextlib.ExitStack() as made, Chain(path) as chain:
+        files = [(bases.segment_path(new, it.number), journal.file, journal.end) for it, journal in zip(chain.segments, chain.journals)]
+        if chain.base:
+            base = chain.files.enter_context(open(bases.base_path(path), "rb"))
+            files.insert(0, (bases.base_path(new), base, os.fstat(base.fileno()).st_size))
+        for name, file, end in files:
+            copy_file(file, name, end)
+            made.callback(os.unlink, name)
+        if chain.base != base_of(path):
+            raise OSError("another base has taken the place of the one that was copied: copy again")
+        made.pop_all()
+    sync_folder(os.path.dirname(os.path.realpath(new)))
+    print(f"{new}: {sum(end for _, _, end in files)} bytes")
+
+
+def copy_file(file, new, end):
+    """The bytes of a file up to an end go to a new one, which has its mode."""
+    with open(new, "xb", opener=lambda name, how: os.open(name, how, 0o600)) as target:
         try:
-            end = Journal(file).end
             os.fchmod(target.fileno(), os.fstat(file.fileno()).st_mode & 0o7777)
             write_without(file, target, [], end)
         except BaseException:
             os.unlink(new)
             raise
-    sync_folder(os.path.dirname(os.path.realpath(new)))
-    print(f"{new}: {end} bytes")
 
 
 def words():
@@ -440,7 +572,10 @@ def main(given):
             compact(args.file, args.to)
         sys.stdout.flush()
     except Damaged as damaged:
-        print(f"{args.file}: {damaged}", file=sys.stderr)
+        print(f"{damaged.path or args.file}: {damaged}", file=sys.stderr)
+        return 3
+    except bases.BadChain as bad:
+        print(f"{args.file}: {bad}", file=sys.stderr)
         return 3
     except BrokenPipeError:
         return nobody_reads_on()
