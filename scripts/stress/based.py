@@ -78,7 +78,7 @@ class Based(Kept):
 
     def rebased(self, env=None):
         """A rebase's status, and what it said."""
-        words = [self.path, "--schema", self.schema, "--rebase", self.journal]
+        words = [self.path, "--schema", self.schema, "--journal", self.journal, "--rebase"]
         ran = subprocess.run(words, capture_output=True, timeout=service.WAIT, env={**os.environ, **service.SANITIZER, **(env or {})})
         return ran.returncode, ran.stderr.decode(errors="replace").strip()
 
