@@ -24,6 +24,16 @@ class OtherSchema(ValueError):
     """A journal is of another schema than the one that is named."""
 
 
+class HasBase(ValueError):
+    """A journal has a base or later segments, which only the service reads."""
+
+
+def check_single(path: str) -> None:
+    """Raises HasBase where the journal isn't one file: a server that is asked its lines wouldn't have its tables."""
+    if os.path.exists(f"{path}.base") or os.path.exists(f"{path}.000002"):
+        raise HasBase(f"{path}: it has a base or later segments, which mi_service reads: start that with it, and name it by --connect PORT")
+
+
 def header_of(line: bytes, path: str) -> Dict[str, Any]:
     """The members of a journal's first line. Raises Damaged."""
     try:
@@ -37,7 +47,8 @@ def header_of(line: bytes, path: str) -> Dict[str, Any]:
 
 def check_schema(path: str, db: Database, file: Optional[str]) -> None:
     """Raises OtherSchema where the header has another schema's hash than the one that a server was started with, by this file or as built in; and
-    Damaged and OSError."""
+    Damaged, HasBase and OSError."""
+    check_single(path)
     with open(path, "rb") as journal:
         header = header_of(journal.readline(), path)
     if db.schema is None:
