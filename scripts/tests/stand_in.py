@@ -275,7 +275,7 @@ class Service:
         holder = self.reference.holder
         connections = [{"holds": it.number == holder, "lines": it.asked, "number": it.number, "since": it.since if it.number == holder else None,
                         "unsent": len(it.out) + len(it.held)} for it in self.clients.values()]
-        tables = [{"name": it, "size": json.loads(self.reference.answer(0, json.dumps({"cmd": "size", "table": it}).encode()))["size"]} for it in self.tables]
+        tables = [{"memory": None, "name": it, "size": json.loads(self.reference.answer(0, json.dumps({"cmd": "size", "table": it}).encode()))["size"]} for it in self.tables]
         depth = json.loads(self.reference.answer(0, b'{"cmd":"revision"}'))["depth"]
         return compact({"connections": connections, "depth": depth, "holder": holder, "journal": None, "ok": True, "tables": tables,
                         "uptime": int(time.monotonic() - self.began), "version": "0.1.0"})

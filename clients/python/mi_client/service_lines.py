@@ -13,8 +13,8 @@ STATUS_LINE = '{"service":"status"}'
 
 
 def status(db: Database) -> Optional[Dict[str, Any]]:
-    """The status of the service: its connections, who holds sessions, how many are open, and the rows of each table. None of a server that
-    has none."""
+    """The status of the service: its connections, who holds sessions, how many are open, how far its journal is, and the rows and memory of each
+    table. None of a server that has none."""
     reply: Dict[str, Any] = json.loads(db.ask_line(STATUS_LINE))
     return reply if reply.get("ok") else None
 

@@ -57,6 +57,10 @@ class Sample(NamedTuple):
     """How many bytes are free on the journal's disk, where the system tells."""
     held_for: Optional[int] = None
     """How many lines who holds sessions has asked behind the one with which that began, where a service tells."""
+    synced: Optional[int] = None
+    """How many bytes of a service's journal stay since its last sync, where it is synced and tells."""
+    memories: Optional[Dict[str, int]] = None
+    """How many bytes of memory each table takes, by its name, where a service tells."""
 
 
 class Watcher:
@@ -88,7 +92,8 @@ class Watcher:
         journal = told.get("journal") or {}
         room = process.room_beside(process.locked_file(self.number)) if journal else None
         return Sample(time.monotonic(), sizes, now.revision, now.depth, holder, self.turns, usage, len(connections), unsent,
-                      journal.get("bytes"), journal.get("full"), lines_of(told), told.get("uptime"), room, held_for(told))
+                      journal.get("bytes"), journal.get("full"), lines_of(told), told.get("uptime"), room, held_for(told),
+                      journal.get("synced"), memories_of(told))
 
     def sizes(self) -> List[Tuple[str, int]]:
         names = [it.name for it in self.db.schema.tables] if self.db.schema else ["(first)"]
@@ -138,6 +143,16 @@ def held_for(told: Dict[str, Any]) -> Optional[int]:
     return next((it["lines"] - it["since"] for it in told["connections"] if it.get("since") is not None), None)
 
 
+def memories_of(told: Dict[str, Any]) -> Dict[str, int]:
+    """How many bytes of memory each table takes, by its name. A former service doesn't tell."""
+    return {it["name"]: it["memory"] for it in told["tables"] if it.get("memory") is not None}
+
+
+def table_columns(memories: Optional[Dict[str, int]], *names: str) -> List[str]:
+    """The columns of what is shown of tables: their memory too, where it is told."""
+    return ["table", *names, *(["memory"] if memories else [])]
+
+
 def asking(now: Sample, before: Sample) -> List[str]:
     """What top shows of the lines that a service's connections ask, without those that were asked by one that has gone."""
     if now.lines is None or before.lines is None:
@@ -157,8 +172,9 @@ def screen(now: Sample, before: Sample) -> str:
     """What top shows."""
     took = now.when - before.when
     busy = rate(now.usage.seconds, before.usage.seconds, took)
+    memories = now.memories or {}
     rows = [
-        {"table": name, "rows": size, "rows/s": round(rate(size, was, took) or 0)}
+        {"table": name, "rows": size, "rows/s": round(rate(size, was, took) or 0), "memory": amount(memories.get(name))}
         for (name, size), (_, was) in zip(now.sizes, before.sizes)
     ]
     per_row = now.usage.memory / total if now.usage.memory and (total := sum(size for _, size in now.sizes)) else None
@@ -171,10 +187,10 @@ def screen(now: Sample, before: Sample) -> str:
         f"sessions  {now.depth} open, revision {now.revision}; held by {now.holder}" + ("" if now.held_for is None else f", for {now.held_for} lines"),
         *([] if now.connections is None else [f"clients   {now.connections} connections, {amount(now.unsent)} unsent"]),
         *asking(now, before),
-        *([] if now.journal is None else [f"journal   {journal_shown(now.journal, now.is_full, now.room)}"]),
+        *([] if now.journal is None else [f"journal   {journal_shown(now.journal, now.synced, now.is_full, now.room)}"]),
         *([] if now.uptime is None else [f"up        {up(now.uptime)}"]),
         "",
-        table(rows, ["table", "rows", "rows/s"]),
+        table(rows, table_columns(now.memories, "rows", "rows/s")),
     ])
 
 
@@ -188,6 +204,7 @@ def prometheus(it: Sample) -> str:
             parts.extend([f"# HELP weltiyo_{name} {about}", f"# TYPE weltiyo_{name} {kind}", *known])
 
     add("rows", "gauge", "Records of a table.", *((f'{{table="{name}"}}', size) for name, size in it.sizes))
+    add("table_memory_bytes", "gauge", "Memory that a table takes.", *((f'{{table="{name}"}}', size) for name, size in (it.memories or {}).items()))
     add("revision", "gauge", "The revision.", ("", it.revision))
     add("open_sessions", "gauge", "Open sessions.", ("", it.depth))
     add("held_by_another", "gauge", "1 where another connection holds sessions.", ("", int(it.holder == "another connection")))
@@ -196,6 +213,7 @@ def prometheus(it: Sample) -> str:
     add("unsent_bytes", "gauge", "Bytes of replies that connections haven't taken.", ("", it.unsent))
     add("uptime_seconds", "gauge", "Seconds since the service's start.", ("", it.uptime))
     add("journal_bytes", "gauge", "Bytes of the service's journal.", ("", it.journal))
+    add("journal_synced_bytes", "gauge", "Bytes of the journal that stay since its last sync.", ("", it.synced))
     add("journal_full", "gauge", "1 where the journal's disk lacks room, and changes are refused.", ("", None if it.is_full is None else int(it.is_full)))
     add("journal_disk_free_bytes", "gauge", "Bytes that are free on the journal's disk.", ("", it.room))
     add("resident_memory_bytes", "gauge", "Memory of the process.", ("", it.usage.memory))
@@ -290,9 +308,9 @@ def holding(it: Dict[str, Any]) -> str:
     return "" if not it["holds"] else "yes" if it.get("since") is None else f"since line {it['since']}"
 
 
-def journal_shown(size: int, is_full: Optional[bool], room: Optional[int]) -> str:
-    """A journal's bytes, those that are free on its disk where they are known, and whether it lacks room."""
-    return amount(size) + ("" if room is None else f", {amount(room)} free on its disk") + (FULL if is_full else "")
+def journal_shown(size: int, synced: Optional[int], is_full: Optional[bool], room: Optional[int]) -> str:
+    """A journal's bytes, those that stay since its last sync and those that are free on its disk where they are known, and whether it lacks room."""
+    return amount(size) + ("" if synced is None else f", {amount(synced)} synced") + ("" if room is None else f", {amount(room)} free on its disk") + (FULL if is_full else "")
 
 
 def shown_status(told: Dict[str, Any], room: Optional[int]) -> str:
@@ -303,19 +321,20 @@ def shown_status(told: Dict[str, Any], room: Optional[int]) -> str:
     ]
     since = f", up {up(told['uptime'])}" if "uptime" in told else ""
     holder = "nobody" if told["holder"] is None else f"connection {told['holder']}"
-    journal = told.get("journal")
+    journal, memories = told.get("journal"), memories_of(told)
+    tables = [{"table": it["name"], "rows": it["size"], "memory": amount(memories.get(it["name"]))} for it in told["tables"]]
     return "\n".join([
         f"mi_service {told['version']}{since}: {told['depth']} sessions open, held by {holder}",
-        *([f"journal: {journal_shown(journal['bytes'], journal['full'], room)}"] if journal else []),
+        *([f"journal: {journal_shown(journal['bytes'], journal.get('synced'), journal['full'], room)}"] if journal else []),
         "",
         table(connections, ["connection", "holds sessions", "lines", "unsent"]),
         "",
-        table([{"table": it["name"], "rows": it["size"]} for it in told["tables"]], ["table", "rows"]),
+        table(tables, table_columns(memories, "rows")),
     ])
 
 
 def main_status(words: Optional[List[str]] = None) -> int:
-    about = "Shows what a running service tells of itself: its connections, who of them holds sessions, and the rows of each table."
+    about = "Shows what a running service tells of itself: its connections, who of them holds sessions, and the rows and memory of each table."
     parser = argparse.ArgumentParser(prog="weltiyo status", description=about)
     add_server(parser)
     parser.add_argument("--json", action="store_true", help="writes the service's own reply")

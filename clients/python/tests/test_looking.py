@@ -61,7 +61,7 @@ class Top(unittest.TestCase):
         self.assertGreater(it.usage.memory or 0, 100_000)
         self.assertGreater(it.usage.read or 0, 50)
         db.push()
-        self.assertEqual(Watcher(db, None).sample()[4:], ("nobody", 4, Usage(), None, None, None, None, None, None, None, None))
+        self.assertEqual(Watcher(db, None).sample()[4:], ("nobody", 4, Usage(), *[None] * 10))
 
     def test_another_holds_sessions(self) -> None:
         with Server(kit.program(), clients=2) as server:
@@ -141,6 +141,8 @@ class Top(unittest.TestCase):
             "b         0       0",
         ])
         asks = screen(now._replace(lines={2: 110, 5: 40}, uptime=3723), before._replace(lines={2: 100, 4: 9})).splitlines()
+        told = screen(now._replace(journal=119, synced=16, memories={"a": 70_000, "b": 0}), before).splitlines()
+        self.assertEqual([told[4], *told[-2:]], ["journal   119 B, 16 B synced", "a      2010    1000  70.0 kB", "b         0       0  0 B"])
         self.assertEqual([it for it in asks if it[:5] in ("lines", "up   ")], ["lines     25 /s, most by connection 5: 20 /s", "up        1:02:03"])
         self.assertIn("memory    not told\n", screen(now._replace(usage=Usage()), before))
         self.assertEqual([amount(it) for it in [0, 999, 1000, 2.5e9, 3e12]], ["0 B", "999 B", "1.0 kB", "2.5 GB", "3000.0 GB"])

@@ -110,7 +110,7 @@ class Services(unittest.TestCase):
             other.begin()
             told = service_lines.status(db)
             self.assertEqual([it["number"] for it in told["connections"] if it["holds"]], [told["holder"]])
-            self.assertEqual((len(told["connections"]), told["depth"], told["tables"]), (2, 1, [{"name": "accounts", "size": 1}]))
+            self.assertEqual((len(told["connections"]), told["depth"], told["tables"]), (2, 1, [{"memory": told["tables"][0]["memory"], "name": "accounts", "size": 1}]))
             self.assertEqual({it["unsent"] for it in told["connections"]}, {0})
             self.assertEqual([it["since"] for it in told["connections"] if it["holds"]], [it["lines"] for it in told["connections"] if it["holds"]])
             self.assertEqual([it["since"] for it in told["connections"] if not it["holds"]], [None])
@@ -132,11 +132,16 @@ class Services(unittest.TestCase):
             told = service_lines.status(db)["journal"]
             with open(self.journal, "rb") as file:
                 text = file.read()
-            self.assertEqual(told, {"bytes": text.rindex(b"\n") + 1, "full": False})
+            self.assertEqual(told, {"bytes": text.rindex(b"\n") + 1, "full": False, "synced": text.rindex(b"\n") + 1})
             figures = kit.ran("metrics", "--connect", str(server.port)).stdout
             self.assertIn(f"\nweltiyo_journal_bytes {told['bytes']}\n", figures)
+            self.assertIn(f"\nweltiyo_journal_synced_bytes {told['synced']}\n", figures)
+            self.assertRegex(figures, "\nweltiyo_table_memory_bytes{table=\"accounts\"} [1-9][0-9]+\n")
             self.assertIn("\nweltiyo_journal_disk_free_bytes ", figures)
             self.assertIn(" free on its disk\n", kit.ran("status", "--connect", str(server.port)).stdout)
+        with self.started(sync="never") as server, server.connect(10) as db:
+            self.assertEqual(service_lines.status(db)["journal"], {**told, "synced": None})
+            self.assertNotIn("journal_synced_bytes", kit.ran("metrics", "--connect", str(server.port)).stdout)
         with Server(service=SERVICE) as server, server.connect(10) as db:
             self.assertIsNone(service_lines.status(db)["journal"])
 

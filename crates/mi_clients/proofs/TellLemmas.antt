@@ -1,5 +1,5 @@
 -- What the service tells, one step behind another, and over a row.
--- Cited by `Client::service_line`, `asking::ask_line`, `beside::answer`, `beside::turn_away`, `row::ask_all`, 11 more and `mi_serving`.
+-- Cited by `Client::service_line`, `asking::ask_line`, `beside::answer`, `beside::turn_away`, `row::ask_all`, 12 more and `mi_serving`.
 use Rattle.std.proofs.Common.{◌≡◌, ◌⊎◌, inl, inr, ℕ, ℤ, ◌<◌, List, [], ◌∷◌, ◌++◌, length, codes, nat_eq, cond, Bool, true, false, Option, is_some, Result, Ok, Err, refl, sym, ap, ◌∙◌, subst, append-nil, append_assoc, arith}
 use Rattle.std.specs.Prelude.{IfOk, IfSome, OnOk, is_ok}
 use Rattle.std.specs.Result.{result_ok}
@@ -111,16 +111,16 @@ told_some_of P Q (Ok x) p f = f x p
 told_some_of P Q (Err e) p f = tt
 
 -- the parts of a status, one behind another
-pub status_joined : {S : Type 0} (row : List (Client S)) (s : HubState) (j : LogState) (up : ℕ) (h : Option ℕ) (d : Database) (old a b new : List ℕ)
+pub status_joined : {S : Type 0} (row : List (Client S)) (s : HubState) (j : LogState) (up : ℕ) (ms : List (Option ℕ)) (h : Option ℕ) (d : Database) (old a b new : List ℕ)
     → h ≡ holder_conn s.held.holder → d ≡ s.held.database → a ≡ old ++ codes "{\"connections\":["
-    → b ≡ a ++ listed (connection_text h) 0 row → new ≡ b ++ database_text h j up d → new ≡ old ++ status_line row s j up
-status_joined row s j up h d old a b new eh ed ea eb en =
+    → b ≡ a ++ listed (connection_text h) 0 row → new ≡ b ++ database_text h j up ms d → new ≡ old ++ status_line row s j up ms
+status_joined row s j up ms h d old a b new eh ed ea eb en =
     let k = codes "{\"connections\":[" in
     let cs = listed (connection_text h) 0 row in
-    let db = database_text h j up d in
+    let db = database_text h j up ms d in
     en ∙ ap (λ t. t ++ db) (eb ∙ ap (λ t. t ++ cs) ea) ∙ append_assoc (old ++ k) cs db ∙ append_assoc old k (cs ++ db)
-    ∙ ap (λ x. old ++ (k ++ (listed (connection_text x) 0 row ++ database_text x j up d))) eh
-    ∙ ap (λ x. old ++ (k ++ (listed (connection_text (holder_conn s.held.holder)) 0 row ++ database_text (holder_conn s.held.holder) j up x))) ed
+    ∙ ap (λ x. old ++ (k ++ (listed (connection_text x) 0 row ++ database_text x j up ms d))) eh
+    ∙ ap (λ x. old ++ (k ++ (listed (connection_text (holder_conn s.held.holder)) 0 row ++ database_text (holder_conn s.held.holder) j up ms x))) ed
 
 -- ---- steps in which nothing is told
 
@@ -462,12 +462,13 @@ module _ {S : Type 0} where
       parts = ap (λ zs. zs ++ ys) p.parts ∙ append_assoc p.first p.later ys;
       hub = p.hub;
       appended = p.appended;
+      stays = p.stays;
       makes = p.makes;
       row = p.row;
       attends = p.attends;
       from = p.from;
       status = p.status;
-      «is» = subst (λ b. IsStatus p.appended b seconds p.row p.hub p.status) (sym same) p.«is»;
+      «is» = subst (λ b. IsStatus p.appended p.stays b seconds p.row p.hub p.status) (sym same) p.«is»;
       told = so_join p.status schema xs ys p.told (quiet_so p.status schema ys quiet);
     }
 
@@ -481,6 +482,7 @@ module _ {S : Type 0} where
       parts = ap (λ zs. xs ++ zs) p.parts ∙ sym (append_assoc xs p.first p.later);
       hub = p.hub;
       appended = p.appended;
+      stays = p.stays;
       makes = makes_then xs p.first start mid p.hub before between p.appended makes p.makes;
       row = p.row;
       attends = p.attends;

@@ -82,7 +82,7 @@ EachTakes steps olds news = AllZip (λ old new. Takes (asked_by old.conn steps) 
 -- What the service tells in these steps is so: the status is that of these connections, this hub and this journal, as the first of the
 -- steps have left them, and the schema is told by this line. The connections are those that the hub has attached then: they were in the row
 -- before, or have come, and each was served meanwhile, its lines were counted, and the line noted since which it holds sessions. Whether the journal lacks room is as it is at the end, since
--- no later step asks for any.
+-- no later step asks for any. What of it stayed then is not bound by start or end.
 pub record TellsWhatIs {S : Type 0} (contents : S → Option (List ℕ)) (schema : List ℕ) (seconds : ℕ) (steps : List Step) (start : HubState)
     (before : Option (List ℕ)) (lacks : Bool) (olds : List (Client S)) : Type 0 where
   pub first : List Step
@@ -90,6 +90,7 @@ pub record TellsWhatIs {S : Type 0} (contents : S → Option (List ℕ)) (schema
   pub parts : steps ≡ first ++ later
   pub hub : HubState
   pub appended : Option (List ℕ)
+  pub stays : Option (List ℕ)
   pub makes : Makes first start hub before appended
   pub row : List (Client S)
   pub attends : Attends (ids row) hub.attached
@@ -97,7 +98,7 @@ pub record TellsWhatIs {S : Type 0} (contents : S → Option (List ℕ)) (schema
       → (old : Client S) × (Contains olds old ⊎ IsNew old olds) × IsServed contents (given_to old.conn first) old c
       × (c.input.lines ≡ count_on old.input.lines (asked_by old.conn first)) × KnowsSince first old c
   pub status : List ℕ
-  pub «is» : IsStatus appended lacks seconds row hub status
+  pub «is» : IsStatus appended stays lacks seconds row hub status
   pub told : TellsSo status schema steps
 
 -- none of a row is over

@@ -1,8 +1,9 @@
--- The line that tells the status of a service: its connections, who of them holds sessions, how many sessions are open, how many rows each
--- table has, and since how many seconds it is there. With connection 2 alone, which holds the one session over an empty table:
--- {"connections":[{"holds":true,"lines":1,"number":2,"since":1,"unsent":0}],"depth":1,"holder":2,"journal":{"bytes":119,"full":false},"ok":true,
--- "tables":[{"name":"accounts","size":0}],"uptime":60,"version":"0.1.0"}
-use Rattle.std.specs.Prelude.{◌≡◌, ◌⊎◌, ℕ, ◌+◌, List, [], ◌∷◌, ◌++◌, length, Bool, true, false, ◌==◌, if◌then◌else◌, Option, Some, None, codes, decimal, IfSome}
+-- The line that tells the status of a service: its connections, who of them holds sessions, how many sessions are open, how far the journal
+-- is, how much memory and how many rows each table has, and since how many seconds it is there. With connection 2 alone, which holds the one
+-- session over an empty table:
+-- {"connections":[{"holds":true,"lines":1,"number":2,"since":1,"unsent":0}],"depth":1,"holder":2,
+-- "journal":{"bytes":119,"full":false,"synced":119},"ok":true,"tables":[{"memory":67184,"name":"accounts","size":0}],"uptime":60,"version":"0.1.0"}
+use Rattle.std.specs.Prelude.{◌≡◌, ◌⊎◌, ℕ, ◌+◌, List, [], ◌∷◌, ◌++◌, length, Bool, true, false, ◌==◌, if◌then◌else◌, Option, Some, None, codes, decimal, get_or, IfSome}
 use Rattle.std.specs.Option.{option_map_or}
 use Rattle.mi_catalog.specs.Shape.{Shape}
 use Rattle.mi_model.specs.Database.{Database, table_of, depth}
@@ -45,48 +46,68 @@ connection_text holder n c =
     codes "{\"holds\":" ++ (flag_text (is_conn holder c.conn) ++ (codes ",\"lines\":" ++ (decimal c.input.lines
     ++ (codes ",\"number\":" ++ number_text holder c))))
 
-abbrev pub holder_text : Option ℕ → List ℕ
-holder_text None = codes "null"
-holder_text (Some conn) = decimal conn
+-- a number, where there is one
+abbrev pub number_or_null : Option ℕ → List ℕ
+number_or_null None = codes "null"
+number_or_null (Some n) = decimal n
 
--- a table: its name, and how many rows it has
-abbrev pub table_text : Database → ℕ → Shape → List ℕ
-table_text d n s = codes "{\"name\":\"" ++ (s.table_name ++ (codes "\",\"size\":" ++ (decimal (size (table_of d n)) ++ codes "}")))
+-- a table's name, and how many rows it has
+abbrev pub rows_text : Database → ℕ → Shape → List ℕ
+rows_text d n s = codes ",\"name\":\"" ++ (s.table_name ++ (codes "\",\"size\":" ++ (decimal (size (table_of d n)) ++ codes "}")))
 
--- a journal, where one is kept: how many bytes it has, and whether it lacks room
+-- a table: how many bytes of memory it takes, its name, and how many rows it has; each table's memory is the one at its place
+abbrev pub table_text : Database → List (Option ℕ) → ℕ → Shape → List ℕ
+table_text d memories n s = codes "{\"memory\":" ++ (number_or_null (get_or memories n None) ++ rows_text d n s)
+
+-- how many bytes of a journal stay, where it is synced and counts them
+abbrev pub synced_text : Option ℕ → List ℕ
+synced_text synced = codes ",\"synced\":" ++ (number_or_null synced ++ codes "}")
+
+-- a journal, where one is kept: how many bytes it has, whether it lacks room, and how many of its bytes stay
 abbrev pub journal_text : LogState → List ℕ
-journal_text j = option_map_or (λ n. codes "{\"bytes\":" ++ (decimal n ++ (codes ",\"full\":" ++ (flag_text j.is_full ++ codes "}")))) j.bytes (codes "null")
+journal_text j =
+    option_map_or (λ n. codes "{\"bytes\":" ++ (decimal n ++ (codes ",\"full\":" ++ (flag_text j.is_full ++ synced_text j.synced)))) j.bytes (codes "null")
 
 -- how many sessions of a database are open, who holds some, and its journal
 abbrev pub sessions_text : Option ℕ → LogState → Database → List ℕ
 sessions_text holder j d =
-    codes "],\"depth\":" ++ (decimal (depth d) ++ (codes ",\"holder\":" ++ (holder_text holder ++ (codes ",\"journal\":" ++ journal_text j))))
+    codes "],\"depth\":" ++ (decimal (depth d) ++ (codes ",\"holder\":" ++ (number_or_null holder ++ (codes ",\"journal\":" ++ journal_text j))))
 
 -- since how many seconds a service is there, and which one it is
 abbrev pub end_text : ℕ → List ℕ
 end_text seconds = codes "],\"uptime\":" ++ (decimal seconds ++ codes ",\"version\":\"0.1.0\"}\n")
 
--- what is said of a database, some of whose sessions this connection may hold, and of its journal, so many seconds after a start
-abbrev pub database_text : Option ℕ → LogState → ℕ → Database → List ℕ
-database_text holder j seconds d =
-    sessions_text holder j d ++ (codes ",\"ok\":true,\"tables\":[" ++ (listed (table_text d) 0 d.catalog.tables ++ end_text seconds))
+-- what is said of a database, some of whose sessions this connection may hold, of its journal, and of its tables' memory, so many seconds after
+-- a start
+abbrev pub database_text : Option ℕ → LogState → ℕ → List (Option ℕ) → Database → List ℕ
+database_text holder j seconds memories d =
+    sessions_text holder j d ++ (codes ",\"ok\":true,\"tables\":[" ++ (listed (table_text d memories) 0 d.catalog.tables ++ end_text seconds))
 
--- the status of a service with these connections over this hub, and of its journal, so many seconds after its start
-abbrev pub status_line : {S : Type 0} → List (Client S) → HubState → LogState → ℕ → List ℕ
-status_line row s j seconds =
+-- the status of a service with these connections over this hub, of its journal, and of its tables' memory, so many seconds after its start
+abbrev pub status_line : {S : Type 0} → List (Client S) → HubState → LogState → ℕ → List (Option ℕ) → List ℕ
+status_line row s j seconds memories =
     codes "{\"connections\":[" ++ (listed (connection_text (holder_conn s.held.holder)) 0 row
-    ++ database_text (holder_conn s.held.holder) j seconds s.held.database)
+    ++ database_text (holder_conn s.held.holder) j seconds memories s.held.database)
+
+-- a line tells that status by some memory of each table: how much it is isn't said by any definition
+abbrev pub TellsStatus : {S : Type 0} → List (Client S) → HubState → LogState → ℕ → List ℕ → Type 0
+TellsStatus row s j seconds line =
+    (memories : List (Option ℕ)) × (length memories ≡ length s.held.database.catalog.tables) × (line ≡ status_line row s j seconds memories)
 
 -- what is told where memory for a status is refused
 abbrev pub memory_line : List ℕ
 memory_line = codes "{\"error\":\"memory\",\"ok\":false}\n"
 
--- a log's state, where this was appended and the log lacks room or doesn't: where it counts its bytes and tells them, they are as many
-abbrev pub IsStateOf : Option (List ℕ) → Bool → LogState → Type 0
-IsStateOf appended lacks j = (j.is_full ≡ lacks) × IfSome j.bytes (λ count. IfSome appended (λ bytes. count ≡ length bytes))
+-- a count is of these bytes, where both are told
+abbrev pub Counts : Option (List ℕ) → Option ℕ → Type 0
+Counts told count = IfSome count (λ n. IfSome told (λ bytes. n ≡ length bytes))
 
--- a line tells that status, so many seconds after the start, with a journal to which this was appended and that lacks room or doesn't; or that
--- memory for it is refused
-abbrev pub IsStatus : {S : Type 0} → Option (List ℕ) → Bool → ℕ → List (Client S) → HubState → List ℕ → Type 0
-IsStatus appended lacks seconds row s line =
-    ((j : LogState) × IsStateOf appended lacks j × (line ≡ status_line row s j seconds)) ⊎ (line ≡ memory_line)
+-- a log's state, where this was appended, this stays, and the log lacks room or doesn't: where it counts its bytes and tells them, they are as many
+abbrev pub IsStateOf : Option (List ℕ) → Option (List ℕ) → Bool → LogState → Type 0
+IsStateOf appended stays lacks j = (j.is_full ≡ lacks) × Counts appended j.bytes × Counts stays j.synced
+
+-- a line tells that status, so many seconds after the start, with a journal to which this was appended, of which this stays, and that lacks room
+-- or doesn't; or that memory for it is refused
+abbrev pub IsStatus : {S : Type 0} → Option (List ℕ) → Option (List ℕ) → Bool → ℕ → List (Client S) → HubState → List ℕ → Type 0
+IsStatus appended stays lacks seconds row s line =
+    ((j : LogState) × IsStateOf appended stays lacks j × TellsStatus row s j seconds line) ⊎ (line ≡ memory_line)

@@ -4,7 +4,7 @@ ghost use Rattle.std.specs.Prelude.{◌≡◌, ◌<◌, ◌⊎◌, ◌↔◌, Li
 ghost use Rattle.mi_ledger.specs.HeldReplies.{bytes_of};
 ghost use Rattle.mi_ledger.specs.Ledger.{hub_of, log_of};
 ghost use Rattle.mi_clients.specs.Row.{ids, IsNew};
-ghost use Rattle.mi_clients.specs.Status.{IsStateOf, IsStatus, status_line};
+ghost use Rattle.mi_clients.specs.Status.{IsStateOf, IsStatus, TellsStatus};
 ghost use Rattle.mi_log.specs.declared.log.LogState.{LogState};
 ghost use Rattle.std.specs.String.{string_bytes};
 ghost use Rattle.mi_clients.specs.ServiceLines.{line_of};
@@ -72,8 +72,9 @@ fn asked_status<D: Sessions + Drop, L: Log + Drop, S>(
     client: &Client<S>,
     seconds: u64,
 ) -> Option<String>
-    ensures { IfSome result (λ line. (journal : LogState) × IsStateOf (L.appended (log_of ledger.now)) (L.lacks_room (log_of ledger.now)) journal
-        × (string_bytes line ≡ status_line row.now (hub_of ledger.now) journal seconds)) }
+    ensures { IfSome result (λ line. (journal : LogState)
+        × IsStateOf (L.appended (log_of ledger.now)) (L.synced (log_of ledger.now)) (L.lacks_room (log_of ledger.now)) journal
+        × TellsStatus row.now (hub_of ledger.now) journal seconds (string_bytes line)) }
 {
     if client.service_line().is_none() {
         return None;
@@ -90,7 +91,8 @@ fn answer_now<D: Sessions + Drop, L: Log + Drop, S>(
     schema: &SchemaLine,
     seconds: u64,
 )
-    ensures { (status : List ℕ) × IsStatus (L.appended (log_of ledger.now)) (L.lacks_room (log_of ledger.now)) seconds row.now (hub_of ledger.now) status
+    ensures { (status : List ℕ) × IsStatus (L.appended (log_of ledger.now)) (L.synced (log_of ledger.now)) (L.lacks_room (log_of ledger.now)) seconds row.now
+        (hub_of ledger.now) status
         × Answers status (line_of schema.now) client.old client.new }
 {
     let line = asked_status(alloc, ledger, row, client, seconds);
@@ -123,7 +125,8 @@ fn attend<D: Sessions + Drop, L: Log + Drop, S: Duplex>(
     seconds: u64,
 )
     requires room { 0 < length buffer.old }
-    ensures { (status : List ℕ) × IsStatus (L.appended (log_of ledger.now)) (L.lacks_room (log_of ledger.now)) seconds row.now (hub_of ledger.now) status
+    ensures { (status : List ℕ) × IsStatus (L.appended (log_of ledger.now)) (L.synced (log_of ledger.now)) (L.lacks_room (log_of ledger.now)) seconds row.now
+        (hub_of ledger.now) status
         × Attended S.contents S.remaining status (line_of schema.now) client.old client.new }
 {
     client.read(buffer);
@@ -260,7 +263,8 @@ impl<S: Duplex + Drop> Beside<S> {
     )
         requires room { 0 < length buffer.old }
         ensures { InPlace (λ old last. (status : List ℕ)
-            × IsStatus (L.appended (log_of ledger.now)) (L.lacks_room (log_of ledger.now)) seconds row.now (hub_of ledger.now) status
+            × IsStatus (L.appended (log_of ledger.now)) (L.synced (log_of ledger.now)) (L.lacks_room (log_of ledger.now)) seconds row.now
+            (hub_of ledger.now) status
             × Attended S.contents S.remaining status (line_of schema.now) old last) self.old.client self.new.client }
     {
         let Some(client) = self.client.take() else {

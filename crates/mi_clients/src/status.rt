@@ -1,5 +1,5 @@
 //! The line that tells the status of a service, made of its connections and its hub. It changes neither.
-ghost use Rattle.std.specs.Prelude.{◌≡◌, ◌++◌, decimal, IfOk, OnOk};
+ghost use Rattle.std.specs.Prelude.{◌≡◌, ◌<◌, ◌++◌, length, decimal, IfOk, OnOk};
 ghost use Rattle.std.specs.String.{string_bytes};
 ghost use Rattle.mi_catalog.specs.Shape.{schema_at};
 ghost use Rattle.mi_catalog.specs.Fitting.{HasTable};
@@ -111,18 +111,18 @@ fn add_connections<S>(
     Ok(())
 }
 
-/// Adds the holder's number, where there is one.
-fn add_holder(alloc: Global, text: &mut String, holder: Option<u64>) -> Result<(), AllocError>
-    ensures { OnOk result (string_bytes text.new ≡ string_bytes text.old ++ spec.holder_text holder) }
+/// Adds a number, or `null` where there is none.
+fn add_optional(alloc: Global, text: &mut String, number: Option<u64>) -> Result<(), AllocError>
+    ensures { OnOk result (string_bytes text.new ≡ string_bytes text.old ++ spec.number_or_null number) }
 {
-    match holder {
-        Some(conn) => add_number(alloc, text, conn),
+    match number {
+        Some(number) => add_number(alloc, text, number),
         None => text.push_str("null"),
     }
 }
 
-/// Adds a table: its name, and how many rows it has.
-fn add_table<D: Sessions>(
+/// Adds a table's name, and how many rows it has.
+fn add_rows<D: Sessions>(
     alloc: Global,
     text: &mut String,
     database: &D,
@@ -130,28 +130,61 @@ fn add_table<D: Sessions>(
 ) -> Result<(), AllocError>
     requires { HasTable (D.state database.now).catalog table }
     ensures { OnOk result (string_bytes text.new ≡ string_bytes text.old
-        ++ spec.table_text (D.state database.now) table (schema_at (D.state database.now).catalog table)) }
+        ++ spec.rows_text (D.state database.now) table (schema_at (D.state database.now).catalog table)) }
 {
-    text.push_str("{\"name\":\"")?;
+    text.push_str(",\"name\":\"")?;
     text.push_str(database.catalog().table(table).table_name())?;
     text.push_str("\",\"size\":")?;
     add_number(alloc, text, database.size(table))?;
     text.push_str("}")
 }
 
-/// Adds the tables of a database.
-fn add_tables<D: Sessions>(alloc: Global, text: &mut String, database: &D) -> Result<(), AllocError>
+/// Adds a table: how many bytes of memory it takes, its name, and how many rows it has.
+fn add_table<D: Sessions>(
+    alloc: Global,
+    text: &mut String,
+    database: &D,
+    memories: &[Option<u64>],
+    table: usize,
+) -> Result<(), AllocError>
+    requires table { HasTable (D.state database.now).catalog table }
+    requires memories { table < length memories.now }
     ensures { OnOk result (string_bytes text.new ≡ string_bytes text.old
-        ++ spec.listed (spec.table_text (D.state database.now)) 0 (D.state database.now).catalog.tables) }
+        ++ spec.table_text (D.state database.now) memories.now table (schema_at (D.state database.now).catalog table)) }
+{
+    text.push_str("{\"memory\":")?;
+    add_optional(alloc, text, memories[table])?;
+    add_rows(alloc, text, database, table)
+}
+
+/// Adds the tables of a database, each with its memory.
+fn add_tables<D: Sessions>(
+    alloc: Global,
+    text: &mut String,
+    database: &D,
+    memories: &[Option<u64>],
+) -> Result<(), AllocError>
+    requires { length memories.now ≡ length (D.state database.now).catalog.tables }
+    ensures { OnOk result (string_bytes text.new ≡ string_bytes text.old
+        ++ spec.listed (spec.table_text (D.state database.now) memories.now) 0 (D.state database.now).catalog.tables) }
 {
     'tables: for i in 0..database.catalog().table_count() {
         add_comma(text, i)?;
-        add_table(alloc, text, database, i)?;
+        add_table(alloc, text, database, memories, i)?;
     }
     Ok(())
 }
 
-/// Adds what a journal is, where one is kept: how many bytes it has, and whether it lacks room.
+/// Adds how many bytes of a journal stay since it was last synced, where it is synced and counts them.
+fn add_synced(alloc: Global, text: &mut String, synced: Option<u64>) -> Result<(), AllocError>
+    ensures { OnOk result (string_bytes text.new ≡ string_bytes text.old ++ spec.synced_text synced) }
+{
+    text.push_str(",\"synced\":")?;
+    add_optional(alloc, text, synced)?;
+    text.push_str("}")
+}
+
+/// Adds what a journal is, where one is kept: how many bytes it has, whether it lacks room, and how many of its bytes stay.
 fn add_journal(alloc: Global, text: &mut String, journal: LogState) -> Result<(), AllocError>
     ensures { OnOk result (string_bytes text.new ≡ string_bytes text.old ++ spec.journal_text journal) }
 {
@@ -162,7 +195,7 @@ fn add_journal(alloc: Global, text: &mut String, journal: LogState) -> Result<()
     add_number(alloc, text, bytes)?;
     text.push_str(",\"full\":")?;
     text.push_str(flag_word(journal.is_full))?;
-    text.push_str("}")
+    add_synced(alloc, text, journal.synced)
 }
 
 /// Adds how many sessions of a database are open, who holds some, and its journal.
@@ -178,7 +211,7 @@ fn add_sessions<D: Sessions>(
     text.push_str("],\"depth\":")?;
     add_number(alloc, text, database.depth())?;
     text.push_str(",\"holder\":")?;
-    add_holder(alloc, text, holder)?;
+    add_optional(alloc, text, holder)?;
     text.push_str(",\"journal\":")?;
     add_journal(alloc, text, journal)
 }
@@ -192,38 +225,62 @@ fn add_end(alloc: Global, text: &mut String, seconds: u64) -> Result<(), AllocEr
     text.push_str(",\"version\":\"0.1.0\"}\n")
 }
 
-/// Adds what a database, its sessions and its journal are, so many seconds after a start.
+/// What a status tells beside connections and a database.
+#[derive(Drop)]
+struct Figures {
+    /// How far the journal has come.
+    journal: LogState,
+    /// Seconds since the start.
+    seconds: u64,
+    /// How many bytes of memory each table takes, where that is counted.
+    memories: Vec<Option<u64>>,
+}
+
+/// How many bytes of memory each table of a database takes, where it counts them.
+fn memories_of<D: Sessions>(alloc: Global, database: &D) -> Result<Vec<Option<u64>>, AllocError>
+    ensures { IfOk result (λ memories. length memories.items ≡ length (D.state database.now).catalog.tables) }
+{
+    let mut memories = Vec::new(alloc);
+    'tables: for i in 0..database.catalog().table_count() {
+        memories.push(database.memory(i))?;
+    }
+    Ok(memories)
+}
+
+/// Adds what a database and its sessions are, by these figures.
 fn add_database<D: Sessions>(
     alloc: Global,
     text: &mut String,
     database: &D,
-    journal: LogState,
-    seconds: u64,
+    figures: &Figures,
     holder: Option<u64>,
 ) -> Result<(), AllocError>
-    ensures { OnOk result (string_bytes text.new ≡ string_bytes text.old ++ spec.database_text holder journal seconds (D.state database.now)) }
+    requires { length figures.now.memories.items ≡ length (D.state database.now).catalog.tables }
+    ensures { OnOk result (string_bytes text.new ≡ string_bytes text.old
+        ++ spec.database_text holder figures.now.journal figures.now.seconds figures.now.memories.items (D.state database.now)) }
 {
-    add_sessions(alloc, text, database, journal, holder)?;
+    add_sessions(alloc, text, database, figures.journal, holder)?;
     text.push_str(",\"ok\":true,\"tables\":[")?;
-    add_tables(alloc, text, database)?;
-    add_end(alloc, text, seconds)
+    add_tables(alloc, text, database, figures.memories.as_slice())?;
+    add_end(alloc, text, figures.seconds)
 }
 
-/// Adds the line of the status.
+/// Adds the line of the status, by these figures.
 fn add_status<D: Sessions + Drop, S>(
     alloc: Global,
     text: &mut String,
     hub: &Hub<D>,
-    journal: LogState,
-    seconds: u64,
+    figures: &Figures,
     row: &[Client<S>],
 ) -> Result<(), AllocError>
-    ensures { OnOk result (string_bytes text.new ≡ string_bytes text.old ++ spec.status_line row.now hub.now journal seconds) }
+    requires { length figures.now.memories.items ≡ length hub.now.held.database.catalog.tables }
+    ensures { OnOk result (string_bytes text.new ≡ string_bytes text.old
+        ++ spec.status_line row.now hub.now figures.now.journal figures.now.seconds figures.now.memories.items) }
 {
     let holder = hub.holder();
     text.push_str("{\"connections\":[")?;
     add_connections(alloc, text, holder, row)?;
-    add_database(alloc, text, hub.database(), journal, seconds, holder)
+    add_database(alloc, text, hub.database(), figures, holder)
 }
 
 /// The line that tells the status of a service, so many seconds after its start.
@@ -234,9 +291,14 @@ pub(crate) fn status_line<D: Sessions + Drop, S>(
     seconds: u64,
     row: &[Client<S>],
 ) -> Result<String, AllocError>
-    ensures { IfOk result (λ line. string_bytes line ≡ spec.status_line row.now hub.now journal seconds) }
+    ensures { IfOk result (λ line. spec.TellsStatus row.now hub.now journal seconds (string_bytes line)) }
 {
+    let figures = Figures {
+        journal,
+        seconds,
+        memories: memories_of(alloc, hub.database())?,
+    };
     let mut text = String::new(alloc);
-    add_status(alloc, &mut text, hub, journal, seconds, row)?;
+    add_status(alloc, &mut text, hub, &figures, row)?;
     Ok(text)
 }

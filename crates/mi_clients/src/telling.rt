@@ -7,7 +7,7 @@ ghost use Rattle.mi_clients.specs.Client.{Owes, Takes, IsAsFar};
 ghost use Rattle.mi_clients.specs.Output.{unsent};
 ghost use Rattle.mi_clients.specs.Row.{ids, Attends, EachServed, EachTakes};
 ghost use Rattle.mi_clients.specs.ServiceLines.{line_of};
-ghost use Rattle.mi_clients.specs.Status.{IsStateOf, IsStatus, status_line};
+ghost use Rattle.mi_clients.specs.Status.{IsStateOf, IsStatus, TellsStatus};
 ghost use Rattle.mi_log.specs.declared.log.LogState.{LogState};
 ghost use Rattle.mi_clients.specs.Steps.{Step, Makes, AreTells, AllTell, TellsSo, given_to, asked_by};
 ghost use Rattle.mi_clients.specs.declared.client.Phase.TheVariants as phases;
@@ -128,8 +128,9 @@ pub(crate) fn status_now<D: Sessions + Drop, L: Log + Drop, S>(
     row: &[Client<S>],
     seconds: u64,
 ) -> Option<String>
-    ensures { IfSome result (λ line. (journal : LogState) × IsStateOf (L.appended (log_of ledger.now)) (L.lacks_room (log_of ledger.now)) journal
-        × (string_bytes line ≡ status_line row.now (hub_of ledger.now) journal seconds)) }
+    ensures { IfSome result (λ line. (journal : LogState)
+        × IsStateOf (L.appended (log_of ledger.now)) (L.synced (log_of ledger.now)) (L.lacks_room (log_of ledger.now)) journal
+        × TellsStatus row.now (hub_of ledger.now) journal seconds (string_bytes line)) }
 {
     status_line(alloc, ledger.hub(), ledger.log().state(), seconds, row).ok()
 }
@@ -141,8 +142,9 @@ fn status_if_asked<D: Sessions + Drop, L: Log + Drop, S>(
     row: &[Client<S>],
     seconds: u64,
 ) -> Option<String>
-    ensures { IfSome result (λ line. (journal : LogState) × IsStateOf (L.appended (log_of ledger.now)) (L.lacks_room (log_of ledger.now)) journal
-        × (string_bytes line ≡ status_line row.now (hub_of ledger.now) journal seconds)) }
+    ensures { IfSome result (λ line. (journal : LogState)
+        × IsStateOf (L.appended (log_of ledger.now)) (L.synced (log_of ledger.now)) (L.lacks_room (log_of ledger.now)) journal
+        × TellsStatus row.now (hub_of ledger.now) journal seconds (string_bytes line)) }
 {
     if !row.iter().any(|client| client.service_line().is_some()) {
         return None;
@@ -163,7 +165,8 @@ pub fn tell_all<D: Sessions + Drop, L: Log + Drop, S: Duplex>(
     requires attends { Attends (ids row.old.items) (hub_of ledger.old).attached }
     requires settled { IsSettled L.appended L.synced ledger.old }
     ensures tells { OnOk result ((steps : List Step) × (status : List ℕ)
-        × IsStatus (L.appended (log_of ledger.old)) (L.lacks_room (log_of ledger.new)) seconds row.old.items (hub_of ledger.old) status
+        × IsStatus (L.appended (log_of ledger.old)) (L.synced (log_of ledger.old)) (L.lacks_room (log_of ledger.new)) seconds row.old.items
+        (hub_of ledger.old) status
         × AllTell steps × TellsSo status (line_of schema.now) steps
         × EachServed S.contents steps row.old.items row.new.items × EachTakes steps row.old.items row.new.items
         × Makes steps (hub_of ledger.old) (hub_of ledger.new) (L.appended (log_of ledger.old)) (L.appended (log_of ledger.new))) }

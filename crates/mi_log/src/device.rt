@@ -40,6 +40,11 @@ pub trait Device {
     fn written(&self) -> Option<u64>
         ensures { IfSome result (λ count. IfSome (contents self.now) (λ bytes. count ≡ length bytes)) };
 
+    /// How many of those bytes stay since it was last synced, where it counts them; none where a sync isn't made.
+    fn synced(&self) -> Option<u64>
+        ensures count { IfSome result (λ count. IfSome (stays self.now) (λ bytes. count ≡ length bytes)) }
+        ensures made { makes_stay self.now ≡ false → result ≡ None };
+
     /// Writes a front of the bytes, and answers how many they are. They take as much of the room at most.
     fn write(&mut self, bytes: &[u8]) -> io::Result<usize>
         ensures bound { WritesAtMost result bytes.now }

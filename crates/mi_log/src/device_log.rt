@@ -102,6 +102,7 @@ impl<D: Device> Log for DeviceLog<D> {
     fn state(&self) -> LogState {
         LogState {
             bytes: self.device.written(),
+            synced: self.device.synced(),
             is_full: self.error.is_some() || self.device.is_full(),
         }
     }

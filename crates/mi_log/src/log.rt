@@ -9,6 +9,8 @@ pub struct LogFault;
 pub struct LogState {
     /// How many bytes it has, where it keeps some.
     pub bytes: Option<u64>,
+    /// How many of its bytes stay since it was last synced, where it is synced and counts them.
+    pub synced: Option<u64>,
     /// Whether room was last asked for, and wasn't there.
     pub is_full: bool,
 }
@@ -18,7 +20,7 @@ pub struct LogState {
 /// What has failed isn't used again: once a call has failed, each further one answers an error and changes nothing. So nothing is appended
 /// behind a gap, and no sync is believed behind one that failed.
 pub trait Log {
-    ghost use Rattle.std.specs.Prelude.{◌≡◌, ◌<◌, ◌≤◌, ◌+◌, ℕ, List, Option, Bool, true, not, is_ok, length, IfSome, IsTrue, OnOk, OnErr, IsErr};
+    ghost use Rattle.std.specs.Prelude.{◌≡◌, ◌<◌, ◌≤◌, ◌+◌, ℕ, List, Option, Bool, None, true, false, not, is_ok, length, IfSome, IsTrue, OnOk, OnErr, IsErr};
     ghost use Rattle.std.specs.Io.KnownBytes.{Appends, Keeps};
     ghost use Rattle.mi_log.specs.Kept.{AppendsFront};
 
@@ -54,7 +56,9 @@ pub trait Log {
     /// How far it has come.
     fn state(&self) -> LogState
         ensures full { result.is_full ≡ lacks_room self.now }
-        ensures bytes { IfSome result.bytes (λ count. IfSome (appended self.now) (λ bytes. count ≡ length bytes)) };
+        ensures bytes { IfSome result.bytes (λ count. IfSome (appended self.now) (λ bytes. count ≡ length bytes)) }
+        ensures synced { IfSome result.synced (λ count. IfSome (synced self.now) (λ bytes. count ≡ length bytes)) }
+        ensures made { makes_stay self.now ≡ false → result.synced ≡ None };
 
     /// Appends some bytes, which take as much of the room at most. After an error a front of them stands there, and not all.
     fn append(&mut self, bytes: &[u8]) -> Result<(), LogFault>

@@ -102,6 +102,12 @@ impl Device for MemoryDevice {
         Some(self.bytes.len() as u64)
     }
 
+    fn synced(&self) -> Option<u64>
+        ensures count { result ≡ Some (length (kept self.now)) }
+    {
+        Some(self.kept().len() as u64)
+    }
+
     fn write(&mut self, bytes: &[u8]) -> io::Result<usize> {
         if self.calls == 0 {
             return Err(Error::from(ErrorKind::Other));

@@ -1,5 +1,5 @@
 //! A file that has room behind what was written to it: bytes of the file, which are written over.
-ghost use Rattle.std.specs.Prelude.{◌≡◌, ◌≤◌, ◌-◌, ◌+◌, true, length, take, Some, IfSome, IsTrue, OnOk};
+ghost use Rattle.std.specs.Prelude.{◌≡◌, ◌≤◌, ◌-◌, ◌+◌, min, true, length, take, Some, IfSome, IsTrue, OnOk};
 ghost use Rattle.std.specs.Io.KnownBytes.{Keeps};
 ghost use Rattle.mi_log.specs.Room.{IsRoomy, front_of};
 
@@ -23,33 +23,39 @@ pub struct RoomFile<F: PlacedFile> {
     file: F,
     end: u64,
     size: u64,
+    synced: u64,
     lacks: bool,
     ghost is_roomy: { IsRoomy (F.contents file) end size },
+    ghost has_synced: { synced ≤ end },
 }
 
 impl<F: PlacedFile> RoomFile<F> {
-    /// A file of this size, all of whose bytes count as written.
+    /// A file of this size, all of whose bytes count as written. None counts as synced.
     pub fn new(file: F, size: u64) -> RoomFile<F>
         requires { IfSome (F.contents file) (λ all. size ≡ length all) }
         ensures file { result.file ≡ file }
         ensures written { front_of result.end (F.contents result.file) ≡ F.contents file }
+        ensures synced { result.synced ≡ 0 }
     {
         RoomFile {
             file,
             end: size,
             size,
+            synced: 0,
             lacks: false,
         }
     }
 
-    /// All bytes of the file count as written, of which there are so many.
+    /// All bytes of the file count as written, of which there are so many. None counts as synced.
     pub fn renew(&mut self, size: u64)
         requires { IfSome (F.contents self.old.file) (λ all. size ≡ length all) }
         ensures file { self.new.file ≡ self.old.file }
         ensures written { front_of self.new.end (F.contents self.new.file) ≡ F.contents self.new.file }
+        ensures synced { self.new.synced ≡ 0 }
     {
         self.end = size;
         self.size = size;
+        self.synced = 0;
     }
 
     /// The file itself.
@@ -66,15 +72,17 @@ impl<F: PlacedFile> RoomFile<F> {
         self.end
     }
 
-    /// The file is cut to the first `size` bytes that were written. It has no room then.
+    /// The file is cut to the first `size` bytes that were written. It has no room then. Bytes of these that were synced stay so.
     pub fn cut(&mut self, size: u64) -> io::Result<()>
-        ensures { OnOk result (IfSome (front_of self.old.end (F.contents self.old.file)) (λ bytes. size ≤ length bytes
+        ensures cut { OnOk result (IfSome (front_of self.old.end (F.contents self.old.file)) (λ bytes. size ≤ length bytes
             → front_of self.new.end (F.contents self.new.file) ≡ Some (take size bytes))) }
+        ensures synced { OnOk result (self.new.synced ≡ min self.old.synced self.new.end) }
     {
         let end = self.end.min(size);
         self.file.set_len(end)?;
         self.end = end;
         self.size = end;
+        self.synced = self.synced.min(end);
         Ok(())
     }
 
@@ -82,6 +90,7 @@ impl<F: PlacedFile> RoomFile<F> {
     fn grow(&mut self, room: u64)
         ensures written { Keeps (front_of self.old.end (F.contents self.old.file)) (front_of self.new.end (F.contents self.new.file)) }
         ensures room { self.old.size - self.old.end ≤ self.new.size - self.new.end }
+        ensures synced { self.new.synced ≡ self.old.synced }
     {
         let zeros = [0u8; PIECE];
         'pieces: while self.size - self.end < room {
@@ -100,7 +109,7 @@ impl<F: PlacedFile> RoomFile<F> {
 }
 
 impl<F: PlacedFile> Device for RoomFile<F> {
-    ghost use Rattle.std.specs.Prelude.{◌≡◌, ◌≤◌, ◌-◌, ◌+◌, None, not, IfOk, IsTrue};
+    ghost use Rattle.std.specs.Prelude.{◌≡◌, ◌≤◌, ◌-◌, ◌+◌, None, Some, not, IfOk, IsTrue, OnOk, OnErr};
     ghost use Rattle.std.specs.Io.{WritesAtMost};
     ghost use Rattle.std.specs.Io.KnownBytes.{WriteAppends, Keeps};
     ghost use Rattle.mi_log.specs.Room.{front_of};
@@ -115,6 +124,7 @@ impl<F: PlacedFile> Device for RoomFile<F> {
         ensures there { IsTrue result → bytes ≤ self.new.size - self.new.end }
         ensures left { self.old.size - self.old.end ≤ self.new.size - self.new.end }
         ensures enough { bytes ≤ self.old.size - self.old.end → result ≡ true }
+        ensures synced { self.new.synced ≡ self.old.synced }
         ensures written { Keeps (front_of self.old.end (F.contents self.old.file)) (front_of self.new.end (F.contents self.new.file)) }
     {
         if self.size - self.end < bytes {
@@ -134,12 +144,19 @@ impl<F: PlacedFile> Device for RoomFile<F> {
         Some(self.end)
     }
 
+    fn synced(&self) -> Option<u64>
+        ensures count { result ≡ Some self.now.synced }
+    {
+        Some(self.synced)
+    }
+
     /// The file has what it took, behind what was written before.
     fn write(&mut self, bytes: &[u8]) -> io::Result<usize>
         ensures bound { WritesAtMost result bytes.now }
         ensures bytes { WriteAppends None None result bytes.now }
         ensures stays { Keeps None None }
         ensures room { self.new.lacks ≡ self.old.lacks }
+        ensures synced { self.new.synced ≡ self.old.synced }
         ensures left { IfOk result (λ count. self.old.size - self.old.end ≤ self.new.size - self.new.end + count) }
         ensures written { WriteAppends (front_of self.old.end (F.contents self.old.file)) (front_of self.new.end (F.contents self.new.file)) result bytes.now }
     {
@@ -152,7 +169,15 @@ impl<F: PlacedFile> Device for RoomFile<F> {
         Ok(count)
     }
 
-    fn sync_data(&mut self) -> io::Result<()> {
-        self.file.sync_data()
+    fn sync_data(&mut self) -> io::Result<()>
+        ensures written { front_of self.new.end (F.contents self.new.file) ≡ front_of self.old.end (F.contents self.old.file) }
+        ensures room { self.new.size - self.new.end ≡ self.old.size - self.old.end }
+        ensures lacks { self.new.lacks ≡ self.old.lacks }
+        ensures synced { OnOk result (self.new.synced ≡ self.new.end) }
+        ensures failed { OnErr result (self.new.synced ≡ self.old.synced) }
+    {
+        self.file.sync_data()?;
+        self.synced = self.end;
+        Ok(())
     }
 }

@@ -36,7 +36,7 @@ AllUpTo {S} last row = (c : Client S) → Contains row c → c.conn ≤ last
 
 -- What a turn does. The row is served by the first steps, as who is there and has come asks. By the others who has waited for a place is
 -- admitted, and nobody is asked or given anything. The one beside the row is attended to by the status of what these leave; it makes no step.
-pub record IsTurn (schema : List ℕ) (seconds : ℕ) (old new : HubState) (before after : Option (List ℕ)) (lacks : Bool) (olds news : List (Client Link))
+pub record IsTurn (schema : List ℕ) (seconds : ℕ) (old new : HubState) (before after stays : Option (List ℕ)) (lacks : Bool) (olds news : List (Client Link))
     (waited beside : Overflow) : Type 0 where
   pub first : List Step
   pub comes : List Step
@@ -55,7 +55,7 @@ pub record IsTurn (schema : List ℕ) (seconds : ℕ) (old new : HubState) (befo
   pub joins : Joins row news
   pub at : Overflow
   pub placed : IsPlaced waited.comer waited at mid new row news
-  pub attended : InPlace (λ was last. (status : List ℕ) × IsStatus after lacks seconds news new status
+  pub attended : InPlace (λ was last. (status : List ℕ) × IsStatus after stays lacks seconds news new status
       × Attended (λ _. None) (λ _. None) status schema was last) at.beside.client beside.beside.client
 
 -- whether a service that serves may end by this failure

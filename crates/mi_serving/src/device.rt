@@ -40,7 +40,7 @@ impl<F> JournalDevice<F> {
 }
 
 impl<F: Device> Device for JournalDevice<F> {
-    ghost use Rattle.std.specs.Prelude.{◌≡◌, ◌≤◌, ◌+◌, None, not, true, length, IfSome, IfOk, IsTrue};
+    ghost use Rattle.std.specs.Prelude.{◌≡◌, ◌≤◌, ◌+◌, None, not, true, false, length, IfSome, IfOk, IsTrue};
     ghost use Rattle.std.specs.Io.{WritesAtMost};
     ghost use Rattle.std.specs.Io.KnownBytes.{WriteAppends, Keeps};
     ghost use Rattle.mi_serving.specs.Device.{file_of, keeping_of, written_to, told_of, is_staying, lacks_room, room_left};
@@ -105,6 +105,16 @@ impl<F: Device> Device for JournalDevice<F> {
         match &self.file {
             Some(file) => file.written(),
             None => None,
+        }
+    }
+
+    fn synced(&self) -> Option<u64>
+        ensures count { IfSome result (λ count. IfSome (told_of F.stays self.now) (λ bytes. count ≡ length bytes)) }
+        ensures made { is_staying self.now ≡ false → result ≡ None }
+    {
+        match (&self.file, self.keeping) {
+            (Some(file), Keeping::Synced) => file.synced(),
+            _ => None,
         }
     }
 

@@ -174,7 +174,8 @@ impl Overflow {
     )
         requires room { 0 < length buffer.old }
         ensures attended { InPlace (λ old last. (status : List ℕ)
-            × IsStatus (L.appended (log_of ledger.now)) (L.lacks_room (log_of ledger.now)) seconds row.now (hub_of ledger.now) status
+            × IsStatus (L.appended (log_of ledger.now)) (L.synced (log_of ledger.now)) (L.lacks_room (log_of ledger.now)) seconds row.now
+            (hub_of ledger.now) status
             × Attended (λ _. None) (λ _. None) status (line_of schema.now) old last) self.old.beside.client self.new.beside.client }
         ensures comer { self.new.comer ≡ self.old.comer }
     {

@@ -177,7 +177,8 @@ pub fn turn<D: Sessions + Drop, L: Log + Drop>(
     requires own { replayer ≤ last.old }
     requires room { 0 < length buffer.old }
     ensures turns { OnOk result (IsTurn (line_of schema.now) seconds (hub_of ledger.old) (hub_of ledger.new) (L.appended (log_of ledger.old))
-        (L.appended (log_of ledger.new)) (L.lacks_room (log_of ledger.new)) row.old.items row.new.items overflow.old overflow.new) }
+        (L.appended (log_of ledger.new)) (L.synced (log_of ledger.new)) (L.lacks_room (log_of ledger.new)) row.old.items row.new.items
+        overflow.old overflow.new) }
     ensures known { OnOk result (AllUpTo last.new row.new.items) }
     ensures waits { OnOk result (WaitsUpTo last.new overflow.new.comer) }
     ensures rises { OnOk result (last.old ≤ last.new) }

@@ -154,7 +154,7 @@ fn the_status_of_two(rt: HostRuntime) -> Result<(), Fail> {
     )?;
     let want =
         b"{\"connections\":[{\"holds\":true,\"lines\":1,\"number\":2,\"since\":1,\"unsent\":25},{\"holds\":false,\"lines\":0,\"number\":3,\"since\":null,\"unsent\":0}],\
-\"depth\":1,\"holder\":2,\"journal\":{\"bytes\":16,\"full\":false},\"ok\":true,\"tables\":[{\"name\":\"accounts\",\"size\":0}],\"uptime\":7,\"version\":\"0.1.0\"}\n";
+\"depth\":1,\"holder\":2,\"journal\":{\"bytes\":16,\"full\":false,\"synced\":0},\"ok\":true,\"tables\":[{\"memory\":null,\"name\":\"accounts\",\"size\":0}],\"uptime\":7,\"version\":\"0.1.0\"}\n";
     assert!(rt; out.as_slice() == want.as_slice());
     Ok(())
 }
@@ -171,7 +171,7 @@ fn a_holder_is_told_with_its_line(rt: HostRuntime) -> Result<(), Fail> {
     let want =
         b"{\"connections\":[{\"holds\":false,\"lines\":0,\"number\":2,\"since\":null,\"unsent\":0},\
 {\"holds\":true,\"lines\":6,\"number\":3,\"since\":5,\"unsent\":142}],\
-\"depth\":2,\"holder\":3,\"journal\":{\"bytes\":63,\"full\":false},\"ok\":true,\"tables\":[{\"name\":\"accounts\",\"size\":0}],\"uptime\":7,\"version\":\"0.1.0\"}\n";
+\"depth\":2,\"holder\":3,\"journal\":{\"bytes\":63,\"full\":false,\"synced\":0},\"ok\":true,\"tables\":[{\"memory\":null,\"name\":\"accounts\",\"size\":0}],\"uptime\":7,\"version\":\"0.1.0\"}\n";
     assert!(rt; out.ends_with(want));
     Ok(())
 }
@@ -223,7 +223,7 @@ fn a_look_up_leaves_a_journal_full(rt: HostRuntime) -> Result<(), Fail> {
     let want =
         b"{\"ok\":true,\"revision\":1}\n{\"error\":\"journal\",\"ok\":false}\n{\"ok\":true,\"size\":0}\n\
 {\"connections\":[{\"holds\":false,\"lines\":0,\"number\":2,\"since\":null,\"unsent\":0},{\"holds\":true,\"lines\":3,\"number\":3,\"since\":1,\"unsent\":77}],\
-\"depth\":1,\"holder\":3,\"journal\":{\"bytes\":16,\"full\":true},\"ok\":true,\"tables\":[{\"name\":\"accounts\",\"size\":0}],\"uptime\":7,\"version\":\"0.1.0\"}\n";
+\"depth\":1,\"holder\":3,\"journal\":{\"bytes\":16,\"full\":true,\"synced\":0},\"ok\":true,\"tables\":[{\"memory\":null,\"name\":\"accounts\",\"size\":0}],\"uptime\":7,\"version\":\"0.1.0\"}\n";
     assert!(rt; out.as_slice() == want.as_slice());
     Ok(())
 }
@@ -316,7 +316,7 @@ fn one_is_served_beside_the_others(rt: HostRuntime) -> Result<(), Fail> {
     assert!(rt; serve_beside(alloc, first, other)?);
     let want =
         b"{\"connections\":[{\"holds\":true,\"lines\":1,\"number\":2,\"since\":1,\"unsent\":0}],\
-\"depth\":1,\"holder\":2,\"journal\":{\"bytes\":16,\"full\":false},\"ok\":true,\"tables\":[{\"name\":\"accounts\",\"size\":0}],\"uptime\":7,\"version\":\"0.1.0\"}\n\
+\"depth\":1,\"holder\":2,\"journal\":{\"bytes\":16,\"full\":false,\"synced\":16},\"ok\":true,\"tables\":[{\"memory\":null,\"name\":\"accounts\",\"size\":0}],\"uptime\":7,\"version\":\"0.1.0\"}\n\
 {\"ok\":true}\n{\"error\":\"places\",\"ok\":false}\n";
     let out = out.replace(Vec::new(alloc));
     assert!(rt; out.as_slice() == want.as_slice());

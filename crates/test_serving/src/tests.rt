@@ -95,6 +95,10 @@ impl Device for MemoryFile {
         None
     }
 
+    fn synced(&self) -> Option<u64> {
+        None
+    }
+
     fn write(&mut self, bytes: &[u8]) -> io::Result<usize> {
         match self.bytes.extend_from_slice(bytes) {
             Ok(()) => Ok(bytes.len()),

@@ -31,6 +31,7 @@ returns-clause-serves g c =
         parts = refl;
         hub = hub_of c.ask_all.new.ledger;
         appended = g.L.Log.appended (log_of c.ask_all.new.ledger);
+        stays = g.L.Log.synced (log_of c.ask_all.new.ledger);
         makes = asked.2;
         row = b;
         attends = c.in_ok-ask_all.ensures.attends;

@@ -5,5 +5,5 @@ use Rattle.mi_clients.proofs.status.add_tables.Given as goal
 
 -- with those to come all are added
 abbrev pub invariant-tables : goal.invariant-tables
-invariant-tables g l = string_bytes l.text ++ listed (table_text (g.D.Sessions.state l.database)) l.i (drop l.i (g.D.Sessions.state l.database).catalog.tables)
-    ≡ string_bytes l.fn.text ++ listed (table_text (g.D.Sessions.state l.database)) 0 (g.D.Sessions.state l.database).catalog.tables
+invariant-tables g l = string_bytes l.text ++ listed (table_text (g.D.Sessions.state l.database) l.memories) l.i (drop l.i (g.D.Sessions.state l.database).catalog.tables)
+    ≡ string_bytes l.fn.text ++ listed (table_text (g.D.Sessions.state l.database) l.memories) 0 (g.D.Sessions.state l.database).catalog.tables

@@ -30,8 +30,8 @@ returns-clause-turns g c =
       joins = came.2;
       at = c.place.new.self;
       placed = c.in_ok-place.ensures.placed;
-      attended = attended_there (g.L.Log.appended (log_of c.place.new.ledger)) (g.L.Log.lacks_room (log_of c.place.new.ledger)) c.args.seconds
-          (hub_of c.place.new.ledger) (line_of c.args.schema.now) c.as_slice.result.now c.place.new.row.items c.place.new.self.beside.client
+      attended = attended_there (g.L.Log.appended (log_of c.place.new.ledger)) (g.L.Log.synced (log_of c.place.new.ledger))
+          (g.L.Log.lacks_room (log_of c.place.new.ledger)) c.args.seconds (hub_of c.place.new.ledger) (line_of c.args.schema.now) c.as_slice.result.now c.place.new.row.items c.place.new.self.beside.client
           c.serve.new.self.beside.client c.receive.new.overflow.beside.client c.as_slice.ensures.value
           (ap (λ (b : Beside Link). b.client) c.receive.ensures.beside) c.serve.ensures.attended;
     }
