@@ -20,7 +20,7 @@ use mi_node::neighbours::{set_back, set_forth};
 use mi_node::{Link, NodeRef, PackedRef, Pool, Tag};
 use mi_value::Probe;
 use std::alloc::{AllocError, Global};
-use std::mem;
+use std::mem::{self, size_of};
 
 /// The number of buckets at first, a power of two.
 const FIRST_BUCKETS: usize = 16;
@@ -70,6 +70,14 @@ impl<H> Chains<H> {
         ensures { (rs : Seq Ref) → AreChained self.now (H.keying self.now.keys) p.now rs → result ≡ key_count (same_nodes (H.keying self.now.keys) p.now) rs }
     {
         self.groups
+    }
+
+    /// How many bytes of memory the buckets take. It takes the same time however many nodes there are. No clause says how many;
+    /// tests do.
+    pub fn memory(&self) -> u64 {
+        self.buckets
+            .capacity()
+            .saturating_mul(size_of::<PackedRef>()) as u64
     }
 
     /// The node with the lowest stamp of those that have this key. Costs a step for each group of the bucket.

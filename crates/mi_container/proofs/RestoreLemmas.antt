@@ -751,6 +751,7 @@ pub rows_fault : (s : Shape) (t : Table) (e : RestoreFault) → IsRowsFault s t.
 rows_fault s t fault.Full h = absurd h
 rows_fault s t fault.Counters h = absurd h
 rows_fault s t fault.Lists h = absurd h
+rows_fault s t (fault.Row a) h = absurd h
 rows_fault s t (fault.Id a) h = h
 rows_fault s t (fault.List x) h = absurd h
 rows_fault s t (fault.Unique x a b) h = h
@@ -760,6 +761,7 @@ pub lists_fault : (s : Shape) (t u : Table) → u.rows ≡ t.rows → (e : Resto
 lists_fault s t u same fault.Full h = absurd h.2
 lists_fault s t u same fault.Counters h = absurd h.2
 lists_fault s t u same fault.Lists h = absurd h.2
+lists_fault s t u same (fault.Row a) h = absurd h.2
 lists_fault s t u same (fault.Id a) h = absurd h.2
 lists_fault s t u same (fault.List x) h =
     subst (λ rows. IsListsFault s (record { rows = rows; lists = u.lists; next = u.next; arrivals = u.arrivals }) t.lists (fault.List x)) same h

@@ -8,11 +8,15 @@
 --     HasRows      rows that have come in, with stamps from a count on
 --     IsRowFault, IsRowsFault      why a row, or one of many, doesn't come in
 --     IsListFault, IsListsFault      why a list, or one of many, is none of an index
+--     RowsFit      all rows fit the columns
+--     IsUnfit, IsFitFault      the row of an id doesn't
 --     IsRestoreFault      why a table isn't restored
-use Rattle.std.specs.Prelude.{◌≡◌, ◌≢◌, ℕ, ◌+◌, ◌<◌, ◌≤◌, ◌⊎◌, List, [], ◌∷◌, ◌++◌, true, map, drop, length, slice_set, slice_index_or, suc}
+use Rattle.std.specs.Prelude.{◌≡◌, ◌≢◌, ℕ, ◌+◌, ◌<◌, ◌≤◌, ◌⊎◌, List, [], ◌∷◌, ◌++◌, true, false, IsTrue, map, drop, length, slice_get, slice_set, slice_index_or, suc}
+use Rattle.std.specs.List.{AllByRecursion}
 use Rattle.std.specs.declared.option.Option.TheVariants.{None, Some}
 use Rattle.mi_value.specs.declared.value.Value.{Value}
 use Rattle.mi_value.specs.declared.limits.TheConstants.{LAST_COUNT}
+use Rattle.mi_catalog.specs.Fits.{fits_record}
 use Rattle.mi_catalog.specs.Kinds.{is_sorted}
 use Rattle.mi_catalog.specs.Shape.{Shape, index_at}
 use Rattle.mi_catalog.specs.Key.{Row}
@@ -91,6 +95,7 @@ abbrev pub IsRowFault : Shape → List Row → ℕ → List Value → RestoreFau
 IsRowFault s rows e r fault.Full = ⊥
 IsRowFault s rows e r fault.Counters = ⊥
 IsRowFault s rows e r fault.Lists = ⊥
+IsRowFault s rows e r (fault.Row a) = ⊥
 IsRowFault s rows e r (fault.Id a) = ⊥
 IsRowFault s rows e r (fault.List x) = ⊥
 IsRowFault s rows e r (fault.Unique x a b) = (b ≡ e) × (conflict_from 1 (drop 1 s.indexes) rows r None ≡ Some (x, a))
@@ -101,6 +106,7 @@ abbrev pub IsRowsFault : Shape → ℕ → List Row → RestoreFault → Type 0
 IsRowsFault s next rows fault.Full = ⊥
 IsRowsFault s next rows fault.Counters = ⊥
 IsRowsFault s next rows fault.Lists = ⊥
+IsRowsFault s next rows (fault.Row a) = ⊥
 IsRowsFault s next rows (fault.Id a) = Rise next rows → ⊥
 IsRowsFault s next rows (fault.List x) = ⊥
 IsRowsFault s next rows (fault.Unique x a b) = (before : List Row) × (r : List Value) × (behind : List Row) × (rows ≡ before ++ (b, r) ∷ behind)
@@ -121,6 +127,7 @@ abbrev pub IsListFault : Shape → Table → ℕ → List ℕ → RestoreFault �
 IsListFault s t x ids fault.Full = ⊥
 IsListFault s t x ids fault.Counters = ⊥
 IsListFault s t x ids fault.Lists = ⊥
+IsListFault s t x ids (fault.Row a) = ⊥
 IsListFault s t x ids (fault.Id a) = ⊥
 IsListFault s t x ids (fault.List y) = (y ≡ x) × ((ListsEach t ids → ⊥) ⊎ (GoesByIds s x × (ids ≡ map (λ r. r.0) t.rows → ⊥)))
 IsListFault s t x ids (fault.Unique y a b) = ⊥
@@ -130,11 +137,24 @@ IsListFault s t x ids fault.Memory = Unit {0}
 abbrev pub IsListsFault : Shape → Table → List (List ℕ) → RestoreFault → Type 0
 IsListsFault s t lists e = (x : ℕ) × (x < length lists) × IsListFault s t x (slice_index_or lists x []) e
 
+-- each row has a fitting value for each column
+abbrev pub RowsFit : Shape → List Row → Type 0
+RowsFit s rows = AllByRecursion (λ r. IsTrue (fits_record s.columns r.1)) rows
+
+-- the row of a is one of these and has not
+abbrev pub IsUnfit : Shape → List Row → ℕ → Type 0
+IsUnfit s rows a = (k : ℕ) × (r : List Value) × (slice_get rows k ≡ Some (a, r)) × (fits_record s.columns r ≡ false)
+
+-- why one of these doesn't fit
+abbrev pub IsFitFault : Shape → List Row → RestoreFault → Type 0
+IsFitFault s rows e = (a : ℕ) × (e ≡ fault.Row a) × IsUnfit s rows a
+
 -- why a table isn't restored; other than memory each is a fact of the table
 abbrev pub IsRestoreFault : Shape → Table → RestoreFault → Type 0
 IsRestoreFault s t fault.Full = s.max_rows < size t
 IsRestoreFault s t fault.Counters = (LAST_COUNT < t.next) ⊎ ((LAST_COUNT < t.arrivals) ⊎ (t.arrivals < size t))
 IsRestoreFault s t fault.Lists = length t.lists ≢ length s.indexes
+IsRestoreFault s t (fault.Row a) = IsUnfit s t.rows a
 IsRestoreFault s t (fault.Id a) = IsRowsFault s t.next t.rows (fault.Id a)
 IsRestoreFault s t (fault.List x) = IsListsFault s t t.lists (fault.List x)
 IsRestoreFault s t (fault.Unique x a b) = IsRowsFault s t.next t.rows (fault.Unique x a b)

@@ -16,7 +16,7 @@ ghost use Rattle.mi_container.specs.Data.{Data, IsData, as_table};
 ghost use Rattle.mi_container.specs.Held.{HoldsNodes};
 ghost use Rattle.mi_container.specs.Changes.{opened_data};
 ghost use Rattle.mi_container.specs.Secrets.{opened_secrets};
-ghost use Rattle.mi_container.specs.Restore.{image_table, IsRestoreFault};
+ghost use Rattle.mi_container.specs.Restore.{image_table, RowsFit, IsRestoreFault};
 ghost use Rattle.mi_container.specs.Backs.{row_seen};
 ghost use Rattle.mi_container.specs.Inverse.{taken_back, settled, lost_to};
 ghost use Rattle.mi_container.specs.Inverse.Inverse.{Inserted};
@@ -80,6 +80,7 @@ pub trait Container: Drop {
     ) -> Result<Self, RestoreFault>
         ensures shape { IfOk result (λ made. shape made ≡ schema) }
         ensures table { IfOk result (λ made. as_table (plain made) ≡ image_table image) }
+        ensures fit { IfOk result (λ _. RowsFit schema image.rows.items) }
         ensures kept { IfOk result (λ made. (plain made).kept ≡ []) }
         ensures secrets { IfOk result (λ made. secrets made ≡ opened_secrets secret schema) }
         ensures fault { IfErr result (λ e. IsRestoreFault schema (image_table image) e) };

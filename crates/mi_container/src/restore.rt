@@ -3,7 +3,7 @@ ghost use Rattle.std.specs.Prelude.{◌≡◌};
 ghost use Rattle.mi_container.specs.declared.restore.RestoreFault.TheVariants.{Memory};
 
 use mi_value::Record;
-use std::alloc::{AllocError, AllocFailed};
+use std::alloc::AllocError;
 
 /// A table as it is kept outside of a process. No stamp is in it, only order.
 #[derive(Drop)]
@@ -30,6 +30,8 @@ pub enum RestoreFault {
     Lists,
     /// The id of a row isn't above the one in front of it, or not below the next id.
     Id(u64),
+    /// The row of that id doesn't fit the columns.
+    Row(u64),
     /// The list of the index hasn't each id once and nothing else; or, where the index has no parts, not in their order.
     List(usize),
     /// The unique index has two rows of one key.

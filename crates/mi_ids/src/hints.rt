@@ -3,6 +3,7 @@
 use crate::page::Page;
 use indexmap::IndexMap;
 use std::alloc::Global;
+use std::mem::size_of;
 
 /// How many hints there are at first.
 const FIRST: usize = 16;
@@ -22,6 +23,11 @@ impl Hints {
             alloc,
             indices: Vec::new(alloc),
         }
+    }
+
+    /// How many bytes of memory the hints take.
+    pub(crate) fn memory(&self) -> usize {
+        self.indices.capacity().saturating_mul(size_of::<u32>())
     }
 
     /// Where the page of this number may stand.

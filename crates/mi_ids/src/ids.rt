@@ -17,6 +17,9 @@ use std::marker::Model;
 /// How many ids there may be, so that a number of them is never too large for its type.
 const MOST: usize = 1 << 63;
 
+/// How many bytes a place of a page takes: the page, its number, and what finds it by a hash.
+const PLACE: usize = 300;
+
 /// Ids, each with the reference of its node and whether it is live.
 ///
 /// Contracts see a finite map from ids to entries, and room: how many ids more can be put in without memory. An id that
@@ -68,6 +71,13 @@ impl Ids {
         ensures { result ≡ len self.now.entries }
     {
         self.count
+    }
+
+    /// How many bytes of memory the ids take: 300 for each place of a page, and the hints. It takes the same time however many ids
+    /// there are. No clause says how many; tests do.
+    pub fn memory(&self) -> u64 {
+        let pages = self.pages.capacity().saturating_mul(PLACE);
+        pages.saturating_add(self.hints.memory()) as u64
     }
 
     /// What is known of an id, or none where it isn't there.

@@ -468,6 +468,14 @@ exchanged_none n r v is = record {
   but = record { refs = λ q e. refl; values = λ q e. refl; links = λ q t e. refl; slots = refl };
 }
 
+-- the same value, and maybe other links of the node
+pub retagged_alone : (n o : Pooled Stored) (r : Ref) (v : Stored) → value_of n r.name ≡ Some v → KeepsButLinks n o r → IsExchanged r v n o
+retagged_alone n o r v is b = record {
+  refs = b.refs;
+  own = b.values r.name ∙ is;
+  but = record { refs = λ q e. b.refs q; values = λ q e. b.values q; links = λ q t e. b.links q t e; slots = b.slots };
+}
+
 pub retagged_none : (r : Ref) (v : Stored) (ys : List Structure) (s : ℕ) (n : Pooled Stored) → AreRetagged (λ _. None) r v ys s n n
 retagged_none r v [] s n = tt
 retagged_none r v (y ∷ ys) s n = (refl, retagged_none r v ys (s + 1) n)

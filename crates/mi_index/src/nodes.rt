@@ -19,6 +19,7 @@ use mi_catalog::Schema;
 use mi_node::{MaybePlace, NodeRef, Pool};
 use mi_order::Stored;
 use std::alloc::{AllocError, Global};
+use std::mem::size_of;
 
 /// The nodes of one table, and how its indexes stand over them.
 #[derive(Drop)]
@@ -27,6 +28,22 @@ pub struct Nodes {
     pub pool: Pool<Stored>,
     /// How each index of the schema, in its order, stands over them.
     pub structures: Structures,
+    /// How many bytes the records in the nodes have in blocks of their own. No clause speaks of it.
+    blocks: u64,
+}
+
+/// A record of more bytes has them in a block of its own, and not in the node.
+const IN_NODE: usize = 46;
+
+/// How many bytes a record has in a block of its own.
+fn block_of(stored: &Stored) -> u64 {
+    let bytes = stored.row.values().byte_count();
+    if bytes > IN_NODE { bytes as u64 } else { 0 }
+}
+
+/// How many bytes all blocks have, where a record goes and one with a block of so many bytes comes.
+fn exchanged(blocks: u64, came: u64, went: &Stored) -> u64 {
+    blocks.wrapping_add(came).wrapping_sub(block_of(went))
 }
 
 impl Nodes {
@@ -41,7 +58,16 @@ impl Nodes {
         Ok(Nodes {
             pool: Pool::with_slots(alloc, slots),
             structures,
+            blocks: 0,
         })
+    }
+
+    /// How many bytes of memory they take: the pool, what the indexes have beside it, and the blocks of records. It takes a step for
+    /// each index, however many nodes there are. No clause says how many; tests do.
+    pub fn memory(&self) -> u64 {
+        let pool = self.pool.memory(size_of::<Stored>());
+        let indexes = self.structures.memory();
+        pool.saturating_add(indexes).saturating_add(self.blocks)
     }
 
     /// Puts a value into a new node, and the node into every index: by its key and this stamp, and last in each list. In the
@@ -70,6 +96,7 @@ impl Nodes {
         if let Err(refused) = self.structures.make_room(alloc, &mut self.pool, n) {
             return Err((refused, stored));
         }
+        let block = block_of(&stored);
         let node = self.pool.take(stored)?;
         let joining = Joining {
             node,
@@ -78,6 +105,7 @@ impl Nodes {
             before,
         };
         self.structures.link(&mut self.pool, &joining);
+        self.blocks = self.blocks.wrapping_add(block);
         Ok(node)
     }
 
@@ -126,10 +154,12 @@ impl Nodes {
             before: None,
         };
         self.structures.unlink(&mut self.pool, node, &joining.moves);
+        let block = block_of(&stored);
         let old = self.pool.swap_value(node, stored);
         self.structures
             .retag(&mut self.pool, node, &asked, stamp, &kept);
         self.structures.link(&mut self.pool, &joining);
+        self.blocks = exchanged(self.blocks, block, &old);
         old
     }
 
@@ -152,15 +182,17 @@ impl Nodes {
             .find_kept(&self.pool, node, &stored, &asked, 0);
         let moves = Moves::Placed(places, &kept);
         self.structures.unlink(&mut self.pool, node, &moves);
+        let block = block_of(&stored);
         let old = self.pool.swap_value(node, stored);
         self.structures
             .retag(&mut self.pool, node, &asked, 0, &kept);
         self.structures.relink(&mut self.pool, node, &moves);
+        self.blocks = exchanged(self.blocks, block, &old);
         old
     }
 
-    /// Moves a node in each index that is marked, by another stamp than it has there, and last in a list. Its value stays.
-    /// Takes no memory.
+    /// Moves a node in each index that is marked, by another stamp than it has there, and last in a list. Its value stays. A tree in
+    /// which it keeps its place gets a new tag alone. Takes no memory.
     pub fn restamp(&mut self, node: NodeRef, marks: &[bool], stamp: u64)
         requires held { IsHeld self.old.pool node }
         requires places { (v : Value) × (value_of self.old.pool node.name ≡ Some v)
@@ -172,14 +204,20 @@ impl Nodes {
             self.old.structures.items self.new.structures.items self.old.pool self.new.pool rss }
         ensures like { AllLike self.old.structures.items self.new.structures.items }
     {
-        let moves = Moves::Marked(marks, &[]);
-        self.structures.unlink(&mut self.pool, node, &moves);
+        let asked = Moves::Marked(marks, &[]);
+        let stored = self.pool.value(node);
+        let kept = self
+            .structures
+            .find_kept(&self.pool, node, stored, &asked, stamp);
         let joining = Joining {
             node,
-            moves,
+            moves: Moves::Marked(marks, &kept),
             stamp,
             before: None,
         };
+        self.structures.unlink(&mut self.pool, node, &joining.moves);
+        self.structures
+            .retag(&mut self.pool, node, &asked, stamp, &kept);
         self.structures.link(&mut self.pool, &joining);
     }
 
@@ -204,7 +242,9 @@ impl Nodes {
         ensures stand { (rss : Seq (Seq Ref)) → AllStand self.old.structures.items 0 self.old.pool rss
             → IsOutOfAll node.name rss → AllStand self.new.structures.items 0 self.new.pool rss }
     {
-        self.pool.give(node)
+        let stored = self.pool.give(node);
+        self.blocks = exchanged(self.blocks, 0, &stored);
+        stored
     }
 }
 

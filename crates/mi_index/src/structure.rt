@@ -58,6 +58,14 @@ impl Structure {
         }
     }
 
+    /// How many bytes of memory it takes beside its nodes: the buckets of chains, and else none. No clause says how many; tests do.
+    pub fn memory(&self) -> u64 {
+        match self {
+            Structure::Hashed(chains) => chains.memory(),
+            Structure::Sorted(_) | Structure::Sequenced(_) => 0,
+        }
+    }
+
     /// Puts a node in: by its key and this stamp, or in a list, which has no stamps, directly before `before`, or last
     /// where that is `None`. Takes no memory.
     pub fn link(&mut self, p: &mut Pool<Stored>, node: NodeRef, stamp: u64, before: Option<NodeRef>)

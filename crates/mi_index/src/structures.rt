@@ -22,6 +22,7 @@ use mi_node::{NodeRef, Pool};
 use mi_order::Stored;
 use std::alloc::{AllocError, Global};
 use std::marker::Model;
+use std::mem::size_of;
 
 /// The structures of all indexes, by their numbers.
 #[derive(Drop)]
@@ -70,6 +71,15 @@ impl Structures {
         let mut items = Vec::new(alloc);
         add_structures(alloc, indexes, columns, 0, secret, &mut items)?;
         Ok(Structures { items, room: 0 })
+    }
+
+    /// How many bytes of memory they take beside their nodes: a step for each of them. No clause says how many; tests do.
+    pub fn memory(&self) -> u64 {
+        let mut bytes = self.items.capacity().saturating_mul(size_of::<Structure>()) as u64;
+        for structure in self.items.iter() {
+            bytes = bytes.saturating_add(structure.memory());
+        }
+        bytes
     }
 
     /// The structure of the index of a number.

@@ -38,7 +38,15 @@ impl Container for MultiIndex {
             next,
             arrivals,
         } = image;
-        MultiIndex::restored(alloc, schema, secret, rows, lists.as_slice(), next, arrivals)
+        MultiIndex::restored(
+            alloc,
+            schema,
+            secret,
+            rows,
+            lists.as_slice(),
+            next,
+            arrivals,
+        )
     }
 
     fn insert(

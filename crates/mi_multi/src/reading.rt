@@ -57,6 +57,12 @@ fn tree_count(tree: &Tree<ByKey>, p: &Pool<Stored>) -> u32
 }
 
 impl MultiIndex {
+    /// How many bytes of memory it takes: its nodes with their records, its indexes, its map of ids. It takes a step for each index,
+    /// however many records there are. No clause says how many; tests do.
+    pub fn memory(&self) -> u64 {
+        self.nodes.memory().saturating_add(self.ids.memory())
+    }
+
     /// How many records there are.
     pub fn size(&self) -> u64
         ensures { result ≡ size_of (as_table self.now.plain) }

@@ -14,7 +14,7 @@ ghost use Rattle.mi_container.specs.Data.Order.{ById};
 ghost use Rattle.mi_container.specs.Fits.{IsLive, IsThere, HasOwnList};
 ghost use Rattle.mi_container.specs.Backs.{row_seen};
 ghost use Rattle.mi_container.specs.Secrets.{opened_secrets};
-ghost use Rattle.mi_container.specs.Restore.{restamped_in, restamped_all, moved_all, High, Low, SameBut, InOrderTo, HasRows, IsRowFault, IsRowsFault, IsListFault, IsListsFault, IsRestoreFault};
+ghost use Rattle.mi_container.specs.Restore.{restamped_in, restamped_all, moved_all, High, Low, SameBut, InOrderTo, HasRows, RowsFit, IsFitFault, IsRowFault, IsRowsFault, IsListFault, IsListsFault, IsRestoreFault};
 ghost use Rattle.mi_multi.specs.Restoring.{keeping_of};
 
 use crate::multi::MultiIndex;
@@ -418,6 +418,7 @@ impl MultiIndex {
         ensures shape { IfOk result (λ made. made.shape ≡ schema) }
         ensures table { IfOk result (λ made. as_table made.plain ≡
             record { rows = rows.items; lists = map (λ l. l.items) lists.now; next = next; arrivals = arrivals }) }
+        ensures fit { IfOk result (λ _. RowsFit schema rows.items) }
         ensures kept { IfOk result (λ made. made.plain.kept ≡ []) }
         ensures secrets { IfOk result (λ made. made.secrets ≡ opened_secrets secret schema) }
         ensures fault { IfErr result (λ e. IsRestoreFault schema
@@ -434,12 +435,26 @@ impl MultiIndex {
         if lists.len() != schema.index_count() {
             return Err(RestoreFault::Lists);
         }
+        check_rows(&schema, rows.as_slice())?;
         let mut made = MultiIndex::new(alloc, schema, secret)?;
         match made.fill(alloc, rows, lists, next, arrivals) {
             Ok(()) => Ok(made),
             Err(fault) => Err(fault),
         }
     }
+}
+
+/// Refuses rows of which one doesn't fit the columns.
+fn check_rows(schema: &Schema, rows: &[(u64, Record)]) -> Result<(), RestoreFault>
+    ensures fit { IfOk result (λ _. RowsFit schema.now rows.now) }
+    ensures fault { IfErr result (λ e. IsFitFault schema.now rows.now e) }
+{
+    'rows: for (id, row) in rows {
+        if !schema.fits_record(row) {
+            return Err(RestoreFault::Row(*id));
+        }
+    }
+    Ok(())
 }
 
 /// The ids of rows.

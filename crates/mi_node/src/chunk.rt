@@ -9,6 +9,7 @@ use crate::frame::{Frame, close, open};
 use crate::raw::Row;
 use core::slots::Slots;
 use std::alloc::{AllocError, Global};
+use std::mem::size_of;
 use std_alloc::room::{Vacant, may_hold};
 
 /// As many elements as a chunk has, in a block of memory of their own.
@@ -31,6 +32,14 @@ pub(crate) fn places_of<E>(alloc: Global) -> Result<(Slots<E>, Frame<E, Global>)
         Ok(room) => Ok(open(room)),
         Err(_) => Err(AllocError),
     }
+}
+
+/// How many bytes of memory so many chunks take, whose elements have so many bytes each, and a list that has room for `room` chunks.
+/// The greatest number stands for more.
+pub(crate) fn memory_of(count: usize, element: usize, room: usize) -> u64 {
+    let elements = count.saturating_mul(CHUNK).saturating_mul(element);
+    let list = room.saturating_mul(size_of::<Chunk<u64>>());
+    elements.saturating_add(list) as u64
 }
 
 impl<E> Chunk<E> {

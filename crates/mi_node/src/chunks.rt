@@ -2,7 +2,7 @@
 //! Safe code over chunks, which knows nothing of nodes.
 ghost use Rattle.std.specs.Prelude.{◌≡◌, ◌<◌, ◌++◌, [], length, slice_set, slice_index_or, IfOk, IfErr};
 
-use crate::chunk::Chunk;
+use crate::chunk::{Chunk, memory_of};
 use std::alloc::{AllocError, Global};
 use std::marker::Model;
 
@@ -48,6 +48,11 @@ impl<E> Chunks<E> {
         ensures { result ≡ length self.now }
     {
         self.chunks.len() * CHUNK
+    }
+
+    /// How many bytes of memory they take, where an element has so many. It reads no element.
+    pub(crate) fn memory(&self, element: usize) -> u64 {
+        memory_of(self.chunks.len(), element, self.chunks.capacity())
     }
 
     /// The element of an index.

@@ -6,12 +6,13 @@ ghost use Rattle.mi_node.specs.Cells.{empty_cell};
 ghost use Rattle.mi_node.specs.Columns.{cell_at};
 
 use crate::cell::{Cell, EMPTY};
-use crate::chunk::{Chunk, places_of};
+use crate::chunk::{Chunk, memory_of, places_of};
 use crate::chunks::{CHUNK, MAX_CHUNKS};
 use crate::frame::Frame;
 use core::slots::Slots;
 use std::alloc::{AllocError, Global};
 use std::marker::Model;
+use std::mem::size_of;
 
 /// Cells that are read and set by place. No cell is ever moved to another address.
 #[derive(Drop)]
@@ -47,6 +48,11 @@ impl Column {
         ensures { result ≡ length self.now }
     {
         self.chunks.len() * CHUNK
+    }
+
+    /// How many bytes of memory they take. It reads no cell.
+    pub(crate) fn memory(&self) -> u64 {
+        memory_of(self.chunks.len(), size_of::<Cell>(), self.chunks.capacity())
     }
 
     /// The cell of a place.

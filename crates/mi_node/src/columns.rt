@@ -19,6 +19,15 @@ pub(crate) fn link_at(columns: &Vec<Column>, place: usize, slot: usize) -> Link
     columns[slot].at(place).link()
 }
 
+/// How many bytes of memory the columns take: a step for each of them.
+pub(crate) fn memory_of(columns: &Vec<Column>) -> u64 {
+    let mut bytes = 0u64;
+    for column in columns.iter() {
+        bytes = bytes.saturating_add(column.memory());
+    }
+    bytes
+}
+
 /// Sets the link of a place in a slot.
 pub(crate) fn set_link_at(columns: &mut Vec<Column>, place: usize, slot: usize, link: Link)
     requires slot { slot < length columns.old.items }

@@ -20,7 +20,10 @@ pub(crate) enum Home<T> {
     Held { node: NodeRef, value: T },
 }
 
-const _: () = prove!(size_of::<Home<u64>>() == 16);
+/// How many bytes a place has beside a value.
+pub(crate) const BESIDE: usize = 8;
+
+const _: () = prove!(size_of::<Home<u64>>() == size_of::<u64>() + BESIDE);
 
 /// A reference for the next node at a free place, and the number of the free place after it.
 pub(crate) fn next_at<T>(home: &Home<T>) -> (NodeRef, u32)

@@ -8,9 +8,11 @@ ghost use Rattle.mi_node.specs.Pool.{IsHeld, IsNotLast, ref_of, value_of, link_o
 use crate::cell::Cell;
 use crate::chunks::{CHUNK, Chunks};
 use crate::column::Column;
-use crate::columns::{add_columns, clear, lengthen, link_at, set_link_at, store_at, stored_at};
+use crate::columns::{
+    add_columns, clear, lengthen, link_at, memory_of, set_link_at, store_at, stored_at,
+};
 use crate::gone::Gone;
-use crate::home::{Home, free_chunk, into_value, is_free, next_at, value_at};
+use crate::home::{BESIDE, Home, free_chunk, into_value, is_free, next_at, value_at};
 use crate::link::Link;
 use crate::node_ref::{NodeRef, PLACES};
 use std::alloc::{AllocError, Global};
@@ -50,6 +52,12 @@ impl<T> Places<T> {
         ensures { result ≡ (nodes self.now).slots }
     {
         self.slots
+    }
+
+    /// How many bytes of memory the places take, free ones too, where a value has so many: what stands at each, and its links.
+    pub(crate) fn memory(&self, value: usize) -> u64 {
+        let homes = self.homes.memory(value.saturating_add(BESIDE));
+        homes.saturating_add(memory_of(&self.columns))
     }
 
     /// The first free place. Where there is none, a chunk of free places is added.

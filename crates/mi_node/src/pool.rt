@@ -72,6 +72,13 @@ impl<T> Pool<T> {
         self.places.slots()
     }
 
+    /// How many bytes of memory the pool has taken, where a value has `value` bytes, by `size_of`: for each of its places, a free one
+    /// too, a value and the links. What a value holds in memory of its own isn't counted. It takes a step for each slot, however many
+    /// nodes there are. No clause says how many; tests do.
+    pub fn memory(&self, value: usize) -> u64 {
+        self.places.memory(value)
+    }
+
     /// Puts the value into a new node, none of whose links is set. Its name is a place where no node
     /// stands: one that was given back, or a new one. The reference isn't the one that was given back
     /// last at that place.

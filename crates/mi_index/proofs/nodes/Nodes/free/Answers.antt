@@ -8,4 +8,4 @@ use Rattle.mi_index.proofs.nodes.Nodes.free.Goals as goal
 pub returns-clause-stand : goal.returns-clause-stand
 returns-clause-stand c rss h out =
     let xs = c.args.self.now.structures.items in let m = c.args.self.now.pool in let k = c.args.node.name in
-    subst (λ n. AllStand xs 0 n rss) (sym c.give.ensures.pool) (all_but xs 0 k m (without m k) rss (but_without m k) out h)
+    subst (λ n. AllStand xs 0 n rss) (sym c.give-stored.ensures.pool) (all_but xs 0 k m (without m k) rss (but_without m k) out h)
