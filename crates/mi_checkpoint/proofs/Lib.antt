@@ -1,0 +1,4 @@
+pub mod HolderLemmas
+pub mod SettledLemmas
+pub mod StepLemmas
+pub mod RunLemmas
