@@ -3,3 +3,6 @@
 #![tactic(auto)]
 
 pub mod laws;
+pub mod open_starts;
+
+pub use open_starts::OpenStarts;
