@@ -1,15 +1,17 @@
 -- Lines asked one after another where sessions have ended early, and of a base.
--- Cited by `laws::replays_go_on` and `laws::sessions_settle_early`.
-use Rattle.std.proofs.Common.{◌≡◌, ℕ, ◌+◌, ◌-◌, ◌≤◌, List, [], ◌∷◌, take, Option, None, refl, sym, ap, ap₂, ◌∙◌, subst, ◌⊎◌, inl, inr, arith}
+-- Cited by `laws::bases_of_journals`, `laws::replays_go_on`, `laws::sessions_settle_early` and `ToldLemmas`.
+use Rattle.std.proofs.Common.{◌≡◌, ℕ, ◌+◌, ◌-◌, ◌≤◌, List, [], ◌∷◌, ◌++◌, take, false, refl, sym, ap, ap₂, ◌∙◌, subst, ◌⊎◌, inl, inr, arith}
 use Rattle.mi_value.specs.declared.limits.TheConstants.{MAX_SESSIONS}
-use Rattle.mi_model.specs.Database.{Database, depth}
+use Rattle.mi_model.specs.Database.{Database, depth, undone_times}
 use Rattle.mi_commands.specs.Asked.{Asked}
 use Rattle.mi_commands.specs.Answer.{answer}
-use Rattle.mi_commands.specs.Holder.{HeldDatabase, is_busy, at_most, held_count}
+use Rattle.mi_commands.specs.Holder.{HeldDatabase, is_busy, at_most, held_count, released}
 use Rattle.mi_replay.specs.Replayed.{replayer, replayed, unheld, IsSame}
-use Rattle.mi_replay.proofs.AnswerLemmas.{on, Twin, twin_line}
+use Rattle.mi_replay.specs.ReplayLaws.{JournalsReplay, ReplaysEndAsRuns}
+use Rattle.mi_replay.proofs.AnswerLemmas.{on, Twin, twin_line, held_by_holder, without_free}
 use Rattle.mi_checkpoint.specs.Settled.{settled, based, StaysAbove, AreTaken, HaveEnded, IsBasedAt, IsReplaying}
-use Rattle.mi_checkpoint.specs.Settled.{OpenedIsReplaying, LinesKeepReplaying, SettlesEarly, EndsTheSame, BasesReplay}
+use Rattle.mi_checkpoint.specs.Settled.{OpenedIsReplaying, LinesKeepReplaying, SamePassesOn, SettlesEarly, EndsTheSame, BasesReplay, BasesStay}
+use Rattle.mi_checkpoint.specs.Settled.{BasesOfJournals, BasesEndAsRuns}
 use Rattle.mi_checkpoint.specs.OpenStarts.{MovesOn}
 use Rattle.mi_checkpoint.proofs.HolderLemmas.{most_none, most_free, held_most}
 use Rattle.mi_checkpoint.proofs.SettledLemmas.{cut, cut_none, early, settled_early, line_early}
@@ -35,6 +37,13 @@ line_keeps_replaying s line is =
 pub lines_keep_replaying : LinesKeepReplaying
 lines_keep_replaying s [] is = is
 lines_keep_replaying s (line ∷ lines) is = lines_keep_replaying (answer s replayer line).1 lines (line_keeps_replaying s line is)
+
+pub replayed_append : (xs ys : List Asked) (s : HeldDatabase) → replayed (xs ++ ys) s ≡ replayed ys (replayed xs s)
+replayed_append [] ys s = refl
+replayed_append (x ∷ xs) ys s = replayed_append xs ys (answer s replayer x).1
+
+pub same_passes_on : SamePassesOn
+same_passes_on s t u first then = (then.0 ∙ first.0, then.1 ∙ sym (held_by_holder replayer t.holder first.2) ∙ first.1, then.2)
 
 -- ---- sessions that end early
 
@@ -87,3 +96,63 @@ bases_replay s lines is taken at =
           (ends_the_same s.database.revision s lines is (omega arith) taken at.0 at.1),
       subst (AreTaken lines) (sym (based_early s)) early.1,
     )
+
+-- ---- lines that come later
+
+ended_then : (x k r left now : ℕ) → MovesOn k r left now → x + k ≤ r → x + left ≤ now
+ended_then x k r left now (inl p) ended = let more = p.0 in let next = p.1 in omega arith
+ended_then x k r left now (inr p) ended = let low = p.0 in let few = p.1 in omega arith
+
+-- what has ended stays so, and no line gives a revision below
+ended_stays : (x : ℕ) (lines : List Asked) (s : HeldDatabase) → IsReplaying s → HaveEnded x s → StaysAbove x lines s × HaveEnded x (replayed lines s)
+ended_stays x [] s is ended = (tt, ended)
+ended_stays x (line ∷ lines) s is ended =
+    let t = (answer s replayer line).1 in
+    let step = line_steps s is.numbered is.room line in
+    let here : x + depth (answer s replayer line).1.database ≤ (answer s replayer line).1.database.revision
+    = ended_then x (depth s.database) s.database.revision _ _ step.moves ended in
+    let rest = ended_stays x lines t (line_keeps_replaying s line is) here in
+    ((omega arith, rest.0), rest.1)
+
+above_both : (x : ℕ) (lines more : List Asked) (s : HeldDatabase) → StaysAbove x lines s → StaysAbove x more (replayed lines s)
+    → StaysAbove x (lines ++ more) s
+above_both x [] more s first then = then
+above_both x (line ∷ lines) more s first then = (first.0, above_both x lines more (answer s replayer line).1 first.1 then)
+
+pub bases_stay : BasesStay
+bases_stay s lines more is at =
+    let later = ended_stays s.database.revision more (replayed lines s) (lines_keep_replaying s lines is) at.1 in (
+      above_both s.database.revision lines more s at.0 later.0,
+      subst (HaveEnded s.database.revision) (sym (replayed_append lines more s)) later.1,
+    )
+
+-- ---- a journal of a run
+
+taken_behind : (front rest : List Asked) (s : HeldDatabase) → AreTaken (front ++ rest) s → AreTaken rest (replayed front s)
+taken_behind [] rest s taken = taken
+taken_behind (line ∷ front) rest s taken = taken_behind front rest (answer s replayer line).1 taken.1
+
+-- of the lines of both parts
+base_same : (d : Database) (front rest : List Asked) → depth d ≡ 0 → AreTaken (front ++ rest) (unheld d) → IsBasedAt (replayed front (unheld d)) rest
+    → IsSame (replayed (front ++ rest) (unheld d)) (replayed rest (based (replayed front (unheld d))))
+base_same d front rest none taken at =
+    subst (λ t. IsSame t (replayed rest (based (replayed front (unheld d))))) (sym (replayed_append front rest (unheld d)))
+    (bases_replay (replayed front (unheld d)) rest (lines_keep_replaying (unheld d) front (opened_is_replaying d none))
+    (taken_behind front rest (unheld d) taken) at).0
+
+pub bases_of_journals : JournalsReplay → BasesOfJournals
+bases_of_journals journals d acts front rest new none journal taken at =
+    same_passes_on new (replayed (front ++ rest) (unheld d)) (replayed rest (based (replayed front (unheld d))))
+    (journals d acts (front ++ rest) new journal) (base_same d front rest none taken at)
+
+-- what the replayer leaves that goes away
+released_same : (t u : HeldDatabase) → is_busy t.holder replayer ≡ false → IsSame t u → released replayer u ≡ released replayer t
+released_same t u free same =
+    ap₂ on (ap₂ undone_times (same.1 ∙ sym (held_by_holder replayer t.holder free)) same.0)
+    (without_free replayer u.holder same.2 ∙ sym (without_free replayer t.holder free))
+
+pub bases_end_as_runs : ReplaysEndAsRuns → BasesEndAsRuns
+bases_end_as_runs ends d acts front rest new conn none journal taken at free =
+    released_same (replayed (front ++ rest) (unheld d)) (replayed rest (based (replayed front (unheld d))))
+    (lines_keep_replaying (unheld d) (front ++ rest) (opened_is_replaying d none)).free (base_same d front rest none taken at)
+    ∙ ends d acts (front ++ rest) new conn journal free

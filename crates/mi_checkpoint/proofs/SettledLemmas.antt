@@ -30,8 +30,7 @@ use Rattle.mi_commands.specs.Performed.{performed, changed, effect, session_effe
 use Rattle.mi_commands.specs.declared.holder.Holder.{Holder}
 use Rattle.mi_replay.specs.Replayed.{replayer, replayed, unheld}
 use Rattle.mi_replay.proofs.AnswerLemmas.{on, Twin, twin_line}
-use Rattle.mi_checkpoint.specs.Settled.{settled, based, StaysAbove, IsTaken, AreTaken, IsReplaying}
-use Rattle.mi_checkpoint.specs.Settled.{OpenedIsReplaying, LinesKeepReplaying, SettlesEarly, EndsTheSame, BasesReplay}
+use Rattle.mi_checkpoint.specs.Settled.{settled, done_reply, IsTaken, IsReplaying, AnsweredLinesAreTaken}
 use Rattle.mi_checkpoint.proofs.HolderLemmas.{not_zero, most_none, less_most, most_least, more_most, without_most, most_free, held_most}
 
 abbrev pub db : CatalogShape → List Table → List (List Table) → ℕ → Database
@@ -84,23 +83,27 @@ settled_early x s = ap (λ d. on d (at_most (depth d) s.holder)) (committed_cut 
 
 -- ---- what is taken
 
-abbrev done_text : List ℕ
-done_text = codes "{\"ok\":true}"
-
 -- a command that is bound, or refused
 abbrev TakenAs : HeldDatabase → Result Command Refusal → Type 0
-TakenAs s c = (command_changes s replayer c ≡ true) ⊎ (reply_text s.database.catalog (command_answer s replayer c).0 ≡ done_text)
+TakenAs s c = (command_changes s replayer c ≡ true) ⊎ (reply_text s.database.catalog (command_answer s replayer c).0 ≡ done_reply)
 
 -- what tells a change, or no more than that it is done
 abbrev TakenSaid : CatalogShape → Said → Type 0
-TakenSaid c said = (tells_change said ≡ true) ⊎ (reply_text c said ≡ done_text)
+TakenSaid c said = (tells_change said ≡ true) ⊎ (reply_text c said ≡ done_reply)
 
 not_true : {A : Type 0} → false ≡ true → A
 not_true e = absurd (true≢false (sym e))
 
 -- its third byte is another
-other_text : {A : Type 0} (t : List ℕ) → nat_eq (get_or t 2 0) 111 ≡ false → t ≡ done_text → A
+other_text : {A : Type 0} (t : List ℕ) → nat_eq (get_or t 2 0) 111 ≡ false → t ≡ done_reply → A
 other_text t differs same = absurd (true≢false (sym (ap (λ u. nat_eq (get_or u 2 0) 111) same) ∙ differs))
+
+-- what is said of an answer
+pub answered_lines_are_taken : AnsweredLinesAreTaken
+answered_lines_are_taken s t line reply changed (inl p) (inl may) = inl (sym p.1 ∙ may)
+answered_lines_are_taken s t line reply changed (inl p) (inr says) = inr (sym p.0.0 ∙ says)
+answered_lines_are_taken s t line reply changed (inr p) (inl may) = not_true (sym p.2 ∙ may)
+answered_lines_are_taken s t line reply changed (inr p) (inr says) = other_text _ refl (sym p.1.0 ∙ says)
 
 -- ---- steps of sessions
 

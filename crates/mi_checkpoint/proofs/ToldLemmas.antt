@@ -10,12 +10,8 @@ use Rattle.mi_commands.specs.Holder.{HeldDatabase}
 use Rattle.mi_replay.specs.Replayed.{replayer, replayed, IsSame}
 use Rattle.mi_checkpoint.specs.Settled.{based, StaysAbove, AreTaken, HaveEnded, IsBasedAt, IsReplaying}
 use Rattle.mi_checkpoint.specs.OpenStarts.{Starts, MovesOn, IsLastUpTo, Knows, StandsAt, revisions, IsTold, IsCheckpoint, BaseReplays}
-use Rattle.mi_checkpoint.proofs.RunLemmas.{lines_keep_replaying, bases_replay}
+use Rattle.mi_checkpoint.proofs.RunLemmas.{replayed_append, lines_keep_replaying, bases_replay}
 use Rattle.mi_checkpoint.proofs.StepLemmas.{line_steps}
-
-replayed_append : (xs ys : List Asked) (s : HeldDatabase) → replayed (xs ++ ys) s ≡ replayed ys (replayed xs s)
-replayed_append [] ys s = refl
-replayed_append (x ∷ xs) ys s = replayed_append xs ys (answer s replayer x).1
 
 -- ---- the revisions
 

@@ -57,7 +57,11 @@ pub record IsCheckpoint (s : HeldDatabase) (lines : List Asked) (n : ℕ) : Type
   pub based : IsBasedAt (replayed (take n lines) s) (drop n lines)
   pub latest : (m : ℕ) → n < m → m ≤ length lines → ¬ IsBasedAt (replayed (take m lines) s) (drop m lines)
 
+-- what a base has that stands behind the first n lines
+abbrev pub base_at : HeldDatabase → List Asked → ℕ → HeldDatabase
+base_at s lines n = based (replayed (take n lines) s)
+
 -- The lines behind it, asked of that base, give what all lines give, and as many sessions held. A replay takes each of them.
 abbrev pub BaseReplays : HeldDatabase → List Asked → ℕ → Type 0
 BaseReplays s lines n =
-    let base = based (replayed (take n lines) s) in IsSame (replayed lines s) (replayed (drop n lines) base) × AreTaken (drop n lines) base
+    IsSame (replayed lines s) (replayed (drop n lines) (base_at s lines n)) × AreTaken (drop n lines) (base_at s lines n)
