@@ -1,0 +1,6 @@
+pub mod HolderLemmas
+pub mod KnownLemmas
+pub mod RunLemmas
+pub mod SettledLemmas
+pub mod StepLemmas
+pub mod ToldLemmas
