@@ -1,6 +1,5 @@
 mod TurnLemmas
 mod OverflowLemmas
-mod OpeningLemmas
 mod WordsLemmas
 mod ServedLemmas
 mod EventLemmas

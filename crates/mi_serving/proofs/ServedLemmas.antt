@@ -7,7 +7,7 @@ use Rattle.mi_hub.specs.Run.{HubState}
 use Rattle.mi_program.specs.Source.{IsCatalog}
 use Rattle.mi_serving.specs.declared.failure.Fault.{Fault}
 use Rattle.mi_serving.specs.declared.words.JournalWords.{JournalWords}
-use Rattle.mi_serving.specs.Fingerprint.{journal_header}
+use Rattle.mi_recovery.specs.Fingerprint.{journal_header}
 use Rattle.mi_serving.specs.Served.{HasServed, empty_hub}
 
 module _ {F G : Type 0} (remaining : G → Option (List ℕ)) (is_locked : F → Bool) (is_seen : List ℕ → F → Type 0) (contents : F → Option (List ℕ)) where

@@ -4,14 +4,14 @@ use Rattle.std.specs.String.{string_bytes}
 use Rattle.mi_catalog.specs.Shape.{CatalogShape}
 use Rattle.mi_model.specs.Database.{opened_database}
 use Rattle.mi_hub.specs.Run.{HubState}
-use Rattle.mi_serving.specs.declared.device.Keeping.{Keeping}
+use Rattle.mi_recovery.specs.declared.device.Keeping.{Keeping}
 use Rattle.mi_serving.specs.declared.failure.Failure.{Failure}
 use Rattle.mi_serving.specs.declared.failure.Failure.TheVariants.{Poll, Turns}
 use Rattle.mi_serving.specs.declared.words.JournalWords.{JournalWords}
-use Rattle.mi_serving.specs.Device.{is_synced}
+use Rattle.mi_recovery.specs.Device.{is_synced}
 use Rattle.mi_serving.specs.Words.{asks_sync}
-use Rattle.mi_serving.specs.JournalFile.{text_of}
-use Rattle.mi_serving.specs.Recovery.{IsOpened}
+use Rattle.mi_recovery.specs.JournalFile.{text_of}
+use Rattle.mi_recovery.specs.Recovery.{IsOpened}
 use Rattle.mi_serving.specs.Turns.{Goes, ends_serving}
 
 -- the empty tables of a catalog, of which nobody asks

@@ -1,5 +1,7 @@
--- The exit status of a service: 3 where its schema or its journal is at fault, else 4.
+-- The exit status of a service: 3 where its schema or its journal is at fault, else 4. And what a service says of a failure of its journal.
 use Rattle.std.specs.Prelude.{ℕ}
+use Rattle.mi_recovery.specs.declared.fault.JournalFailure.{JournalFailure}
+use Rattle.mi_recovery.specs.declared.fault.JournalFailure.TheVariants as journal
 use Rattle.mi_serving.specs.declared.failure.Failure.{Failure}
 use Rattle.mi_serving.specs.declared.failure.Failure.TheVariants as failure
 
@@ -16,3 +18,13 @@ status_of failure.Listen = 4
 status_of failure.Poll = 4
 status_of failure.Memory = 4
 status_of failure.Turns = 4
+
+-- what a service says of a failure of its journal
+abbrev pub of_journal : JournalFailure → Failure
+of_journal journal.File = failure.JournalFile
+of_journal journal.Schema = failure.JournalSchema
+of_journal (journal.Line line) = failure.JournalLine line
+of_journal journal.Locked = failure.JournalLocked
+of_journal journal.Write = failure.Journal
+of_journal journal.Memory = failure.Memory
+of_journal journal.Turns = failure.Turns

@@ -1,11 +1,11 @@
 //! Why the service ends: the line on standard error and the exit status.
 ghost use Rattle.std.specs.Prelude.{◌≡◌, ◌⊎◌, true, false};
-ghost use Rattle.mi_serving.specs.Recovery.{ends_replay, told_as};
-ghost use Rattle.mi_serving.specs.Status.{status_of};
+ghost use Rattle.mi_serving.specs.Status.{status_of, of_journal};
 ghost use Rattle.mi_ledger.specs.declared.fault.LedgerFault.TheVariants as ledger_fault;
 ghost use Rattle.mi_serving.specs.declared.failure.Failure.TheVariants as told;
 
-use mi_ledger::{LedgerFault, ReplayFault};
+use mi_ledger::LedgerFault;
+use mi_recovery::{JournalFailure, JournalFault};
 use mi_schema::SchemaFault;
 use std::{fmt, io};
 
@@ -49,16 +49,18 @@ impl Failure {
         }
     }
 
-    /// What a fault of the replay is.
-    pub fn of_replay(fault: ReplayFault) -> Failure
-        ensures is { result ≡ told_as fault }
-        ensures kind { ends_replay result ≡ true }
+    /// What a failure of the journal is.
+    pub fn of_journal(failure: JournalFailure) -> Failure
+        ensures { result ≡ of_journal failure }
     {
-        match fault {
-            ReplayFault::Read => Failure::JournalFile,
-            ReplayFault::Damaged(line) => Failure::JournalLine(line),
-            ReplayFault::Memory => Failure::Memory,
-            ReplayFault::Turns => Failure::Turns,
+        match failure {
+            JournalFailure::File => Failure::JournalFile,
+            JournalFailure::Schema => Failure::JournalSchema,
+            JournalFailure::Line(line) => Failure::JournalLine(line),
+            JournalFailure::Locked => Failure::JournalLocked,
+            JournalFailure::Write => Failure::Journal,
+            JournalFailure::Memory => Failure::Memory,
+            JournalFailure::Turns => Failure::Turns,
         }
     }
 
@@ -158,6 +160,18 @@ impl From<Failure> for Fault {
         Fault {
             failure,
             error: None,
+            is_of_path: false,
+        }
+    }
+}
+
+impl From<JournalFault> for Fault {
+    ghost from_gives = { λ fault told. told.failure ≡ of_journal fault.failure };
+
+    fn from(fault: JournalFault) -> Fault {
+        Fault {
+            failure: Failure::of_journal(fault.failure),
+            error: fault.error,
             is_of_path: false,
         }
     }

@@ -5,19 +5,15 @@ ghost use Rattle.std.specs.String.{string_bytes};
 ghost use Rattle.std.specs.Io.KnownBytes.{Keeps};
 ghost use Rattle.mi_log.specs.DeviceLog.{device_of};
 ghost use Rattle.mi_ledger.specs.Ledger.{hub_of, log_of};
-ghost use Rattle.mi_serving.specs.Device.{is_staying, is_synced, told_of};
+ghost use Rattle.mi_recovery.specs.Device.{is_staying, is_synced, told_of};
 ghost use Rattle.mi_serving.specs.Words.{asks_sync, asks_each};
-ghost use Rattle.mi_serving.specs.Fingerprint.{journal_header};
+ghost use Rattle.mi_recovery.specs.Fingerprint.{journal_header};
 ghost use Rattle.mi_serving.specs.Served.{empty_hub, Begins, HasServed};
 ghost use Rattle.mi_catalog.specs.Shape.{CatalogShape};
 ghost use Rattle.mi_program.specs.Source.{IsCatalog};
 
-use crate::device::Keeping;
-use crate::digest::fingerprint;
 use crate::door::Door;
 use crate::failure::{Failure, Fault};
-use crate::journal_file::{JournalFiles, SystemFiles};
-use crate::opening::{JournalLedger, log_fault, opened, without};
 use crate::patience::Patience;
 use crate::report::{conclude, refuse};
 use crate::service::serve;
@@ -30,6 +26,9 @@ use mi_hub::Hub;
 use mi_log::header_line;
 use mi_multi::MultiIndex;
 use mi_program::drawn;
+use mi_recovery::{
+    JournalFiles, JournalLedger, Keeping, SystemFiles, fingerprint, log_error, opened, without,
+};
 use mi_sessions::Sessions;
 use std::alloc::{AllocError, Global};
 use std::convert::AsStr;
@@ -79,14 +78,14 @@ fn ledger_of<P: JournalFiles, D: Sessions + Drop>(
         (λ words. is_staying (device_of (log_of ledger)) ≡ asks_sync words.now.sync)) }
 {
     match journal {
-        Some(words) => opened(
+        Some(words) => Ok(opened(
             alloc,
             files,
             hub,
             words.file.as_str(),
             keeping_by(words.sync),
             header,
-        ),
+        )?),
         None => Ok(without(hub)),
     }
 }
@@ -153,7 +152,11 @@ fn serve_hub<P: JournalFiles, D: Sessions + Drop, C: Clock, W: Write>(
         syncs_each(journal),
         schema,
     );
-    Ok(log_fault(failure, ledger.log()))
+    Ok(Fault {
+        failure,
+        error: log_error(ledger.log()),
+        is_of_path: false,
+    })
 }
 
 /// The tables of a catalog, none of which has a row, under a hub with no connection. The failure is `Memory`.

@@ -6,10 +6,11 @@ use mi_catalog::{Catalog, built_in};
 use mi_hub::Hub;
 use mi_log::Device;
 use mi_plain::Plain;
-use mi_schema::read_catalog;
-use mi_serving::{
-    BUILT_IN, JournalFile, JournalFiles, Journaled, Keeping, fingerprint, opened, recovered,
+use mi_recovery::{
+    JournalFile, JournalFiles, Journaled, Keeping, fingerprint, opened, recovered,
 };
+use mi_schema::read_catalog;
+use mi_serving::{BUILT_IN, Failure};
 use std::alloc::Global;
 use std::cell::Cell;
 use std::fs::TryLockError;
@@ -197,7 +198,7 @@ fn left_of(
     };
     match opened(alloc, &files, hub(alloc)?, "j", Keeping::Synced, "head") {
         Ok(ledger) => bytes_of(alloc, ledger.log().device().file()),
-        Err(fault) => Ok(Err(fault.failure.to_string(alloc)?)),
+        Err(fault) => Ok(Err(Failure::of_journal(fault.failure).to_string(alloc)?)),
     }
 }
 

@@ -1,7 +1,7 @@
 -- The catalog is that of the schema's file, and its tables are served behind the journal that has its header.
 use Rattle.std.proofs.Common.{◌≡◌, rules}
 use Rattle.std.specs.Prelude.{is_some}
-use Rattle.mi_serving.specs.Fingerprint.{journal_header}
+use Rattle.mi_recovery.specs.Fingerprint.{journal_header}
 use Rattle.mi_serving.proofs.ServedLemmas.{performed}
 use Rattle.mi_serving.proofs.program.perform.Goals as goal
 

@@ -3,7 +3,7 @@ use Rattle.std.proofs.Common.{◌≡◌, ◌⊎◌, ap, subst, ◌∙◌}
 use Rattle.mi_log.specs.DeviceLog.{device_of}
 use Rattle.mi_ledger.specs.Ledger.{hub_of, log_of}
 use Rattle.mi_serving.specs.declared.failure.Failure.TheVariants.{Poll, Turns}
-use Rattle.mi_serving.specs.Device.{told_of}
+use Rattle.mi_recovery.specs.Device.{told_of}
 use Rattle.mi_serving.specs.Turns.{ends_serving}
 use Rattle.mi_serving.proofs.program.serve_hub.Goals as goal
 
@@ -18,6 +18,6 @@ returns g c =
       told (device_of (log_of c.in_ok-ledger.ledger)),
       told (device_of (log_of c.serve-failure.new.ledger)),
       c.in_ok-ledger.ensures.begins,
-      λ ended. c.serve-failure.ensures.turns (subst (λ f. (f ≡ Turns) ⊎ (f ≡ Poll)) c.log_fault.ensures ended),
-      ap ends_serving c.log_fault.ensures ∙ c.serve-failure.ensures.ends,
+      c.serve-failure.ensures.turns,
+      c.serve-failure.ensures.ends,
     )

@@ -1,0 +1,5 @@
+-- To be read in this order, behind those of mi_clients.
+pub mod JournalFile
+pub mod Device
+pub mod Recovery
+pub mod Fingerprint

@@ -1,0 +1,86 @@
+//! Why a journal isn't opened or doesn't go on, and what the system has said of it. It touches nothing.
+ghost use Rattle.std.specs.Prelude.{◌≡◌, ◌⊎◌, true};
+ghost use Rattle.mi_recovery.specs.Recovery.{ends_replay, told_as};
+ghost use Rattle.mi_ledger.specs.declared.fault.LedgerFault.TheVariants as ledger_fault;
+ghost use Rattle.mi_recovery.specs.declared.fault.JournalFailure.TheVariants as told;
+
+use mi_ledger::{LedgerFault, ReplayFault};
+use std::io;
+
+/// Why a journal isn't opened, or doesn't go on.
+#[derive(Clone, Copy, Drop)]
+pub enum JournalFailure {
+    /// Its file can't be opened, made, read or cut, or was moved.
+    File,
+    /// It is one of another schema or format.
+    Schema,
+    /// This line of it, from 1, isn't one of a journal.
+    Line(u64),
+    /// Another process has it.
+    Locked,
+    /// It can't be appended to, or can't be made to stay.
+    Write,
+    /// Memory was refused.
+    Memory,
+    /// The most turns, 2^62, were made.
+    Turns,
+}
+
+impl JournalFailure {
+    /// What a fault of the replay is.
+    pub fn of_replay(fault: ReplayFault) -> JournalFailure
+        ensures is { result ≡ told_as fault }
+        ensures kind { ends_replay result ≡ true }
+    {
+        match fault {
+            ReplayFault::Read => JournalFailure::File,
+            ReplayFault::Damaged(line) => JournalFailure::Line(line),
+            ReplayFault::Memory => JournalFailure::Memory,
+            ReplayFault::Turns => JournalFailure::Turns,
+        }
+    }
+}
+
+impl From<LedgerFault> for JournalFailure {
+    ghost from_gives = { λ fault failure. ((fault ≡ ledger_fault.Memory) × (failure ≡ told.Memory))
+        ⊎ ((fault ≡ ledger_fault.Journal) × (failure ≡ told.Write)) };
+
+    fn from(fault: LedgerFault) -> JournalFailure {
+        match fault {
+            LedgerFault::Memory => JournalFailure::Memory,
+            LedgerFault::Journal => JournalFailure::Write,
+        }
+    }
+}
+
+/// Why a journal isn't opened or doesn't go on, and what the system said, where it was a call of the system that failed.
+#[derive(Drop)]
+pub struct JournalFault {
+    /// Why.
+    pub failure: JournalFailure,
+    /// What the system said.
+    pub error: Option<io::Error>,
+}
+
+impl JournalFault {
+    /// A failure of which the system has said this.
+    pub fn of(failure: JournalFailure, error: io::Error) -> JournalFault
+        ensures { result.failure ≡ failure }
+    {
+        JournalFault {
+            failure,
+            error: Some(error),
+        }
+    }
+}
+
+impl From<JournalFailure> for JournalFault {
+    ghost from_gives = { λ failure fault. fault.failure ≡ failure };
+
+    fn from(failure: JournalFailure) -> JournalFault {
+        JournalFault {
+            failure,
+            error: None,
+        }
+    }
+}
