@@ -11,6 +11,7 @@ mod program;
 mod report;
 mod service;
 mod source;
+mod start;
 mod words;
 
 pub use door::{Callers, Door};
