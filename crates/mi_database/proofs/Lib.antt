@@ -9,3 +9,4 @@ pub mod KeptLemmas
 pub mod BoundLemmas
 pub mod MostLemmas
 pub mod ChangeLemmas
+pub mod RestoredLemmas

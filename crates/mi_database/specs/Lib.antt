@@ -4,3 +4,4 @@ pub mod LinkedData
 pub mod Keyed
 pub mod Kept
 pub mod Bound
+pub mod Restored

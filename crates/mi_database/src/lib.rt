@@ -6,8 +6,10 @@ mod bound;
 mod ending;
 mod erasing;
 mod linked;
+mod restored;
 mod sessions;
 
 pub use bound::look_ups_are_bounded;
 pub use linked::Linked;
 pub use mi_sessions::{Sessions, laws};
+pub use restored::DatabaseFault;

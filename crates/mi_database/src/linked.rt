@@ -72,7 +72,7 @@ fn keyed_indexes(table: &Schema) -> usize
 }
 
 /// The most that a table of a catalog has: each has so many at most, and some has as many, unless it is 0.
-fn most_keyed_indexes(catalog: &Catalog) -> usize
+pub(crate) fn most_keyed_indexes(catalog: &Catalog) -> usize
     ensures all { AllHaveAtMost result catalog.now }
     ensures some { SomeHas result catalog.now }
 {

@@ -2,7 +2,7 @@
 --     AgreeBut      references, values and links of all other names are the same
 --     stands_but, all_but      structures without that node stand
 --     place_seen, gap_seen      where the node may come in, seen by a value
--- Cited by `Nodes::free`, `Nodes::rekey`, `Nodes::rekey_back`, `InsertLemmas`, `KeepingLemmas` and 3 more.
+-- Cited by `Nodes::free`, `Nodes::rekey`, `Nodes::rekey_back`, `Nodes::restamp`, `InsertLemmas` and 4 more.
 use Rattle.std.proofs.Common.{◌≡◌, ℕ, ◌+◌, ◌<◌, ◌==◌, Bool, false, cond, List, [], ◌∷◌, Option, Some, None, refl, sym, ap, ◌∙◌, subst}
 use Rattle.std.specs.List.{filter}
 use Rattle.std.specs.declared.cmp.Ordering.{Ordering}
