@@ -1,6 +1,6 @@
 -- A holder that holds no more than so many of the newest sessions, and what a step makes of it.
--- Cited by `SettledLemmas`.
-use Rattle.std.proofs.Common.{◌≡◌, ℕ, zero, suc, ◌+◌, ◌-◌, ◌≤◌, min, Bool, true, false, cond, not, nat_eq, nat_le, Option, Some, None}
+-- Cited by `RunLemmas`, `SettledLemmas` and `StepLemmas`.
+use Rattle.std.proofs.Common.{◌≡◌, ℕ, zero, suc, ◌+◌, ◌-◌, ◌≤◌, min, Bool, true, false, cond, nat_eq, nat_le, Option, Some, None}
 use Rattle.std.proofs.Common.{refl, sym, ap, ◌∙◌, arith}
 use Rattle.std.specs.Prelude.{◌==◌}
 use Rattle.std.proofs.lemmas.Bool.{ne_eqb}

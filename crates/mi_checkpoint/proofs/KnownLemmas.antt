@@ -1,6 +1,6 @@
 -- What is known of the open sessions once a revision more is told.
--- Cited by `OpenStarts::follow`.
-use Rattle.std.proofs.Common.{◌≡◌, ℕ, suc, ◌+◌, ◌-◌, ◌<◌, ◌≤◌, min, List, [], ◌∷◌, ◌++◌, length, take, drop, get_or, Bool, true, false, nat_lt}
+-- Cited by `OpenStarts::note`.
+use Rattle.std.proofs.Common.{◌≡◌, ℕ, ◌+◌, ◌-◌, ◌<◌, ◌≤◌, List, [], ◌∷◌, ◌++◌, length, take, drop, get_or, Bool, true, false, nat_lt}
 use Rattle.std.proofs.Common.{refl, sym, ap, ap₂, ◌∙◌, subst, inl, inr, arith}
 use Rattle.std.proofs.lemmas.List.{get_or_append_left, get_or-append_right, get_or-take, get_or-drop, length_push, length-take, length-drop}
 use Rattle.mi_checkpoint.specs.OpenStarts.{Starts, MovesOn, IsLastUpTo, Knows}

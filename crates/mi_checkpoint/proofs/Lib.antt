@@ -1,3 +1,4 @@
+pub mod ExampleLemmas
 pub mod HolderLemmas
 pub mod KnownLemmas
 pub mod RunLemmas

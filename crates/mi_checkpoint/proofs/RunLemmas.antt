@@ -1,21 +1,20 @@
 -- Lines asked one after another where sessions have ended early, and of a base.
 -- Cited by `laws::bases_of_journals`, `laws::replays_go_on`, `laws::sessions_settle_early` and `ToldLemmas`.
-use Rattle.std.proofs.Common.{◌≡◌, ℕ, ◌+◌, ◌-◌, ◌≤◌, List, [], ◌∷◌, ◌++◌, take, false, refl, sym, ap, ap₂, ◌∙◌, subst, ◌⊎◌, inl, inr, arith}
-use Rattle.mi_value.specs.declared.limits.TheConstants.{MAX_SESSIONS}
+use Rattle.std.proofs.Common.{◌≡◌, ℕ, ◌+◌, ◌-◌, ◌≤◌, List, [], ◌∷◌, ◌++◌, take, false, refl, sym, ap, ap₂, ◌∙◌, subst, inl, inr, arith}
 use Rattle.mi_model.specs.Database.{Database, depth, undone_times}
 use Rattle.mi_commands.specs.Asked.{Asked}
 use Rattle.mi_commands.specs.Answer.{answer}
-use Rattle.mi_commands.specs.Holder.{HeldDatabase, is_busy, at_most, held_count, released}
+use Rattle.mi_commands.specs.Holder.{HeldDatabase, is_busy, at_most, released}
 use Rattle.mi_replay.specs.Replayed.{replayer, replayed, unheld, IsSame}
 use Rattle.mi_replay.specs.ReplayLaws.{JournalsReplay, ReplaysEndAsRuns}
-use Rattle.mi_replay.proofs.AnswerLemmas.{on, Twin, twin_line, held_by_holder, without_free}
+use Rattle.mi_replay.proofs.AnswerLemmas.{on, twin_line, held_by_holder, without_free}
 use Rattle.mi_checkpoint.specs.Settled.{settled, based, StaysAbove, AreTaken, HaveEnded, IsBasedAt, IsReplaying}
 use Rattle.mi_checkpoint.specs.Settled.{OpenedIsReplaying, LinesKeepReplaying, SamePassesOn, SettlesEarly, EndsTheSame, BasesReplay, BasesStay}
 use Rattle.mi_checkpoint.specs.Settled.{BasesOfJournals, BasesEndAsRuns}
 use Rattle.mi_checkpoint.specs.OpenStarts.{MovesOn}
 use Rattle.mi_checkpoint.proofs.HolderLemmas.{most_none, most_free, held_most}
 use Rattle.mi_checkpoint.proofs.SettledLemmas.{cut, cut_none, early, settled_early, line_early}
-use Rattle.mi_checkpoint.proofs.StepLemmas.{StepsTo, line_steps}
+use Rattle.mi_checkpoint.proofs.StepLemmas.{line_steps}
 
 pub opened_is_replaying : OpenedIsReplaying
 opened_is_replaying d none = record { numbered = omega arith; room = omega arith; fits = omega arith; free = refl }
@@ -134,16 +133,20 @@ taken_behind (line ∷ front) rest s taken = taken_behind front rest (answer s r
 
 -- of the lines of both parts
 base_same : (d : Database) (front rest : List Asked) → depth d ≡ 0 → AreTaken (front ++ rest) (unheld d) → IsBasedAt (replayed front (unheld d)) rest
-    → IsSame (replayed (front ++ rest) (unheld d)) (replayed rest (based (replayed front (unheld d))))
+    → IsSame (replayed (front ++ rest) (unheld d)) (replayed rest (based (replayed front (unheld d)))) × AreTaken rest (based (replayed front (unheld d)))
 base_same d front rest none taken at =
-    subst (λ t. IsSame t (replayed rest (based (replayed front (unheld d))))) (sym (replayed_append front rest (unheld d)))
-    (bases_replay (replayed front (unheld d)) rest (lines_keep_replaying (unheld d) front (opened_is_replaying d none))
-    (taken_behind front rest (unheld d) taken) at).0
+    let base = based (replayed front (unheld d)) in
+    let law = bases_replay (replayed front (unheld d)) rest (lines_keep_replaying (unheld d) front (opened_is_replaying d none))
+    (taken_behind front rest (unheld d) taken) at in
+    (subst (λ t. IsSame t (replayed rest base)) (sym (replayed_append front rest (unheld d))) law.0, law.1)
 
 pub bases_of_journals : JournalsReplay → BasesOfJournals
 bases_of_journals journals d acts front rest new none journal taken at =
-    same_passes_on new (replayed (front ++ rest) (unheld d)) (replayed rest (based (replayed front (unheld d))))
-    (journals d acts (front ++ rest) new journal) (base_same d front rest none taken at)
+    let law = base_same d front rest none taken at in (
+      same_passes_on new (replayed (front ++ rest) (unheld d)) (replayed rest (based (replayed front (unheld d))))
+          (journals d acts (front ++ rest) new journal) law.0,
+      law.1,
+    )
 
 -- what the replayer leaves that goes away
 released_same : (t u : HeldDatabase) → is_busy t.holder replayer ≡ false → IsSame t u → released replayer u ≡ released replayer t
@@ -154,5 +157,5 @@ released_same t u free same =
 pub bases_end_as_runs : ReplaysEndAsRuns → BasesEndAsRuns
 bases_end_as_runs ends d acts front rest new conn none journal taken at free =
     released_same (replayed (front ++ rest) (unheld d)) (replayed rest (based (replayed front (unheld d))))
-    (lines_keep_replaying (unheld d) (front ++ rest) (opened_is_replaying d none)).free (base_same d front rest none taken at)
+    (lines_keep_replaying (unheld d) (front ++ rest) (opened_is_replaying d none)).free (base_same d front rest none taken at).0
     ∙ ends d acts (front ++ rest) new conn journal free

@@ -1,16 +1,16 @@
 -- A line asked where sessions have ended early leaves what it leaves else, with those sessions ended.
--- Cited by `RunLemmas` and `StepLemmas`.
-use Rattle.std.proofs.Common.{◌≡◌, ℕ, zero, suc, ◌+◌, ◌-◌, ◌≤◌, min, List, [], ◌∷◌, length, take, Bool, true, false, cond, not, ◌&&◌, nat_eq, nat_le}
-use Rattle.std.proofs.Common.{Option, Some, None, Result, Ok, Err, codes, get_or, refl, sym, ap, ap₂, ◌∙◌, subst, ◌⊎◌, inl, inr, arith, true≢false}
+-- Cited by `laws::replays_go_on`, `RunLemmas` and `StepLemmas`.
+use Rattle.std.proofs.Common.{◌≡◌, ℕ, zero, suc, ◌+◌, ◌-◌, ◌≤◌, min, List, [], ◌∷◌, length, take, Bool, true, false, cond, ◌&&◌, nat_eq, nat_le}
+use Rattle.std.proofs.Common.{Option, None, Result, Ok, Err, get_or, refl, sym, ap, ap₂, ◌∙◌, subst, ◌⊎◌, inl, inr, arith, true≢false}
 use Rattle.std.proofs.lemmas.List.{take_all, take_min, take-take, length-take}
 use Rattle.mi_value.specs.declared.refusal.Refusal.{Refusal}
-use Rattle.mi_value.specs.declared.refusal.Refusal.TheVariants.{Busy, Spent, Depth, Session}
+use Rattle.mi_value.specs.declared.refusal.Refusal.TheVariants.{Busy, Spent, Depth}
 use Rattle.mi_value.specs.declared.refusal.NoSession.{NoSession}
 use Rattle.mi_value.specs.declared.limits.TheConstants.{MAX_SESSIONS}
 use Rattle.mi_catalog.specs.Shape.{CatalogShape}
 use Rattle.mi_model.specs.Table.{Table}
 use Rattle.mi_model.specs.Verdict.{is_spent}
-use Rattle.mi_model.specs.Database.{Database, depth, started, undone, undone_times, squashed, committed, start_step}
+use Rattle.mi_model.specs.Database.{Database, depth, started, undone, undone_times, squashed, committed}
 use Rattle.mi_request.specs.Lines.{command_line}
 use Rattle.mi_request.specs.Commands.{keeps_out}
 use Rattle.mi_request.specs.declared.request.Request.{Request}
@@ -25,13 +25,13 @@ use Rattle.mi_protocol.specs.declared.command.Command.TheVariants as command
 use Rattle.mi_commands.specs.Asked.{Asked, text, too_long}
 use Rattle.mi_commands.specs.Answer.{answer, command_answer, command_of, command_changes}
 use Rattle.mi_commands.specs.Told.{tells_change}
-use Rattle.mi_commands.specs.Holder.{HeldDatabase, is_busy, one_more, one_less, at_most, held_count}
-use Rattle.mi_commands.specs.Performed.{performed, changed, effect, session_effect, or_session, revised, one_up, one_down, done_by}
+use Rattle.mi_commands.specs.Holder.{HeldDatabase, is_busy, one_more, at_most}
+use Rattle.mi_commands.specs.Performed.{performed, changed, or_session, revised, one_up, one_down, done_by}
 use Rattle.mi_commands.specs.declared.holder.Holder.{Holder}
-use Rattle.mi_replay.specs.Replayed.{replayer, replayed, unheld}
-use Rattle.mi_replay.proofs.AnswerLemmas.{on, Twin, twin_line}
+use Rattle.mi_replay.specs.Replayed.{replayer}
+use Rattle.mi_replay.proofs.AnswerLemmas.{on}
 use Rattle.mi_checkpoint.specs.Settled.{settled, done_reply, IsTaken, IsReplaying, AnsweredLinesAreTaken}
-use Rattle.mi_checkpoint.proofs.HolderLemmas.{not_zero, most_none, less_most, most_least, more_most, without_most, most_free, held_most}
+use Rattle.mi_checkpoint.proofs.HolderLemmas.{not_zero, less_most, most_least, more_most, without_most, most_free}
 
 abbrev pub db : CatalogShape → List Table → List (List Table) → ℕ → Database
 db c ts old r = record { catalog = c; tables = ts; old = old; revision = r }
@@ -166,7 +166,8 @@ module _ (x : ℕ) where
   abbrev EarlyAs : HeldDatabase → Result Command Refusal → Type 0
   EarlyAs s c = ((command_answer (early x s) replayer c).1 ≡ early x (command_answer s replayer c).1) × TakenAs (early x s) c
 
-  change_early : (d : Database) (o : Option Holder) (n : ℕ) (y : Change) → TakenAs (on d o) (Ok (command.Change n y)) → EarlyAs (on d o) (Ok (command.Change n y))
+  change_early : (d : Database) (o : Option Holder) (n : ℕ) (y : Change) → TakenAs (on d o) (Ok (command.Change n y))
+      → EarlyAs (on d o) (Ok (command.Change n y))
   change_early d o n (change.Insert row before) taken = (refl, taken)
   change_early d o n y taken = (refl, taken)
 
@@ -240,8 +241,11 @@ module _ (x : ℕ) where
       let is = end_early c ts t r o session.Squash ts old (λ older p. squash_is c ts t older r p) (omega arith) low in (is.0, inl is.1)
 
   commit_early : (d : Database) (o : Option Holder) (y : ℕ) → EarlyAs (on d o) (Ok (command.Session (session.Commit y)))
-  commit_early d o y = (ap (λ e. on e (at_most (depth e) (at_most (depth (cut x d)) o))) (committed_cut y (cut x d))
-      ∙ ap₂ on swapped held ∙ sym (ap (λ e. early x (on e (at_most (depth e) o))) (committed_cut y d)), inl refl)
+  commit_early d o y = (
+    ap (λ e. on e (at_most (depth e) (at_most (depth (cut x d)) o))) (committed_cut y (cut x d))
+        ∙ ap₂ on swapped held ∙ sym (ap (λ e. early x (on e (at_most (depth e) o))) (committed_cut y d)),
+    inl refl,
+  )
     where
       sessions : take (d.revision - y) (take (d.revision - x) d.old) ≡ take (d.revision - x) (take (d.revision - y) d.old)
       sessions = take_swap (d.revision - y) (d.revision - x) d.old
@@ -262,9 +266,11 @@ module _ (x : ℕ) where
   undo_all_early d o numbered low =
       let gone = all_undone (depth d) d.catalog d.tables d.old d.revision refl in
       let number : (undone_times (depth d) d).revision ≡ d.revision - depth d = gone.0 in
-      let none : depth (undone_times (depth d) d) ≡ 0 = ap length gone.1 in
-      (ap (λ e. on (undone_times (depth e) e) None) (cut_none x d (omega arith))
-      ∙ ap (λ e. on e None) (sym (cut_none x (undone_times (depth d) d) (omega arith))), inl refl)
+      let none : depth (undone_times (depth d) d) ≡ 0 = ap length gone.1 in (
+        ap (λ e. on (undone_times (depth e) e) None) (cut_none x d (omega arith))
+            ∙ ap (λ e. on e None) (sym (cut_none x (undone_times (depth d) d) (omega arith))),
+        inl refl,
+      )
 
   push_early : (d : Database) (o : Option Holder) → is_busy o replayer ≡ false → EarlyAs (on d o) (Ok (command.Session session.Push))
   push_early d o free = (ap (on (cut x d)) (without_most (depth (cut x d)) replayer o free), inl refl)

@@ -90,7 +90,7 @@ above_each x (line ∷ lines) s each =
 
 pub checkpoint : (s : HeldDatabase) (lines : List Asked) (o : Starts) (n : ℕ) → IsTold s lines o
     → IsLastUpTo (revisions lines s) (o.revision - depth (replayed lines s).database) n → IsCheckpoint s lines n
-checkpoint s lines o n told is = record { within = omega (arith, inside); based = (above, ended); latest = latest }
+checkpoint s lines o n told is = record { within = omega (arith, inside); stands = (above, ended); latest = latest }
   where
     inside : n ≤ length lines
     inside = let long = revisions_length lines s in let here : n < length (revisions lines s) = is.within in omega arith
@@ -133,5 +133,5 @@ taken_rest (suc n) (line ∷ lines) s taken = taken_rest n lines (answer s repla
 
 pub base_replays : (s : HeldDatabase) (lines : List Asked) (n : ℕ) → IsReplaying s → AreTaken lines s → IsCheckpoint s lines n → BaseReplays s lines n
 base_replays s lines n is taken at =
-    let law = bases_replay (replayed (take n lines) s) (drop n lines) (lines_keep_replaying s (take n lines) is) (taken_rest n lines s taken) at.based in
+    let law = bases_replay (replayed (take n lines) s) (drop n lines) (lines_keep_replaying s (take n lines) is) (taken_rest n lines s taken) at.stands in
     (subst (λ u. IsSame u (replayed (drop n lines) (based (replayed (take n lines) s)))) (replayed_rest n lines s) law.0, law.1)

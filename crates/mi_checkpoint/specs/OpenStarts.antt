@@ -1,5 +1,5 @@
--- What is kept of a replay: where the sessions began that are open. Lines start, start, commit the older, start: the sessions that are open began
--- in front of lines 1 and 3, so a base may stand behind the first line, where the session of the first start is open and is ended early.
+-- Where the sessions began that are open. The lines are start, start, commit of the older, start. Two sessions are open, and they began behind one line
+-- and behind three. So a base may stand behind one line, and ends the session that is open there.
 use Rattle.std.specs.Prelude.{◌≡◌, ◌⊎◌, ℕ, ◌+◌, ◌-◌, ◌<◌, ◌≤◌, List, [], ◌∷◌, length, take, drop, slice_index}
 use Rattle.mi_model.specs.Database.{depth}
 use Rattle.mi_commands.specs.Asked.{Asked}
@@ -16,7 +16,7 @@ pub record Starts : Type 0 where
 
 -- ---- revisions alone
 
--- From k open sessions at revision r a line leaves so many at that revision: one more at the next; or at one that is no higher, where each
+-- From k open sessions at revision r a line leaves so many at that revision. It is one more at the next, or no more at one that isn't higher. Each
 -- step down takes a session.
 abbrev pub MovesOn : ℕ → ℕ → ℕ → ℕ → Type 0
 MovesOn k r left now = ((left ≡ k + 1) × (now ≡ r + 1)) ⊎ ((now ≤ r) × (left + (r - now) ≤ k))
@@ -28,7 +28,7 @@ pub record IsLastUpTo (rs : List ℕ) (b p : ℕ) : Type 0 where
   pub above : (m : ℕ) → p < m → m < length rs → b < slice_index rs m
 
 -- These are the revisions so far, that in front of the first line among them, and k sessions are open. A session began where the revision was last
--- below its number; the oldest has the number revision - k + 1.
+-- below its number. The oldest has the number revision - k + 1.
 pub record Knows (rs : List ℕ) (k : ℕ) (o : Starts) : Type 0 where
   pub count : length rs ≡ o.lines + 1
   pub deep : length o.places ≡ k
@@ -54,7 +54,7 @@ IsTold s lines o = Knows (revisions lines s) (depth (replayed lines s).database)
 -- A base may stand behind the first n of these lines, and behind no more of them.
 pub record IsCheckpoint (s : HeldDatabase) (lines : List Asked) (n : ℕ) : Type 0 where
   pub within : n ≤ length lines
-  pub based : IsBasedAt (replayed (take n lines) s) (drop n lines)
+  pub stands : IsBasedAt (replayed (take n lines) s) (drop n lines)
   pub latest : (m : ℕ) → n < m → m ≤ length lines → ¬ IsBasedAt (replayed (take m lines) s) (drop m lines)
 
 -- what a base has that stands behind the first n lines

@@ -1,5 +1,5 @@
--- Sessions that end early, while others stay open. Sessions 5, 6 and 7 are open, and later lines commit 5 and 6. With 5 and 6 committed at once
--- those lines leave the same.
+-- Sessions that end early, while others stay open. Sessions 5, 6 and 7 are open, and later lines commit 5 and 6. With both committed at once those
+-- lines leave the same.
 use Rattle.std.specs.Prelude.{◌≡◌, ◌⊎◌, ℕ, ◌+◌, ◌≤◌, List, [], ◌∷◌, ◌++◌, Bool, true, false, codes}
 use Rattle.mi_value.specs.declared.limits.TheConstants.{MAX_SESSIONS}
 use Rattle.mi_model.specs.Database.{Database, depth, committed}
@@ -24,8 +24,8 @@ based s = unheld (record s.database { old = [] })
 
 -- ---- what holds of the lines behind
 
--- The revision is at least x behind each line. So none of them undoes or squashes a session of a number up to x: it would give the revision below
--- its number.
+-- The revision is at least x behind each line. So none of them undoes or squashes a session of a number up to x, which would give a revision below
+-- that number.
 abbrev pub StaysAbove : ℕ → List Asked → HeldDatabase → Type 0
 StaysAbove x [] s = Unit {0}
 StaysAbove x (line ∷ lines) s =
@@ -74,8 +74,8 @@ abbrev pub AnsweredLinesAreTaken : Type 0
 AnsweredLinesAreTaken = (s t : HeldDatabase) (line : Asked) (reply : List ℕ) (changed : Bool) → MayAnswer replayer s line reply changed t
     → (changed ≡ true) ⊎ (reply ≡ done_reply) → IsTaken s line
 
--- Lines that a replay takes, and that stay above x: with the sessions up to x ended early they leave what they leave else, with those of them ended
--- that are open still. And a replay takes each of them there too.
+-- Lines that a replay takes, and that stay above x. With the sessions up to x ended early they leave what they leave else, and what is still open of
+-- these sessions is ended. A replay takes each line there too.
 abbrev pub SettlesEarly : Type 0
 SettlesEarly = (x : ℕ) (s : HeldDatabase) (lines : List Asked) → IsReplaying s → x ≤ s.database.revision → AreTaken lines s → StaysAbove x lines s
     → (replayed lines (settled x s) ≡ settled x (replayed lines s)) × AreTaken lines (settled x s)
@@ -85,7 +85,7 @@ abbrev pub EndsTheSame : Type 0
 EndsTheSame = (x : ℕ) (s : HeldDatabase) (lines : List Asked) → IsReplaying s → x ≤ s.database.revision → AreTaken lines s → StaysAbove x lines s
     → HaveEnded x (replayed lines s) → IsSame (replayed lines s) (replayed lines (settled x s))
 
--- A base stands in front of these lines: they never give a revision below its own, and every session that was open there ends by them.
+-- A base may stand in front of these lines. They never give a revision below its own, and end every session that is open there.
 abbrev pub IsBasedAt : HeldDatabase → List Asked → Type 0
 IsBasedAt s lines = StaysAbove s.database.revision lines s × HaveEnded s.database.revision (replayed lines s)
 
@@ -94,18 +94,19 @@ abbrev pub BasesReplay : Type 0
 BasesReplay = (s : HeldDatabase) (lines : List Asked) → IsReplaying s → AreTaken lines s → IsBasedAt s lines
     → IsSame (replayed lines s) (replayed lines (based s)) × AreTaken lines (based s)
 
--- Whatever lines come behind, the base stands in front of all of them as well: what is open at the end has numbers above the base's revision,
--- and so has all that is started later.
+-- Whatever lines come behind, the base may stand in front of all of them. What is open at the end has numbers above the base's revision, and so has
+-- all that is started later.
 abbrev pub BasesStay : Type 0
 BasesStay = (s : HeldDatabase) (lines more : List Asked) → IsReplaying s → IsBasedAt s lines → IsBasedAt s (lines ++ more)
 
 -- ---- laws of journals
 
--- A base stands behind a front of a run's journal. With the lines behind it, it gives the run's database, and as many sessions held.
+-- A base stands behind a front of a run's journal. With the lines behind it, it gives the run's database, and as many sessions held. A replay takes
+-- each of those lines.
 abbrev pub BasesOfJournals : Type 0
 BasesOfJournals = (d : Database) (acts : List Act) (front rest : List Asked) (new : HeldDatabase) → depth d ≡ 0
     → JournalOf (unheld d) acts (front ++ rest) new → AreTaken (front ++ rest) (unheld d) → IsBasedAt (replayed front (unheld d)) rest
-    → IsSame new (replayed rest (based (replayed front (unheld d))))
+    → IsSame new (replayed rest (based (replayed front (unheld d)))) × AreTaken rest (based (replayed front (unheld d)))
 
 -- The connection that has asked them goes away: what is left is what the run leaves once its holder goes away too.
 abbrev pub BasesEndAsRuns : Type 0

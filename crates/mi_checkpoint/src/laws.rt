@@ -26,7 +26,7 @@ pub fn sessions_settle_early()
 {}
 
 /// A base that stands where `settled_lines` said, and the lines of the journal behind it: they give the run's database, and as many sessions
-/// held. Once the connection that asked them is gone, they give the database that the run leaves once its holder is gone.
+/// held. A replay takes each of those lines. Once the connection that asked them is gone, they give the database that the run leaves once its holder is gone.
 pub fn bases_of_journals()
     ensures same { BasesOfJournals }
     ensures ended { BasesEndAsRuns }

@@ -2,6 +2,7 @@
 //! ended early. It keeps numbers of lines and touches no database.
 #![tactic(auto)]
 
+pub mod examples;
 pub mod laws;
 pub mod open_starts;
 

@@ -61,9 +61,13 @@ impl OpenStarts {
         }
     }
 
-    /// The same of the revisions alone, whatever lines gave them.
-    fn follow(&mut self, depth: u64, revision: u64) -> Result<(), AllocError>
+    /// One line more was asked. So many sessions are open behind it, at this revision.
+    ///
+    /// `AllocError` where a session began and there is no memory to keep where. Then nothing has changed.
+    pub fn note(&mut self, depth: u64, revision: u64) -> Result<(), AllocError>
         requires { self.old.lines + 1 < 2 ^ 64 }
+        ensures told { OnOk result ((s : HeldDatabase) (lines : List Asked) (line : Asked) → IsReplaying s → IsTold s lines self.old
+            → StandsAt (replayed (lines ++ line ∷ []) s) depth revision → IsTold s (lines ++ line ∷ []) self.new) }
         ensures knows { OnOk result ((rs : List ℕ) (k : ℕ) → Knows rs k self.old → MovesOn k self.old.revision depth revision
             → Knows (rs ++ revision ∷ []) depth self.new) }
         ensures lines { OnOk result (self.new.lines ≡ self.old.lines + 1) }
@@ -80,20 +84,6 @@ impl OpenStarts {
         self.revision = revision;
         self.lines += 1;
         Ok(())
-    }
-
-    /// One line more was asked. So many sessions are open behind it, at this revision.
-    ///
-    /// `AllocError` where a session began and there is no memory to keep where. Then nothing has changed.
-    pub fn note(&mut self, depth: u64, revision: u64) -> Result<(), AllocError>
-        requires { self.old.lines + 1 < 2 ^ 64 }
-        ensures told { OnOk result ((s : HeldDatabase) (lines : List Asked) (line : Asked) → IsReplaying s → IsTold s lines self.old
-            → StandsAt (replayed (lines ++ line ∷ []) s) depth revision → IsTold s (lines ++ line ∷ []) self.new) }
-        ensures lines { OnOk result (self.new.lines ≡ self.old.lines + 1) }
-        ensures revision { OnOk result (self.new.revision ≡ revision) }
-        ensures memory { OnErr result ((self.new ≡ self.old) × (self.old.revision < revision)) }
-    {
-        self.follow(depth, revision)
     }
 
     /// How many lines it was told of.
@@ -113,8 +103,8 @@ impl OpenStarts {
         }
     }
 
-    /// Behind how many of the lines a base may stand: the most. Every session that is open there has ended by now, so all of them may be
-    /// ended at once. Where no session is open now, it is behind all lines, and else in front of the oldest open start.
+    /// The most of the lines behind which a base may stand. Every session that is open there has ended by now, so all of them may be ended at
+    /// once. Where no session is open now, these are all lines, and else those in front of the oldest open start.
     pub fn settled_lines(&self) -> u64
         ensures place { (s : HeldDatabase) (lines : List Asked) → IsTold s lines self.now → IsCheckpoint s lines result }
         ensures replays { (s : HeldDatabase) (lines : List Asked) → IsReplaying s → AreTaken lines s → IsTold s lines self.now → BaseReplays s lines result }
