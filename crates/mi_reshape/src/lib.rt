@@ -1,0 +1,11 @@
+//! A table under another schema. Its columns and indexes go by their names, and its rows keep their ids.
+//! It reads schemas and plain tables, and touches no container.
+#![tactic(auto)]
+
+mod columns;
+mod fault;
+mod indexes;
+mod reshape;
+
+pub use fault::ReshapeFault;
+pub use reshape::reshaped;
