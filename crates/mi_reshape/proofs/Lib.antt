@@ -1,1 +1,4 @@
 pub mod RowLemmas
+pub mod FitLemmas
+pub mod TableLemmas
+pub mod SameLemmas

@@ -3,10 +3,11 @@
 --     keeps_type, other_type      columns that keep their type, and the first that doesn't
 --     same_index, kept_index      the index of the old schema that an index of the new one is
 --     reshaped_list, reshaped_table      the table
+--     RowsFit, ReshapedFits, ReshapedIsTable, ReshapedToSame      the laws
 --     source_of, source_value      where the values of a new column come from
 use Rattle.std.specs.Prelude.{◌≡◌, ℕ, pos, Bool, true, false, not, ◌&&◌, bytes_eq, cond, List, [], ◌∷◌, map, slice_index_or, option_and_then}
 use Rattle.std.specs.Option.{option_map_or}
-use Rattle.std.specs.List.{position}
+use Rattle.std.specs.List.{position, AllByRecursion}
 use Rattle.std.specs.declared.option.Option.{Option}
 use Rattle.std.specs.declared.option.Option.TheVariants.{None, Some}
 use Rattle.mi_value.specs.declared.value.Value.{Value}
@@ -19,7 +20,10 @@ use Rattle.mi_catalog.specs.declared.index.Index.{Index}
 use Rattle.mi_catalog.specs.declared.index.IndexKind.{IndexKind}
 use Rattle.mi_catalog.specs.declared.index.IndexKind.TheVariants.{Ordered, Ranked, Hashed, Sequenced}
 use Rattle.mi_catalog.specs.Shape.{Shape, find_column, find_index, index_at}
-use Rattle.mi_model.specs.Table.{Table, list_of}
+use Rattle.mi_catalog.specs.Key.{Row}
+use Rattle.mi_catalog.specs.Fits.{fits_record}
+use Rattle.mi_catalog.specs.Rules.{is_schema}
+use Rattle.mi_model.specs.Table.{Table, list_of, IsTable}
 use Rattle.mi_reshape.specs.declared.columns.Source.{Source}
 use Rattle.mi_reshape.specs.declared.fault.ReshapeFault.{ReshapeFault}
 use Rattle.mi_reshape.specs.declared.fault.ReshapeFault.TheVariants as fault
@@ -103,6 +107,22 @@ reshaped_table from to t = record {
 abbrev pub IsReshapeFault : Shape → Shape → ReshapeFault → Type 0
 IsReshapeFault from to (fault.Column c) = other_type from to ≡ Some c
 IsReshapeFault from to fault.Memory = Unit {0}
+
+-- each row fits the columns of the schema
+abbrev pub RowsFit : Shape → List Row → Type 0
+RowsFit s rows = AllByRecursion (λ r. fits_record s.columns r.1 ≡ true) rows
+
+-- rows that fit the old schema fit the new one
+abbrev pub ReshapedFits : Type 0
+ReshapedFits = (from to : Shape) (t : Table) → other_type from to ≡ None → RowsFit from t.rows → RowsFit to (reshaped_table from to t).rows
+
+-- a table of the old schema becomes one of the new: its ids rise, and each index has a list of them
+abbrev pub ReshapedIsTable : Type 0
+ReshapedIsTable = (from to : Shape) (t : Table) → IsTable from t → IsTable to (reshaped_table from to t)
+
+-- under its own schema a table stays what it is
+abbrev pub ReshapedToSame : Type 0
+ReshapedToSame = (s : Shape) (t : Table) → is_schema s ≡ true → IsTable s t → RowsFit s t.rows → reshaped_table s s t ≡ t
 
 -- where the values of a new column come from
 abbrev pub source_of : Shape → Column → Source

@@ -5,6 +5,7 @@
 mod columns;
 mod fault;
 mod indexes;
+pub mod laws;
 mod reshape;
 
 pub use fault::ReshapeFault;

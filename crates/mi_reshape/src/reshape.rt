@@ -2,6 +2,7 @@
 //! It reads both schemas and the table, and takes memory for the new one.
 ghost use Rattle.std.specs.Prelude.{◌≡◌, None, IfOk, IfErr, OnOk};
 ghost use Rattle.mi_container.specs.Restore.{image_table};
+ghost use Rattle.mi_model.specs.Table.{IsTable};
 ghost use Rattle.mi_reshape.specs.Reshaped as meaning;
 
 use crate::columns::{other_type, put_rows, sources};
@@ -11,7 +12,7 @@ use mi_catalog::Schema;
 use mi_container::TableImage;
 use std::alloc::{AllocError, Global};
 
-/// The table of an image, without refusing a column.
+/// The table of an image under schema `to`. No column is refused.
 fn put_table(
     alloc: Global,
     from: &Schema,
@@ -27,6 +28,23 @@ fn put_table(
         next: image.next,
         arrivals: image.arrivals,
     })
+}
+
+/// As `reshaped`, of an image that is lent.
+pub(crate) fn put_under(
+    alloc: Global,
+    from: &Schema,
+    to: &Schema,
+    image: &TableImage,
+) -> Result<TableImage, ReshapeFault>
+    ensures table { IfOk result (λ made. image_table made ≡ meaning.reshaped_table from.now to.now (image_table image.now)) }
+    ensures types { OnOk result (meaning.other_type from.now to.now ≡ None) }
+    ensures fault { IfErr result (λ e. meaning.IsReshapeFault from.now to.now e) }
+{
+    if let Some(column) = other_type(from, to) {
+        return Err(ReshapeFault::Column(column));
+    }
+    Ok(put_table(alloc, from, to, image)?)
 }
 
 /// The table of schema `from`, put under schema `to`. Its ids, its next id and its count of arrivals stay.
@@ -48,10 +66,9 @@ pub fn reshaped(
 ) -> Result<TableImage, ReshapeFault>
     ensures table { IfOk result (λ made. image_table made ≡ meaning.reshaped_table from.now to.now (image_table image)) }
     ensures types { OnOk result (meaning.other_type from.now to.now ≡ None) }
+    ensures fits { IfOk result (λ made. meaning.RowsFit from.now image.rows.items → meaning.RowsFit to.now made.rows.items) }
+    ensures holds { IfOk result (λ made. IsTable from.now (image_table image) → IsTable to.now (image_table made)) }
     ensures fault { IfErr result (λ e. meaning.IsReshapeFault from.now to.now e) }
 {
-    if let Some(column) = other_type(from, to) {
-        return Err(ReshapeFault::Column(column));
-    }
-    Ok(put_table(alloc, from, to, &image)?)
+    put_under(alloc, from, to, &image)
 }
