@@ -82,7 +82,8 @@ fits_long [] (v ∷ vs) h = absurd (cc)
 fits_long (c ∷ cs) [] h = absurd (cc)
 fits_long (c ∷ cs) (v ∷ vs) h = ap (λ n. suc n) (fits_long cs vs (and_parts _ _ h).1)
 
-within_any : {X : Type 0} (xs : List X) (k : ℕ) (d e : X) → k < length xs → slice_index_or xs k d ≡ slice_index_or xs k e
+-- within a list the default doesn't matter
+pub within_any : {X : Type 0} (xs : List X) (k : ℕ) (d e : X) → k < length xs → slice_index_or xs k d ≡ slice_index_or xs k e
 within_any [] k d e within = absurd (omega arith)
 within_any (x ∷ xs) zero d e within = refl
 within_any (x ∷ xs) (suc k) d e within = within_any xs k d e (omega arith)
@@ -134,6 +135,7 @@ free_names columns n (j ∷ is) e h =
     turned : (b : Bool) → (b ≡ true → b ≡ false) → b ≡ false
     turned true f = f refl
     turned false f = refl
+
     or_neither : (a b : Bool) → a ≡ false → b ≡ false → (a || b) ≡ false
     or_neither true b e f = e
     or_neither false b e f = f

@@ -84,11 +84,10 @@ list_by from t (Some x) is within e = all_get (ListsEach t) t.lists x is.complet
 
 lists_each : (from to : Shape) (t : Table) (js : List Index) → IsTable from t → AllByRecursion (ListsEach (reshaped_table from to t)) (map (reshaped_list from to t) js)
 lists_each from to t [] is = tt
-lists_each from to t (j ∷ js) is =
-    (
-      λ id. list_by from t (kept_index from to j) is (kept_within from to j) id ∙ sym (ap (λ b. cond {A = ℕ} b 1 0) (has_stays from to id t.rows)),
-      lists_each from to t js is
-    )
+lists_each from to t (j ∷ js) is = (
+  λ id. list_by from t (kept_index from to j) is (kept_within from to j) id ∙ sym (ap (λ b. cond {A = ℕ} b 1 0) (has_stays from to id t.rows)),
+  lists_each from to t js is,
+)
 
 pub reshaped_is_table : ReshapedIsTable
 reshaped_is_table from to t is = record {

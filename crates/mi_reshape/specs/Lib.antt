@@ -1,1 +1,2 @@
 pub mod Reshaped
+pub mod Catalogs

@@ -48,11 +48,7 @@ pub(crate) fn other_type(from: &Schema, to: &Schema) -> Option<usize>
 }
 
 /// Where the values of each column of `to` come from.
-pub(crate) fn sources(
-    alloc: Global,
-    from: &Schema,
-    to: &Schema,
-) -> Result<Vec<Source>, AllocError>
+pub(crate) fn sources(alloc: Global, from: &Schema, to: &Schema) -> Result<Vec<Source>, AllocError>
     ensures { IfOk result (λ made. made.items ≡ map (meaning.source_of from.now) to.now.columns) }
 {
     let mut made = Vec::new(alloc);

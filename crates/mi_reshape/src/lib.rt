@@ -2,11 +2,15 @@
 //! It reads schemas and plain tables, and touches no container.
 #![tactic(auto)]
 
+mod catalogs;
 mod columns;
 mod fault;
 mod indexes;
 pub mod laws;
+mod lost;
 mod reshape;
 
-pub use fault::ReshapeFault;
+pub use catalogs::reshaped_all;
+pub use fault::{CatalogFault, ReshapeFault};
+pub use lost::{DroppedPart, dropped};
 pub use reshape::reshaped;
