@@ -1,0 +1,2 @@
+pub mod Reshaped
+pub mod Catalogs
