@@ -1,20 +1,18 @@
 -- The containers of restored tables, one after another, and the database that they mean.
 -- Cited by `Linked::restored`, `restored::add_container` and `restored::restored_containers`.
-use Rattle.std.proofs.Common.{◌≡◌, ℕ, ◌+◌, ◌<◌, ◌≤◌, zero, suc, inl, inr, Option, List, [], ◌∷◌, ◌++◌, map, take, length, reverse, get_or, refl, ap, ap₂, sym, ◌∙◌, subst, arith}
-use Rattle.std.specs.Prelude.{slice_get, slice_index_or, ◌⊎◌}
+use Rattle.std.proofs.Common.{◌≡◌, ℕ, ◌+◌, ◌<◌, zero, suc, inl, inr, Option, List, [], ◌∷◌, ◌++◌, map, take, length, reverse, refl, ap, ap₂, sym, ◌∙◌, subst, arith}
+use Rattle.std.specs.Prelude.{slice_get, ◌⊎◌}
 use Rattle.std.specs.declared.option.Option.TheVariants.{Some}
 use Rattle.std.proofs.lemmas.Bool.Decides.{eqb_tells}
-use Rattle.std.proofs.lemmas.List.{append_assoc, append-nil, reverse-append, length-map, length_push, take_more, take_all, map_push, get_or_append_left, get_or_push, get_or_past, get_or-map}
-use Rattle.mi_value.specs.declared.limits.TheConstants.{LAST_COUNT}
+use Rattle.std.proofs.lemmas.List.{append_assoc, reverse-append, length-map, length_push, take_more, map_push, get_or_append_left, get_or_push, get_or-map}
 use Rattle.mi_catalog.specs.Shape.{Shape, CatalogShape, schema_at}
 use Rattle.mi_model.specs.Table.{Table}
 use Rattle.mi_container.specs.Data.{Data, as_table, IsData}
 use Rattle.mi_container.specs.Secrets.{opened_secrets}
 use Rattle.mi_container.specs.declared.restore.TableImage.{TableImage}
 use Rattle.mi_container.specs.Restore.{image_table, RowsFit}
-use Rattle.mi_database.specs.Journal.{Journal, data_at, tables_of, state_of}
-use Rattle.mi_database.specs.LinkedData.{IsLinkedData}
-use Rattle.mi_database.specs.Restored.{AreRestored, AllRowsFit, restored_database}
+use Rattle.mi_database.specs.Journal.{Journal, data_at, state_of}
+use Rattle.mi_database.specs.Restored.{AreRestored, AllRowsFit}
 
 -- of no table none
 pub none_restored : (c : CatalogShape) (secret : ℕ) → AreRestored c secret [] [] [] []

@@ -1,5 +1,5 @@
 -- the containers so far are those of the first images, and the other images are left in reverse
-use Rattle.std.proofs.Common.{◌≡◌, List, ◌++◌, length, map, reverse, vec_len}
+use Rattle.std.proofs.Common.{◌≡◌, List, ◌++◌, length, map, reverse}
 use Rattle.mi_container.specs.declared.restore.TableImage.{TableImage}
 use Rattle.mi_database.specs.Restored.{AreRestored}
 use Rattle.mi_database.proofs.restored.restored_containers.Given as goal
