@@ -4,4 +4,5 @@ pub mod KnownLemmas
 pub mod RunLemmas
 pub mod SettledLemmas
 pub mod StepLemmas
+pub mod TakenLemmas
 pub mod ToldLemmas

@@ -15,6 +15,7 @@ use Rattle.mi_checkpoint.specs.OpenStarts.{MovesOn}
 use Rattle.mi_checkpoint.proofs.HolderLemmas.{most_none, most_free, held_most}
 use Rattle.mi_checkpoint.proofs.SettledLemmas.{cut, cut_none, early, settled_early, line_early}
 use Rattle.mi_checkpoint.proofs.StepLemmas.{line_steps}
+use Rattle.mi_checkpoint.proofs.TakenLemmas.{taken_behind}
 
 pub opened_is_replaying : OpenedIsReplaying
 opened_is_replaying d none = record { numbered = omega arith; room = omega arith; fits = omega arith; free = refl }
@@ -126,10 +127,6 @@ bases_stay s lines more is at =
     )
 
 -- ---- a journal of a run
-
-taken_behind : (front rest : List Asked) (s : HeldDatabase) → AreTaken (front ++ rest) s → AreTaken rest (replayed front s)
-taken_behind [] rest s taken = taken
-taken_behind (line ∷ front) rest s taken = taken_behind front rest (answer s replayer line).1 taken.1
 
 -- of the lines of both parts
 base_same : (d : Database) (front rest : List Asked) → depth d ≡ 0 → AreTaken (front ++ rest) (unheld d) → IsBasedAt (replayed front (unheld d)) rest

@@ -1,5 +1,5 @@
 -- A line asked where sessions have ended early leaves what it leaves else, with those sessions ended.
--- Cited by `laws::replays_go_on`, `RunLemmas` and `StepLemmas`.
+-- Cited by `RunLemmas`, `StepLemmas` and `TakenLemmas`.
 use Rattle.std.proofs.Common.{◌≡◌, ℕ, zero, suc, ◌+◌, ◌-◌, ◌≤◌, min, List, [], ◌∷◌, length, take, Bool, true, false, cond, ◌&&◌, nat_eq, nat_le}
 use Rattle.std.proofs.Common.{Option, None, Result, Ok, Err, get_or, refl, sym, ap, ap₂, ◌∙◌, subst, ◌⊎◌, inl, inr, arith, true≢false}
 use Rattle.std.proofs.lemmas.List.{take_all, take_min, take-take, length-take}
@@ -26,11 +26,11 @@ use Rattle.mi_commands.specs.Asked.{Asked, text, too_long}
 use Rattle.mi_commands.specs.Answer.{answer, command_answer, command_of, command_changes}
 use Rattle.mi_commands.specs.Told.{tells_change}
 use Rattle.mi_commands.specs.Holder.{HeldDatabase, is_busy, one_more, at_most}
-use Rattle.mi_commands.specs.Performed.{performed, changed, or_session, revised, one_up, one_down, done_by}
+use Rattle.mi_commands.specs.Performed.{performed, or_session, revised, one_up, one_down, done_by}
 use Rattle.mi_commands.specs.declared.holder.Holder.{Holder}
 use Rattle.mi_replay.specs.Replayed.{replayer}
 use Rattle.mi_replay.proofs.AnswerLemmas.{on}
-use Rattle.mi_checkpoint.specs.Settled.{settled, done_reply, IsTaken, IsReplaying, AnsweredLinesAreTaken}
+use Rattle.mi_checkpoint.specs.Settled.{settled, done_reply, IsTaken, IsReplaying}
 use Rattle.mi_checkpoint.proofs.HolderLemmas.{not_zero, less_most, most_least, more_most, without_most, most_free}
 
 abbrev pub db : CatalogShape → List Table → List (List Table) → ℕ → Database
@@ -91,19 +91,12 @@ TakenAs s c = (command_changes s replayer c ≡ true) ⊎ (reply_text s.database
 abbrev TakenSaid : CatalogShape → Said → Type 0
 TakenSaid c said = (tells_change said ≡ true) ⊎ (reply_text c said ≡ done_reply)
 
-not_true : {A : Type 0} → false ≡ true → A
+pub not_true : {A : Type 0} → false ≡ true → A
 not_true e = absurd (true≢false (sym e))
 
 -- its third byte is another
-other_text : {A : Type 0} (t : List ℕ) → nat_eq (get_or t 2 0) 111 ≡ false → t ≡ done_reply → A
+pub other_text : {A : Type 0} (t : List ℕ) → nat_eq (get_or t 2 0) 111 ≡ false → t ≡ done_reply → A
 other_text t differs same = absurd (true≢false (sym (ap (λ u. nat_eq (get_or u 2 0) 111) same) ∙ differs))
-
--- what is said of an answer
-pub answered_lines_are_taken : AnsweredLinesAreTaken
-answered_lines_are_taken s t line reply changed (inl p) (inl may) = inl (sym p.1 ∙ may)
-answered_lines_are_taken s t line reply changed (inl p) (inr says) = inr (sym p.0.0 ∙ says)
-answered_lines_are_taken s t line reply changed (inr p) (inl may) = not_true (sym p.2 ∙ may)
-answered_lines_are_taken s t line reply changed (inr p) (inr says) = other_text _ refl (sym p.1.0 ∙ says)
 
 -- ---- steps of sessions
 

@@ -1,12 +1,16 @@
 -- Sessions that end early, while others stay open. Sessions 5, 6 and 7 are open, and later lines commit 5 and 6. With both committed at once those
 -- lines leave the same.
-use Rattle.std.specs.Prelude.{◌≡◌, ◌⊎◌, ℕ, ◌+◌, ◌≤◌, List, [], ◌∷◌, ◌++◌, Bool, true, false, codes}
+use Rattle.std.specs.Prelude.{◌≡◌, ◌⊎◌, ℕ, ◌+◌, ◌≤◌, List, [], ◌∷◌, ◌++◌, ◌↔◌, Bool, true, false, codes}
 use Rattle.mi_value.specs.declared.limits.TheConstants.{MAX_SESSIONS}
 use Rattle.mi_model.specs.Database.{Database, depth, committed}
 use Rattle.mi_protocol.specs.Replies.{reply_text}
 use Rattle.mi_commands.specs.Asked.{Asked}
 use Rattle.mi_commands.specs.Answer.{answer, line_changes, MayAnswer}
 use Rattle.mi_commands.specs.Holder.{HeldDatabase, is_busy, at_most, held_count, released}
+use Rattle.mi_hub.specs.Lines.{lines_of}
+use Rattle.mi_hub.specs.Served.{with_newline}
+use Rattle.mi_hub.specs.Run.{HubState}
+use Rattle.mi_hub.specs.OneLine.{AsksLine}
 use Rattle.mi_replay.specs.Acts.{Act}
 use Rattle.mi_replay.specs.Journal.{JournalOf}
 use Rattle.mi_replay.specs.Replayed.{replayer, replayed, unheld, IsSame}
@@ -73,6 +77,15 @@ SamePassesOn = (s t u : HeldDatabase) → IsSame s t → IsSame t u → IsSame s
 abbrev pub AnsweredLinesAreTaken : Type 0
 AnsweredLinesAreTaken = (s t : HeldDatabase) (line : Asked) (reply : List ℕ) (changed : Bool) → MayAnswer replayer s line reply changed t
     → (changed ≡ true) ⊎ (reply ≡ done_reply) → IsTaken s line
+
+-- The same of the bytes of a whole line that a hub is asked. They are one line, and not none.
+abbrev pub WholeLinesAreTaken : Type 0
+WholeLinesAreTaken = (line out : List ℕ) (changed : Bool) (old new : HubState) → AsksLine replayer line out changed old new
+    → (changed ≡ true) ⊎ (out ≡ with_newline done_reply) → (asked : Asked) × (lines_of line ≡ asked ∷ []) × IsTaken old.held asked
+
+-- lines are taken where those in front are, and then those behind
+abbrev pub TakenInTwo : Type 0
+TakenInTwo = (front rest : List Asked) (s : HeldDatabase) → AreTaken (front ++ rest) s ↔ (AreTaken front s × AreTaken rest (replayed front s))
 
 -- Lines that a replay takes, and that stay above x. With the sessions up to x ended early they leave what they leave else, and what is still open of
 -- these sessions is ended. A replay takes each line there too.

@@ -1,16 +1,22 @@
 //! Laws of sessions that end early, each the contract of a function that does nothing. Nothing here runs.
-ghost use Rattle.mi_checkpoint.specs.Settled.{OpenedIsReplaying, LinesKeepReplaying, SamePassesOn, AnsweredLinesAreTaken};
+ghost use Rattle.mi_checkpoint.specs.Settled.{OpenedIsReplaying, LinesKeepReplaying, SamePassesOn, AnsweredLinesAreTaken, WholeLinesAreTaken, TakenInTwo};
 ghost use Rattle.mi_checkpoint.specs.Settled.{SettlesEarly, EndsTheSame, BasesReplay, BasesStay, BasesOfJournals, BasesEndAsRuns};
 
 use mi_replay::laws::journals_replay;
 
-/// What the other laws begin with: a database without open sessions is one that the replayer alone asks, and each of its lines keeps that. The
-/// answer to a line tells whether a replay takes it. What is the same as the same is the same.
+/// What the other laws begin with: a database without open sessions is one that the replayer alone asks, and each of its lines keeps that. What
+/// is the same as the same is the same.
 pub fn replays_go_on()
     ensures opened { OpenedIsReplaying }
     ensures lines { LinesKeepReplaying }
-    ensures taken { AnsweredLinesAreTaken }
     ensures same { SamePassesOn }
+{}
+
+/// The answer to a line tells whether a replay takes it, and so do its bytes and those of its reply. Lines in a row are taken one after another.
+pub fn lines_are_taken()
+    ensures answers { AnsweredLinesAreTaken }
+    ensures bytes { WholeLinesAreTaken }
+    ensures joined { TakenInTwo }
 {}
 
 /// Sessions that are ended early change nothing else. Lines that a replay takes, none of which undoes or squashes such a session, leave the
