@@ -6,3 +6,4 @@ pub mod ResultLemmas
 pub mod RangeLemmas
 pub mod ImageLemmas
 pub mod LostLemmas
+pub mod CatalogLemmas

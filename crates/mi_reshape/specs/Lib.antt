@@ -1,2 +1,3 @@
 pub mod Reshaped
 pub mod Catalogs
+pub mod Examples

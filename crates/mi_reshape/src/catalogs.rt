@@ -79,6 +79,8 @@ pub fn reshaped_all(
     requires { length images.items ≡ length from.now.tables }
     ensures tables { IfOk result (λ made. map image_table made.items ≡ meaning.tables_under from.now to.now (map image_table images.items)) }
     ensures types { OnOk result (AllByRecursion (λ s. meaning.other_column from.now s ≡ None) to.now.tables) }
+    ensures fits { IfOk result (λ made. meaning.TablesFit from.now (map image_table images.items) → meaning.TablesFit to.now (map image_table made.items)) }
+    ensures holds { IfOk result (λ made. meaning.TablesHold from.now (map image_table images.items) → meaning.TablesHold to.now (map image_table made.items)) }
     ensures fault { IfErr result (λ e. meaning.IsCatalogFault from.now to.now e) }
 {
     put_all(alloc, from, to, images.as_slice())

@@ -4,6 +4,7 @@
 
 mod catalogs;
 mod columns;
+pub mod examples;
 mod fault;
 mod indexes;
 pub mod laws;
