@@ -51,6 +51,7 @@ impl Heading {
     ghost use Rattle.mi_base.specs.Base.{heading_data};
 
     /// The heading as JSON.
+    #[tactic(auto, unfolding(crate::specs::Base::heading_data))]
     pub(crate) fn to_value(&self, alloc: Global) -> Result<Value, AllocError>
         ensures { IfOk result (λ v. view v ≡ heading_data self.now) }
     {
@@ -65,6 +66,7 @@ impl Heading {
     }
 
     /// The heading that a value is, if its members are there.
+    #[tactic(auto, unfolding(crate::specs::Base::heading_data))]
     pub(crate) fn of(alloc: Global, value: &Value) -> Result<Option<Heading>, AllocError>
         ensures { IfOk result (λ found. (h : Heading) → view value.now ≡ heading_data h → IsSome found × IfSome found (λ g. heading_data g ≡ heading_data h)) }
     {
@@ -94,6 +96,7 @@ impl Head {
     ghost use Rattle.mi_base.specs.Base.{head_data};
 
     /// The line in front of the rows of the table of this name, as JSON.
+    #[tactic(auto, unfolding(crate::specs::Base::head_data))]
     pub(crate) fn to_value(self, alloc: Global, name: &str) -> Result<Value, AllocError>
         ensures { IfOk result (λ v. view v ≡ head_data name.now self) }
     {
@@ -106,6 +109,7 @@ impl Head {
     }
 
     /// The numbers that a value has, if they are there.
+    #[tactic(auto, unfolding(crate::specs::Base::head_data))]
     pub(crate) fn of(value: &Value) -> Option<Head>
         ensures { (name : List ℕ) (h : Head) → view value.now ≡ head_data name h → result ≡ Some h }
     {
@@ -118,6 +122,7 @@ impl Head {
 }
 
 /// The digest of what stands in front, as JSON.
+#[tactic(auto, unfolding(crate::specs::Base::digest_data))]
 pub(crate) fn digest_value(alloc: Global, digest: &[u8; 32]) -> Result<Value, AllocError>
     ensures { IfOk result (λ v. (front : List ℕ) → digest.now ≡ sha256 front → view v ≡ digest_data front) }
 {

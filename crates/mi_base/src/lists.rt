@@ -1,7 +1,7 @@
 //! A list of ids as a value of JSON, and back. It knows no table.
 ghost use Rattle.std.specs.Prelude.{◌≡◌, ◌++◌, ◌∷◌, [], IfOk, OnOk, ℕ, List, IsSome, IfSome, map};
-ghost use Rattle.serde_json.specs.View.{view, items_view};
-ghost use Rattle.mi_base.specs.Base.{list_data, ids_items};
+ghost use Rattle.serde_json.specs.View.{view};
+ghost use Rattle.mi_base.specs.Base.{list_data, id_data};
 
 use mi_value::Record;
 use serde_json::Value;
@@ -20,7 +20,7 @@ pub(crate) fn list_value(alloc: Global, ids: &[u64]) -> Result<Value, AllocError
 
 /// The numbers that values are.
 fn numbers_in(alloc: Global, items: &[Value]) -> Result<Option<Vec<u64>>, AllocError>
-    ensures { IfOk result (λ found. (ids : List ℕ) → items_view items.now ≡ ids_items ids → IsSome found × IfSome found (λ list. list.items ≡ ids)) }
+    ensures { IfOk result (λ found. (ids : List ℕ) → map view items.now ≡ map id_data ids → IsSome found × IfSome found (λ list. list.items ≡ ids)) }
 {
     let mut list = Vec::with_capacity(alloc, items.len())?;
     'items: for item in items {
