@@ -1,2 +1,5 @@
 pub mod TextLemmas
 pub mod LineLemmas
+pub mod FlatLemmas
+pub mod ArrayLemmas
+pub mod TableLemmas

@@ -1,7 +1,7 @@
 -- Lines one behind another, written and read.
 -- Cited by `line_of`.
-use Rattle.std.proofs.Common.{◌≡◌, ℕ, List, [], ◌∷◌, ◌++◌, Option, Some, None, refl, sym, ap, ◌∙◌, subst, append_assoc}
-use Rattle.std.proofs.lemmas.List.{append-nil}
+use Rattle.std.proofs.Common.{◌≡◌, ℕ, ◌+◌, ◌<◌, List, [], ◌∷◌, ◌++◌, map, take, length, get_or, Option, Some, None, refl, sym, ap, ◌∙◌, subst, append_assoc}
+use Rattle.std.proofs.lemmas.List.{append-nil, take_more, map-append}
 use Rattle.std.specs.List.{AllByRecursion}
 use Rattle.std.specs.Io.KnownBytes.{Appends, Consumes}
 use Rattle.sha2.specs.Hashers.{Holds256}
@@ -80,3 +80,16 @@ pub takes_one : (a b : Option (List ℕ)) (d e : Sha256) (x : Data) (line : List
 takes_one a b d e x line is h k =
     let same : line ≡ line_text x ++ [] = is ∙ sym (append-nil (line_text x)) in
     record { consumed = subst (Consumes a b) same h; hashed = subst (Hashes d e) same k }
+
+one_more : {A : Type 0} (f : A → Data) (xs : List A) (i : ℕ) (x : A) → i < length xs → x ≡ get_or xs i x
+    → map f (take i xs) ++ f x ∷ [] ≡ map f (take (i + 1) xs)
+one_more f xs i x l is =
+    sym (map-append f (take i xs) (x ∷ [])) ∙ ap (λ y. map f (take i xs ++ y ∷ [])) is ∙ ap (map f) (sym (take_more xs i x l))
+
+pub puts_more : {A : Type 0} (f : A → Data) (xs : List A) (i : ℕ) (x : A) (a b c : Option (List ℕ)) (d e g : Sha256) → i < length xs → x ≡ get_or xs i x
+    → Puts a b d e (map f (take i xs)) → Puts b c e g (f x ∷ []) → Puts a c d g (map f (take (i + 1) xs))
+puts_more f xs i x a b c d e g l is h k = subst (Puts a c d g) (one_more f xs i x l is) (puts_both a b c d e g (map f (take i xs)) (f x ∷ []) h k)
+
+pub puts_more_by : {A : Type 0} (f : A → Data) (xs : List A) (i : ℕ) (x : A) (y : Data) (a b c : Option (List ℕ)) (d e g : Sha256) → i < length xs
+    → x ≡ get_or xs i x → y ≡ f x → Puts a b d e (map f (take i xs)) → Puts b c e g (y ∷ []) → Puts a c d g (map f (take (i + 1) xs))
+puts_more_by f xs i x y a b c d e g l is same h k = puts_more f xs i x a b c d e g l is h (subst (λ z. Puts b c e g (z ∷ [])) same k)

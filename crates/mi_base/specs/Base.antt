@@ -4,7 +4,7 @@
 --     head_data      {"arrivals":A,"next":N,"rows":K,"table":"accounts"}
 --     row_data      [id,value,..]
 --     list_data      [id,id,..]
---     digest_data      {"sha256":".."}
+--     digits_data, digest_data      {"sha256":".."}
 --     table_lines, tables_lines, base_lines      the lines of a table, of tables, and of a base without its last one
 --     base_front, base_text      the text of those lines, and of the whole base
 use Rattle.std.specs.Prelude.{ℕ, List, [], ◌∷◌, ◌++◌, map, drop, length, codes, string_bytes}
@@ -65,8 +65,12 @@ base_lines h c ts = heading_data h ∷ tables_lines c.tables ts
 abbrev pub base_front : Heading → CatalogShape → List Table → List ℕ
 base_front h c ts = lines_text (base_lines h c ts)
 
-unfoldable pub digest_data : List ℕ → Data
-digest_data front = object (member (codes "sha256") (string (encode_lower (sha256 front))) no_members)
+-- of a digest's 32 bytes
+unfoldable pub digits_data : List ℕ → Data
+digits_data digest = object (member (codes "sha256") (string (encode_lower digest)) no_members)
+
+abbrev pub digest_data : List ℕ → Data
+digest_data front = digits_data (sha256 front)
 
 abbrev pub base_text : Heading → CatalogShape → List Table → List ℕ
 base_text h c ts = base_front h c ts ++ line_text (digest_data (base_front h c ts))

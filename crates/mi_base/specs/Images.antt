@@ -16,6 +16,10 @@ pub record IsImageOf (s : Shape) (t image : Table) : Type 0 where
 abbrev pub image_at : List Table → ℕ → Table
 image_at images n = slice_index_or images n (record { rows = []; lists = []; next = 0; arrivals = 0 })
 
-pub record AreImagesOf (d : Database) (images : List Table) : Type 0 where
-  pub one_each : length images ≡ length d.catalog.tables
-  pub each : (n : ℕ) → n < length images → IsImageOf (schema_of d n) (table_of d n) (image_at images n)
+-- one for each of the first n tables
+pub record AreFirstImages (n : ℕ) (d : Database) (images : List Table) : Type 0 where
+  pub one_each : length images ≡ n
+  pub each : (i : ℕ) → i < length images → IsImageOf (schema_of d i) (table_of d i) (image_at images i)
+
+abbrev pub AreImagesOf : Database → List Table → Type 0
+AreImagesOf d images = AreFirstImages (length d.catalog.tables) d images

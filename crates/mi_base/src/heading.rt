@@ -1,9 +1,8 @@
 //! The heading of a base, and the numbers in front of a table's rows, as values of JSON and back. It reads and writes no stream.
-ghost use Rattle.std.specs.Prelude.{◌≡◌, IfOk, ℕ, List, option_map, option_and_then};
+ghost use Rattle.std.specs.Prelude.{◌≡◌, IfOk, option_map, option_and_then};
 ghost use Rattle.serde_json.specs.Find.{get, as_number, as_u64, as_str};
 ghost use Rattle.serde_json.specs.View.{view};
-ghost use Rattle.sha2.specs.Sha256.{sha256};
-ghost use Rattle.mi_base.specs.Base.{digest_data};
+ghost use Rattle.mi_base.specs.Base.{digits_data};
 
 use serde_json::{Value, json};
 use std::alloc::{AllocError, Global};
@@ -122,9 +121,9 @@ impl Head {
 }
 
 /// The digest of what stands in front, as JSON.
-#[tactic(auto, unfolding(crate::specs::Base::digest_data))]
+#[tactic(auto, unfolding(crate::specs::Base::digits_data))]
 pub(crate) fn digest_value(alloc: Global, digest: &[u8; 32]) -> Result<Value, AllocError>
-    ensures { IfOk result (λ v. (front : List ℕ) → digest.now ≡ sha256 front → view v ≡ digest_data front) }
+    ensures { IfOk result (λ v. view v ≡ digits_data digest.now) }
 {
     let digits = hex::encode(alloc, digest.as_slice())?;
     json!(in alloc; {"sha256": digits.as_str()})

@@ -8,6 +8,7 @@ use serde_json::Value;
 use std::alloc::{AllocError, Global};
 
 /// Ids as JSON.
+#[tactic(auto, unfolding(crate::specs::Base::list_data))]
 pub(crate) fn list_value(alloc: Global, ids: &[u64]) -> Result<Value, AllocError>
     ensures { IfOk result (λ v. view v ≡ list_data ids.now) }
 {

@@ -1,6 +1,7 @@
 //! A row as a value of JSON, and back. It knows one schema, and no stream.
 ghost use Rattle.std.specs.Prelude.{◌≡◌, ◌++◌, IfOk, IfSome, OnOk, [], ◌∷◌, ℕ, List, Some, true, map, option_map};
 ghost use Rattle.std.specs.List.{AllByRecursion};
+ghost use Rattle.serde_json.specs.Data.{number, unsigned};
 ghost use Rattle.serde_json.specs.View.{view};
 ghost use Rattle.mi_value.specs.Lent.{lent};
 ghost use Rattle.mi_value.specs.declared.value.Value.{Value as ValueSpec};
@@ -94,6 +95,28 @@ fn record_of(alloc: Global, schema: &Schema, items: &[Value]) -> Result<Option<R
     Ok(if schema.fits_record(&row) { Some(row) } else { None })
 }
 
+/// The row that the items of an array are in a table of this schema.
+fn row_in(
+    alloc: Global,
+    schema: &Schema,
+    items: &[Value],
+) -> Result<Option<(u64, Record)>, AllocError>
+    ensures fits { IfOk result (λ found. IfSome found (λ r. fits_record schema.now.columns r.1 ≡ true)) }
+    ensures exact { IfOk result (λ found. (r : Row) → map view items.now ≡ number (unsigned r.0) ∷ map value_data r.1 → FitsRow schema.now r
+        → found ≡ Some r) }
+{
+    let Some((first, items)) = items.split_first() else {
+        return Ok(None);
+    };
+    let Some(id) = first.as_u64() else {
+        return Ok(None);
+    };
+    match record_of(alloc, schema, items)? {
+        Some(row) => Ok(Some((id, row))),
+        None => Ok(None),
+    }
+}
+
 /// The row that JSON is in a table of this schema.
 pub(crate) fn row_of(
     alloc: Global,
@@ -103,17 +126,8 @@ pub(crate) fn row_of(
     ensures fits { IfOk result (λ found. IfSome found (λ r. fits_record schema.now.columns r.1 ≡ true)) }
     ensures exact { IfOk result (λ found. (r : Row) → view value.now ≡ row_data r → FitsRow schema.now r → found ≡ Some r) }
 {
-    let Some(items) = value.as_array() else {
-        return Ok(None);
-    };
-    let Some((first, items)) = items.as_slice().split_first() else {
-        return Ok(None);
-    };
-    let Some(id) = first.as_u64() else {
-        return Ok(None);
-    };
-    match record_of(alloc, schema, items)? {
-        Some(row) => Ok(Some((id, row))),
+    match value.as_array() {
+        Some(items) => row_in(alloc, schema, items.as_slice()),
         None => Ok(None),
     }
 }

@@ -75,7 +75,7 @@ fn put_lists<W: Write>(
     digest: &mut Sha256,
     out: &mut W,
 ) -> Result<(), WriteFault>
-    ensures { OnOk result (Puts (W.contents out.old) (W.contents out.new) digest.old digest.new (map list_data (map (λ l. l.items) lists.now))) }
+    ensures { OnOk result (Puts (W.contents out.old) (W.contents out.new) digest.old digest.new (map (λ l. list_data l.items) lists.now)) }
 {
     'lists: for list in lists {
         put_list(alloc, list.as_slice(), digest, out)?;
@@ -97,6 +97,16 @@ fn put_head<W: Write>(
     put_line(alloc, &value, digest, out)
 }
 
+/// The lists behind the first.
+fn others(lists: &[Vec<u64>]) -> &[Vec<u64>]
+    ensures { result.now ≡ drop 1 lists.now }
+{
+    match lists.split_first() {
+        Some((_ids, others)) => others,
+        None => lists,
+    }
+}
+
 /// Writes a table: its numbers, its rows, and the lists of all indexes but the first.
 fn put_image<W: Write>(
     alloc: Global,
@@ -110,12 +120,11 @@ fn put_image<W: Write>(
     let head = Head {
         arrivals: image.arrivals,
         next: image.next,
-        rows: image.rows.len() as u64,
+        rows: image.rows.as_slice().len() as u64,
     };
     put_head(alloc, schema.table_name(), head, digest, out)?;
     put_rows(alloc, image.rows.as_slice(), digest, out)?;
-    let (_ids, lists) = image.lists.split_at(image.lists.len().min(1));
-    put_lists(alloc, lists, digest, out)
+    put_lists(alloc, others(image.lists.as_slice()), digest, out)
 }
 
 /// Writes the image of a table of a database.
