@@ -3,3 +3,4 @@ pub mod LineLemmas
 pub mod FlatLemmas
 pub mod ArrayLemmas
 pub mod TableLemmas
+pub mod ReadLemmas

@@ -60,3 +60,10 @@ pub(crate) fn put<T: Drop>(list: &mut Vec<T>, item: T) -> Result<(), AllocError>
 {
     Ok(list.push(item)?)
 }
+
+/// Puts an item in front of the first.
+pub(crate) fn put_first<T: Drop>(list: &mut Vec<T>, item: T) -> Result<(), AllocError>
+    ensures { OnOk result (list.new.items ≡ item ∷ list.old.items) }
+{
+    Ok(list.insert(0, item)?)
+}
