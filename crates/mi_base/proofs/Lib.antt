@@ -4,3 +4,4 @@ pub mod FlatLemmas
 pub mod ArrayLemmas
 pub mod TableLemmas
 pub mod ReadLemmas
+pub mod ImageLemmas

@@ -1,7 +1,7 @@
 -- Lines that are read one after another, and what is left where they stand first.
 -- Cited by `read_rows`, `read_lists`.
 use Rattle.std.proofs.Common.{◌≡◌, ℕ, zero, suc, ◌+◌, ◌<◌, List, [], ◌∷◌, ◌++◌, map, length, Option, Some, None, Result, Err, refl, sym, ap, ◌∙◌, subst, arith, append_assoc}
-use Rattle.std.specs.Prelude.{IfSome}
+use Rattle.std.specs.Prelude.{IfSome, IfErr}
 use Rattle.std.specs.List.{AllByRecursion}
 use Rattle.std.proofs.lemmas.List.{append-nil, length-append, map-append}
 use Rattle.std.specs.declared.alloc.Global.{Global}
@@ -149,3 +149,13 @@ pub list_fails : (b : Option (List ℕ)) (q : BaseFault)
     → IfSome b (λ bytes. (y : List ℕ) (rest : List ℕ) → Unit {0} × IsPlain (list_data y) → bytes ≡ line_text (list_data y) ++ rest → IsFormat q → ⊥)
 list_fails None q h = tt
 list_fails (Some bytes) q h = λ y rest fits e. h y rest fits.1 e
+
+pub end_fails : {B : Type 0} (d : Data) (o : Option (List ℕ)) (q : BaseFault) (r : Result B BaseFault) → r ≡ Err q
+    → IfSome o (λ bytes. (x : Data) (rest : List ℕ) → x ≡ d → bytes ≡ line_text x ++ rest → IsFormat q → ⊥)
+    → IfErr r (λ e. IsFormat e → IfSome o (λ bytes. bytes ≡ line_text d → ⊥))
+end_fails d o q r is h = subst (λ x. IfErr x (λ e. IsFormat e → IfSome o (λ bytes. bytes ≡ line_text d → ⊥))) (sym is) (λ f. by o h f)
+  where
+    by : (o : Option (List ℕ)) → IfSome o (λ bytes. (x : Data) (rest : List ℕ) → x ≡ d → bytes ≡ line_text x ++ rest → IsFormat q → ⊥)
+        → IsFormat q → IfSome o (λ bytes. bytes ≡ line_text d → ⊥)
+    by None h f = tt
+    by (Some bytes) h f = λ e. h d [] refl (e ∙ sym (append-nil (line_text d))) f

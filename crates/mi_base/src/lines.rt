@@ -92,6 +92,23 @@ impl<R> BaseLines<R> {
         self.digest.update(self.line.as_slice());
         Ok(())
     }
+
+    /// Whether the line that was read last is the digest of those that were accepted.
+    fn check_digest(&mut self, alloc: Global) -> Result<(), BaseFault>
+        ensures ok { OnOk result ((front : List ℕ) → Holds256 (digest_of self.old) front → last_line self.old ≡ line_text (digest_data front)) }
+        ensures exact { (front : List ℕ) → Holds256 (digest_of self.old) front
+            → IfErr result (λ e. IsFormat e → last_line self.old ≡ line_text (digest_data front) → ⊥) }
+        ensures reader { reader_of self.new ≡ reader_of self.old }
+    {
+        let digest = self.digest.finalize_reset();
+        let value = digest_value(alloc, &digest)?;
+        let line = line_of(alloc, &value)?;
+        if line.as_bytes() == self.line.as_slice() {
+            Ok(())
+        } else {
+            Err(BaseFault::Torn)
+        }
+    }
 }
 
 impl<R: BufRead> BaseLines<R> {
@@ -130,18 +147,15 @@ impl<R: BufRead> BaseLines<R> {
         }
     }
 
-    /// Reads the last line, which is to be the digest of those that were accepted, and answers whether it is.
+    /// Reads the last line, which is to be the digest of those that were accepted.
     pub(crate) fn ends(&mut self, alloc: Global) -> Result<(), BaseFault>
         ensures ok { OnOk result ((front : List ℕ) → Holds256 (digest_of self.old) front
             → Consumes (R.remaining (reader_of self.old)) (R.remaining (reader_of self.new)) (line_text (digest_data front))) }
         ensures exact { (front : List ℕ) → Holds256 (digest_of self.old) front
-            → Reads (λ _. line_text (digest_data front)) (λ (u : ⊤). Unit {0}) (λ _ _. Unit {0}) (R.remaining (reader_of self.old)) (R.remaining (reader_of self.new)) result }
+            → Reads line_text (λ d. d ≡ digest_data front) (λ _ _. Unit {0}) (R.remaining (reader_of self.old)) (R.remaining (reader_of self.new)) result }
     {
         self.advance()?;
-        let digest = self.digest.finalize_reset();
-        let value = digest_value(alloc, &digest)?;
-        let line = line_of(alloc, &value)?;
-        if line.as_bytes() == self.line.as_slice() { Ok(()) } else { Err(BaseFault::Torn) }
+        self.check_digest(alloc)
     }
 
     /// Whether nothing is left to read.

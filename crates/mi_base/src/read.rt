@@ -184,6 +184,7 @@ fn read_table<R: BufRead>(
     ensures exact { Reads (λ t. lines_text (table_lines schema.now t)) (λ t. IsImage schema.now t × AllByRecursion IsPlain (table_lines schema.now t))
         (λ image t. image_table image ≡ t) (R.remaining (reader_of lines.old)) (R.remaining (reader_of lines.new)) result }
 {
+    schema.keeps_rules();
     let head = read_head(alloc, schema.table_name(), lines)?;
     let rows = read_rows(alloc, schema, head.rows, lines)?;
     let mut lists = read_lists(alloc, schema.index_count() - 1, lines)?;
