@@ -5,3 +5,4 @@ pub mod ArrayLemmas
 pub mod TableLemmas
 pub mod ReadLemmas
 pub mod ImageLemmas
+pub mod BaseLemmas
