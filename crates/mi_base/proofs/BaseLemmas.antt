@@ -69,6 +69,9 @@ going_wrong ss (Some bytes) b s left done q h one = λ ts rest can e.
     at_some b _ _ at one y.0 (lines_text (tables_lines left y.1.0) ++ rest)
     (both.0.0, all_front IsPlain (table_lines s y.0) (tables_lines left y.1.0) both.1) refl
 
+left_from : (ss : List Shape) (i : ℕ) (s0 : Shape) → i < length ss → drop i ss ≡ get_or ss i s0 ∷ drop (i + 1) ss
+left_from ss i s0 l = let one : suc i ≡ i + 1 = omega arith in drop-cons ss i s0 l ∙ ap (λ n. get_or ss i s0 ∷ drop n ss) one
+
 -- the first tables, as they were read
 abbrev pub ReadFirst : List Shape → List Table → Type 0
 ReadFirst ss [] = Unit {0}
@@ -102,6 +105,9 @@ so_none ss old d = record {
   going = going_begins ss old;
 }
 
+pub so_begins : (ss : List Shape) (old : Option (List ℕ)) (d : Sha256) (done : List Table) → done ≡ [] → ReadSo ss old old d d 0 done
+so_begins ss old d done is = subst (ReadSo ss old old d d 0) (sym is) (so_none ss old d)
+
 pub so_more : (ss : List Shape) (a b c : Option (List ℕ)) (d e g : Sha256) (i : ℕ) (done : List Table) (s0 s : Shape) (u : Table) (new : List Table)
     → new ≡ done ++ u ∷ [] → i < length ss → s ≡ get_or ss i s0 → ReadSo ss a b d e i done → Takes b c e g (table_lines s u) → IsRead s u
     → IfSome b (λ bytes. (t : Table) (rest : List ℕ) → CanBe s t → bytes ≡ lines_text (table_lines s t) ++ rest → (u ≡ t) × (c ≡ Some rest))
@@ -117,14 +123,14 @@ so_more ss a b c d e g i done s0 s u new is l at h k fit one = subst (ReadSo ss 
   })
   where
     split : drop i ss ≡ s ∷ drop (i + 1) ss
-    split = drop-cons ss i s0 l ∙ ap (λ x. x ∷ drop (i + 1) ss) (sym at)
+    split = left_from ss i s0 l ∙ ap (λ x. x ∷ drop (i + 1) ss) (sym at)
 
 pub so_fails : {B : Type 0} (ss : List Shape) (Same : B → List Table → Type 0) (old b : Option (List ℕ)) (d e : Sha256) (i : ℕ) (done : List Table) (s0 s : Shape)
     (q : BaseFault) (later : Option (List ℕ)) (r : Result B BaseFault) → r ≡ Err q → i < length ss → s ≡ get_or ss i s0 → ReadSo ss old b d e i done
     → IfSome b (λ bytes. (t : Table) (rest : List ℕ) → CanBe s t → bytes ≡ lines_text (table_lines s t) ++ rest → IsFormat q → ⊥)
     → Reads (λ ts. lines_text (tables_lines ss ts)) (CanBeAll ss) Same old later r
 so_fails ss Same old b d e i done s0 s q later r is l at h one =
-    let split : drop i ss ≡ s ∷ drop (i + 1) ss = drop-cons ss i s0 l ∙ ap (λ x. x ∷ drop (i + 1) ss) (sym at) in
+    let split : drop i ss ≡ s ∷ drop (i + 1) ss = left_from ss i s0 l ∙ ap (λ x. x ∷ drop (i + 1) ss) (sym at) in
     subst (λ o. Reads (λ ts. lines_text (tables_lines ss ts)) (CanBeAll ss) Same old later o) (sym is)
     (going_wrong ss old b s (drop (i + 1) ss) done q (subst (λ x. GoingOn ss old b x done) split h.going) one)
 
