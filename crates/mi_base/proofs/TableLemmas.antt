@@ -3,7 +3,7 @@
 use Rattle.std.proofs.Common.{◌≡◌, ℕ, zero, suc, ◌+◌, ◌<◌, Bool, true, false, nat_lt, List, [], ◌∷◌, ◌++◌, map, drop, take, length, get_or, Option, Result, Ok, Err, refl, sym, ap, ◌∙◌, subst, arith, append_assoc}
 use Rattle.std.specs.Prelude.{OnOk}
 use Rattle.std.proofs.lemmas.Bool.Decides.{nat_tests}
-use Rattle.std.proofs.lemmas.List.{append-nil, length-append}
+use Rattle.std.proofs.lemmas.List.{append-nil, length-append, length-map, length-take-le, map-append, take_more}
 use Rattle.std.specs.declared.alloc.Global.{Global}
 use Rattle.std.specs.declared.vec.Vec.{Vec}
 use Rattle.std.specs.Io.KnownBytes.{Appends}
@@ -13,7 +13,6 @@ use Rattle.serde_json.specs.Data.{Data}
 use Rattle.mi_catalog.specs.Shape.{Shape, CatalogShape, schema_at}
 use Rattle.mi_catalog.specs.Key.{Row}
 use Rattle.mi_model.specs.Table.{Table}
-use Rattle.mi_model.specs.Database.{Database, schema_of, table_of}
 use Rattle.mi_container.specs.declared.restore.TableImage.{TableImage}
 use Rattle.mi_container.specs.Restore.{image_table}
 use Rattle.mi_base.specs.declared.heading.Heading.{Heading}
@@ -22,7 +21,6 @@ use Rattle.mi_base.specs.Lines.{line_text, lines_text}
 use Rattle.mi_base.specs.Base.{head_data, head_of, row_data, list_data, heading_data, digest_data, table_lines, tables_lines, base_front, base_text}
 use Rattle.mi_base.specs.Writes.{Puts}
 use Rattle.mi_base.specs.Reads.{ArePlain}
-use Rattle.mi_base.specs.Images.{IsImageOf, image_at, AreFirstImages, AreImagesOf}
 use Rattle.mi_base.proofs.LineLemmas.{puts_none, puts_both, appends_both}
 
 each_items : (ls : List (Vec ℕ Global)) → map (λ l. list_data l.items) ls ≡ map list_data (map (λ l. l.items) ls)
@@ -61,55 +59,22 @@ tables_more (s ∷ ss) (u ∷ ts) other t l =
     append_assoc (table_lines s u) (tables_lines ss ts) (table_lines (get_or ss (length ts) other) t)
     ∙ ap (λ x. table_lines s u ++ x) (tables_more ss ts other t (omega arith))
 
--- the first images, and one more
-image_push : (ts : List Table) (t : Table) → image_at (ts ++ t ∷ []) (length ts) ≡ t
-image_push [] t = refl
-image_push (u ∷ ts) t = image_push ts t
+-- the tables so far are written, and one more
+pub put_none : (ss : List Shape) (o : Option (List ℕ)) (d : Sha256) → Puts o o d d (tables_lines ss [])
+put_none ss o d = subst (Puts o o d d) (sym (tables_none ss)) (puts_none o d)
 
-image_before : (ts : List Table) (t : Table) (i : ℕ) → i < length ts → image_at (ts ++ t ∷ []) i ≡ image_at ts i
-image_before [] t i l = absurd (omega arith)
-image_before (u ∷ ts) t zero l = refl
-image_before (u ∷ ts) t (suc i) l = image_before ts t i (omega arith)
-
-pub first_none : (d : Database) → AreFirstImages 0 d []
-first_none d = record { one_each = refl; each = λ i l. absurd (omega (arith, l)) }
-
-pub first_more : (n : ℕ) (d : Database) (ts : List Table) (t : Table) → AreFirstImages n d ts → IsImageOf (schema_of d n) (table_of d n) t
-    → AreFirstImages (n + 1) d (ts ++ t ∷ [])
-first_more n d ts t h is =
-    let long = length-append ts (t ∷ []) in
-    let same = h.one_each in
-    record {
-      one_each = omega (arith, long, same);
-      each = λ i l. by (nat_lt i n) i refl l;
-    }
-  where
-    by : (b : Bool) (i : ℕ) → nat_lt i n ≡ b → i < length (ts ++ t ∷ []) → IsImageOf (schema_of d i) (table_of d i) (image_at (ts ++ t ∷ []) i)
-    by true i e l = let same = h.one_each in let low : i < length ts = grind (arith, same, nat_tests) in
-        subst (IsImageOf (schema_of d i) (table_of d i)) (sym (image_before ts t i low)) (h.each i low)
-    by false i e l =
-        let long = length-append ts (t ∷ []) in
-        let same = h.one_each in
-        let here : i ≡ n = grind (arith, same, long, nat_tests) in
-        let there : n ≡ length ts = sym same in
-        subst (λ k. IsImageOf (schema_of d k) (table_of d k) (image_at (ts ++ t ∷ []) k)) (sym here)
-        (subst (IsImageOf (schema_of d n) (table_of d n)) (sym (ap (image_at (ts ++ t ∷ [])) there ∙ image_push ts t)) is)
-
--- some first images are written
-abbrev pub ArePut : Database → ℕ → Option (List ℕ) → Option (List ℕ) → Sha256 → Sha256 → Type 0
-ArePut d n old new p q = (images : List Table) × AreFirstImages n d images × Puts old new p q (tables_lines d.catalog.tables images)
-
-pub put_none : (d : Database) (o : Option (List ℕ)) (p : Sha256) → ArePut d 0 o o p p
-put_none d o p = ([], first_none d, subst (Puts o o p p) (sym (tables_none d.catalog.tables)) (puts_none o p))
-
-pub put_more : (d : Database) (n : ℕ) (a b c : Option (List ℕ)) (p q r : Sha256) → n < length d.catalog.tables → ArePut d n a b p q
-    → (image : Table) × IsImageOf (schema_of d n) (table_of d n) image × Puts b c q r (table_lines (schema_of d n) image)
-    → ArePut d (n + 1) a c p r
-put_more d n a b c p q r l h k =
-    let same = h.1.one_each in
-    let low : length h.0 < length d.catalog.tables = omega (arith, same, l) in
-    let is : schema_at d.catalog n ≡ schema_at d.catalog (length h.0) = ap (schema_at d.catalog) (sym same) in
-    (h.0 ++ k.0 ∷ [], first_more n d h.0 k.0 h.1 k.1,
-    subst (Puts a c p r) (tables_more d.catalog.tables h.0 _ k.0 low)
-    (puts_both a b c p q r (tables_lines d.catalog.tables h.0) (table_lines (schema_at d.catalog (length h.0)) k.0) h.2
-    (subst (λ s. Puts b c q r (table_lines s k.0)) is k.2)))
+pub put_more : (ss : List Shape) (is : List TableImage) (i : ℕ) (s0 s : Shape) (x : TableImage) (a b c : Option (List ℕ)) (d e g : Sha256)
+    → i < length is → length is ≡ length ss → s ≡ get_or ss i s0 → x ≡ get_or is i x
+    → Puts a b d e (tables_lines ss (map image_table (take i is))) → Puts b c e g (table_lines s (image_table x))
+    → Puts a c d g (tables_lines ss (map image_table (take (i + 1) is)))
+put_more ss is i s0 s x a b c d e g l long at item h k =
+    let count : length (map image_table (take i is)) ≡ i = length-map (take i is) image_table ∙ length-take-le i is (omega (arith, l)) in
+    let low : length (map image_table (take i is)) < length ss = omega (arith, count, l, long) in
+    let one : map image_table (take i is) ++ image_table x ∷ [] ≡ map image_table (take (i + 1) is) =
+        sym (map-append image_table (take i is) (x ∷ [])) ∙ ap (λ y. map image_table (take i is ++ y ∷ [])) item
+        ∙ ap (map image_table) (sym (take_more is i x l)) in
+    subst (λ ts. Puts a c d g (tables_lines ss ts)) one
+    (subst (Puts a c d g) (tables_more ss (map image_table (take i is)) s0 (image_table x) low)
+    (puts_both a b c d e g (tables_lines ss (map image_table (take i is)))
+    (table_lines (get_or ss (length (map image_table (take i is))) s0) (image_table x)) h
+    (subst (λ y. Puts b c e g (table_lines y (image_table x))) (at ∙ ap (λ n. get_or ss n s0) (sym count)) k)))
