@@ -1,8 +1,8 @@
--- The line that tells the status of a service: its connections, who of them holds sessions, how many sessions are open, how far the journal
--- is, how much memory and how many rows each table has, and since how many seconds it is there. With connection 2 alone, which holds the one
--- session over an empty table:
+-- The line that tells the status of a service: its connections, and who of them holds sessions. Then how many sessions are open, how far the
+-- journal is, how much memory and how many rows each table has, and since how many seconds it is there. With connection 2 alone, which holds
+-- the one session over an empty table:
 -- {"connections":[{"holds":true,"lines":1,"number":2,"since":1,"unsent":0}],"depth":1,"holder":2,
--- "journal":{"bytes":119,"full":false,"synced":119},"ok":true,"tables":[{"memory":67184,"name":"accounts","size":0}],"uptime":60,"version":"0.1.0"}
+-- "journal":{"bytes":119,"full":false,"synced":119},"ok":true,"tables":[{"memory":70000,"name":"accounts","size":0}],"uptime":60,"version":"0.1.0"}
 use Rattle.std.specs.Prelude.{◌≡◌, ◌⊎◌, ℕ, ◌+◌, List, [], ◌∷◌, ◌++◌, length, Bool, true, false, ◌==◌, if◌then◌else◌, Option, Some, None, codes, decimal, get_or, IfSome}
 use Rattle.std.specs.Option.{option_map_or}
 use Rattle.mi_catalog.specs.Shape.{Shape}
@@ -102,7 +102,7 @@ memory_line = codes "{\"error\":\"memory\",\"ok\":false}\n"
 abbrev pub Counts : Option (List ℕ) → Option ℕ → Type 0
 Counts told count = IfSome count (λ n. IfSome told (λ bytes. n ≡ length bytes))
 
--- a log's state, where this was appended, this stays, and the log lacks room or doesn't: where it counts its bytes and tells them, they are as many
+-- a log's state, where this was appended, this stays, and the log lacks room or doesn't: where it counts bytes and tells them, they are as many
 abbrev pub IsStateOf : Option (List ℕ) → Option (List ℕ) → Bool → LogState → Type 0
 IsStateOf appended stays lacks j = (j.is_full ≡ lacks) × Counts appended j.bytes × Counts stays j.synced
 

@@ -70,13 +70,21 @@ fn file_log(host: &HostRuntime, path: &str) -> io::Result<DeviceLog<RoomFile<Fil
     Ok(DeviceLog::new(device))
 }
 
+/// Whether a log has so many bytes, and says that so many of them stay.
+fn has_synced(log: &DeviceLog<RoomFile<File>>, bytes: u64, synced: u64) -> bool {
+    let state = log.state();
+    state.bytes == Some(bytes) && state.synced == Some(synced)
+}
+
 /// Appends a line to it, and one more in room that is made. Answers what the file has after each.
 fn append_two(rt: &impl Abort, host: &HostRuntime, path: &str) -> io::Result<(Vec<u8>, Vec<u8>)> {
     let mut log = file_log(host, path)?;
     check(rt, is_synced(&mut log, b"cd\n"), "one line");
+    check(rt, has_synced(&log, 6, 6), "all stay");
     let first = fs::read(host, path)?;
     let is_appended = log.make_room(100) && log.append(b"efg\n").is_ok();
     check(rt, is_appended, "one in its room");
+    check(rt, has_synced(&log, 10, 6), "one doesn't stay yet");
     Ok((first, fs::read(host, path)?))
 }
 
