@@ -1,4 +1,5 @@
 -- What holds of all tables of the old catalog holds of those of the new one.
+-- Cited by `catalogs::reshaped_all`.
 use Rattle.std.proofs.Common.{◌≡◌, ℕ, zero, suc, ◌<◌, List, [], ◌∷◌, map, length, slice_index_or, Vec, Global, refl, sym, ap, ◌∙◌, subst, arith}
 use Rattle.std.specs.Prelude.{IfOk, OnOk, option_and_then}
 use Rattle.std.specs.Option.{option_map_or}
@@ -18,7 +19,7 @@ use Rattle.mi_reshape.specs.declared.fault.CatalogFault.{CatalogFault}
 use Rattle.mi_reshape.specs.Reshaped.{reshaped_table, other_type, RowsFit}
 use Rattle.mi_reshape.specs.Catalogs.{table_under, tables_under, other_column, TablesFit, TablesHold}
 use Rattle.mi_reshape.proofs.FitLemmas.{reshaped_fits}
-use Rattle.mi_reshape.proofs.TableLemmas.{reshaped_is_table}
+use Rattle.mi_reshape.proofs.TableLemmas.{all_at, reshaped_is_table}
 use Rattle.mi_reshape.proofs.SameLemmas.{within_any}
 
 none_listed : (s : Shape) (is : List Index) → AllByRecursion (ListsEach (opened s)) (map (λ _. []) is)
@@ -33,11 +34,6 @@ map_at f [] k d e within = absurd (omega arith)
 map_at f (x ∷ xs) zero d e within = refl
 map_at f (x ∷ xs) (suc k) d e within = map_at f xs k d e (omega arith)
 
-all_at : {X : Type 0} (P : X → Type 0) (xs : List X) (k : ℕ) (d : X) → AllByRecursion P xs → k < length xs → P (slice_index_or xs k d)
-all_at P [] k d all within = absurd (omega arith)
-all_at P (x ∷ xs) zero d all within = all.0
-all_at P (x ∷ xs) (suc k) d all within = all_at P xs k d all.1 (omega arith)
-
 found_within : (c : CatalogShape) (s : Shape) (x : ℕ) → find_table c s.table_name ≡ Some x → x < length c.tables
 found_within c s x e = (position-Some _ c.tables x s e).0
 
@@ -47,30 +43,34 @@ old_at : (c : CatalogShape) (tables : List Table) (s : Shape) (x : ℕ) → leng
     → slice_index_or tables x (opened (schema_at c x)) ≡ slice_index_or tables x (opened s)
 old_at c tables s x long within = within_any tables x _ _ (subst (λ n. x < n) (sym long) within)
 
-under_holds : (from : CatalogShape) (tables : List Table) (s : Shape) (o : Option ℕ) → length tables ≡ length from.tables → ((x : ℕ) → o ≡ Some x → x < length from.tables)
+under_holds : (from : CatalogShape) (tables : List Table) (s : Shape) (o : Option ℕ)
+    → length tables ≡ length from.tables → ((x : ℕ) → o ≡ Some x → x < length from.tables)
     → TablesHold from tables → IsTable s (option_map_or (λ x. reshaped_table (schema_at from x) s (slice_index_or tables x (opened s))) o (opened s))
 under_holds from tables s None long within hold = opened_holds s
 under_holds from tables s (Some x) long within hold =
     let there = within x refl in
     reshaped_is_table (schema_at from x) s _ (subst (IsTable (schema_at from x)) (old_at from tables s x long there) (hold x there))
 
-under_fits : (from : CatalogShape) (tables : List Table) (s : Shape) (o : Option ℕ) → length tables ≡ length from.tables → ((x : ℕ) → o ≡ Some x → x < length from.tables)
+under_fits : (from : CatalogShape) (tables : List Table) (s : Shape) (o : Option ℕ)
+    → length tables ≡ length from.tables → ((x : ℕ) → o ≡ Some x → x < length from.tables)
     → option_and_then (λ x. other_type (schema_at from x) s) o ≡ None → TablesFit from tables
     → RowsFit s (option_map_or (λ x. reshaped_table (schema_at from x) s (slice_index_or tables x (opened s))) o (opened s)).rows
 under_fits from tables s None long within none fit = tt
 under_fits from tables s (Some x) long within none fit =
     let there = within x refl in
-    reshaped_fits (schema_at from x) s (slice_index_or tables x (opened s)) none (subst (λ (t : Table). RowsFit (schema_at from x) t.rows) (old_at from tables s x long there) (fit x there))
+    reshaped_fits (schema_at from x) s (slice_index_or tables x (opened s)) none
+    (subst (λ (t : Table). RowsFit (schema_at from x) t.rows) (old_at from tables s x long there) (fit x there))
 
 -- All of them
 
-tables_hold : (from to : CatalogShape) (tables : List Table) → length tables ≡ length from.tables → TablesHold from tables → TablesHold to (tables_under from to tables)
+tables_hold : (from to : CatalogShape) (tables : List Table) → length tables ≡ length from.tables → TablesHold from tables
+    → TablesHold to (tables_under from to tables)
 tables_hold from to tables long hold x within =
     subst (IsTable (schema_at to x)) (sym (map_at (table_under from tables) to.tables x _ (opened (schema_at to x)) within))
     (under_holds from tables (schema_at to x) (find_table from (schema_at to x).table_name) long (found_within from (schema_at to x)) hold)
 
-tables_fit : (from to : CatalogShape) (tables : List Table) → length tables ≡ length from.tables → AllByRecursion (λ s. other_column from s ≡ None) to.tables
-    → TablesFit from tables → TablesFit to (tables_under from to tables)
+tables_fit : (from to : CatalogShape) (tables : List Table) → length tables ≡ length from.tables
+    → AllByRecursion (λ s. other_column from s ≡ None) to.tables → TablesFit from tables → TablesFit to (tables_under from to tables)
 tables_fit from to tables long none fit x within =
     subst (λ (t : Table). RowsFit (schema_at to x) t.rows) (sym (map_at (table_under from tables) to.tables x _ (opened (schema_at to x)) within))
     (under_fits from tables (schema_at to x) (find_table from (schema_at to x).table_name) long (found_within from (schema_at to x))

@@ -1,8 +1,9 @@
 -- Rows that fit the old schema fit the new one.
-use Rattle.std.proofs.Common.{◌≡◌, ℕ, zero, suc, ◌+◌, ◌<◌, Bool, true, false, cond, List, [], ◌∷◌, map, length, slice_index_or, refl, sym, ap, ◌∙◌, arith}
+-- Cited by `laws::reshaped_fits`, `CatalogLemmas`, `ResultLemmas` and `SameLemmas`.
+use Rattle.std.proofs.Common.{◌≡◌, ℕ, zero, suc, ◌+◌, ◌<◌, Bool, true, false, cond, List, [], ◌∷◌, map, length, slice_index_or, refl, sym, ◌∙◌, arith}
 use Rattle.std.specs.Prelude.{not, ◌&&◌}
 use Rattle.std.specs.Option.{option_map_or}
-use Rattle.std.specs.List.{AllByRecursion, position, position_from}
+use Rattle.std.specs.List.{AllByRecursion, position_from}
 use Rattle.std.specs.declared.option.Option.{Option}
 use Rattle.std.specs.declared.option.Option.TheVariants.{None, Some}
 use Rattle.std.proofs.lemmas.Bool.{and_parts}
@@ -15,8 +16,7 @@ use Rattle.mi_catalog.specs.declared.index.Column.{Column}
 use Rattle.mi_catalog.specs.Shape.{Shape, find_column}
 use Rattle.mi_catalog.specs.Key.{Row}
 use Rattle.mi_catalog.specs.Fits.{fits_type, fits_record}
-use Rattle.mi_model.specs.Table.{Table}
-use Rattle.mi_reshape.specs.Reshaped.{first_value, reshaped_value, reshaped_row, reshaped_table, same_type, column_at, keeps_type, other_type, RowsFit, ReshapedFits}
+use Rattle.mi_reshape.specs.Reshaped.{first_value, reshaped_value, reshaped_row, same_type, column_at, keeps_type, RowsFit, ReshapedFits}
 
 first_fits : (kind : ColumnType) → fits_type kind (first_value kind) ≡ true
 first_fits Int = refl

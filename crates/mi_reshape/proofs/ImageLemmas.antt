@@ -1,4 +1,5 @@
 -- The table of an image that is found by its number.
+-- Cited by `catalogs::put_one`.
 use Rattle.std.proofs.Common.{◌≡◌, ℕ, zero, suc, ◌<◌, List, [], ◌∷◌, map, length, slice_index_or, sym, ap, ◌∙◌, arith}
 use Rattle.std.specs.Prelude.{IfOk}
 use Rattle.std.specs.Option.{option_map_or}
@@ -19,8 +20,9 @@ image_at [] n image t within is = absurd (omega arith)
 image_at (i ∷ images) zero image t within is = sym (ap image_table is)
 image_at (i ∷ images) (suc n) image t within is = image_at images n image t (omega arith) is
 
-under_found : (from : CatalogShape) (old s : Shape) (tables : List Table) (n : ℕ) (t : Table) (r : Result TableImage ReshapeFault) → Some n ≡ find_table from s.table_name
-    → old ≡ schema_at from n → slice_index_or tables n (opened s) ≡ t → IfOk r (λ m. image_table m ≡ reshaped_table old s t)
+under_found : (from : CatalogShape) (old s : Shape) (tables : List Table) (n : ℕ) (t : Table) (r : Result TableImage ReshapeFault)
+    → Some n ≡ find_table from s.table_name → old ≡ schema_at from n → slice_index_or tables n (opened s) ≡ t
+    → IfOk r (λ m. image_table m ≡ reshaped_table old s t)
     → IfOk r (λ m. image_table m ≡ table_under from tables s)
 under_found from old s tables n t (Ok m) found is at e =
     e ∙ ap (λ o. reshaped_table o s t) is ∙ sym (ap (reshaped_table (schema_at from n) s) at)

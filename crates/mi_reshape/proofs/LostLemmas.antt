@@ -1,5 +1,6 @@
 -- One column more of those that are dropped.
-use Rattle.std.proofs.Common.{◌≡◌, ℕ, ◌+◌, ◌<◌, cond, List, [], ◌∷◌, ◌++◌, length, slice_index_or, sym, ap, ◌∙◌, subst}
+-- Cited by `lost::add_columns`.
+use Rattle.std.proofs.Common.{◌≡◌, ℕ, ◌+◌, ◌<◌, cond, List, [], ◌∷◌, ◌++◌, length, slice_index_or, ap, ◌∙◌, subst}
 use Rattle.std.specs.Option.{is_some}
 use Rattle.std.specs.List.{flat_map, range_with_len}
 use Rattle.std.specs.declared.option.Option.TheVariants.{Some}
@@ -14,7 +15,8 @@ use Rattle.mi_reshape.proofs.SameLemmas.{within_any}
 abbrev added : ℕ → Shape → ℕ → Column → List DroppedPart
 added t to n column = cond (is_some (find_column to column.name)) [] (record { table = t; column = Some n } ∷ [])
 
-pub column_more : (t : ℕ) (from to : Shape) (columns : List Column) (n : ℕ) (column : Column) (made before base : List DroppedPart) → columns ≡ from.columns → n < length columns
+pub column_more : (t : ℕ) (from to : Shape) (columns : List Column) (n : ℕ) (column : Column) (made before base : List DroppedPart)
+    → columns ≡ from.columns → n < length columns
     → column ≡ slice_index_or columns n column
     → made ≡ before ++ cond (is_some (find_column to column.name)) [] (record { table = t; column = Some n } ∷ [])
     → before ≡ base ++ flat_map (lost_column t from to) (range_with_len 0 n) → made ≡ base ++ flat_map (lost_column t from to) (range_with_len 0 (n + 1))

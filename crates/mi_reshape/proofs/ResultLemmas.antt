@@ -1,4 +1,5 @@
 -- What the laws say of a reshaped table, of a call's result.
+-- Cited by `reshape::reshaped`.
 use Rattle.std.proofs.Common.{◌≡◌, sym, subst}
 use Rattle.std.specs.Prelude.{IfOk, OnOk}
 use Rattle.std.specs.declared.option.Option.TheVariants.{None}
@@ -20,7 +21,7 @@ result_fits from to i (Ok m) e n = λ fit. subst (λ (t : Table). RowsFit to t.r
 result_fits from to i (Err f) e n = tt
 
 -- a result is a table
-pub result_holds : (from to : Shape) (i : TableImage) (r : Result TableImage ReshapeFault) → IfOk r (λ m. image_table m ≡ reshaped_table from to (image_table i))
-    → IfOk r (λ m. IsTable from (image_table i) → IsTable to (image_table m))
+pub result_holds : (from to : Shape) (i : TableImage) (r : Result TableImage ReshapeFault)
+    → IfOk r (λ m. image_table m ≡ reshaped_table from to (image_table i)) → IfOk r (λ m. IsTable from (image_table i) → IsTable to (image_table m))
 result_holds from to i (Ok m) e = λ is. subst (IsTable to) (sym e) (reshaped_is_table from to (image_table i) is)
 result_holds from to i (Err f) e = tt

@@ -1,9 +1,9 @@
 -- Under its own schema a table stays what it is.
-use Rattle.std.proofs.Common.{◌≡◌, ℕ, zero, suc, ◌+◌, ◌<◌, Bool, true, false, cond, List, [], ◌∷◌, map, length, slice_index_or, refl, sym, ap, ◌∙◌, subst, arith}
-use Rattle.std.specs.Prelude.{not, ◌&&◌, ◌||◌, bytes_eq, codes, option_and_then}
+-- Cited by `laws::reshaped_to_same`, `CatalogLemmas` and `LostLemmas`.
+use Rattle.std.proofs.Common.{◌≡◌, ℕ, zero, suc, ◌+◌, ◌<◌, Bool, true, false, cond, List, [], ◌∷◌, map, length, slice_index_or, refl, sym, ap, ◌∙◌, arith}
+use Rattle.std.specs.Prelude.{not, ◌||◌, bytes_eq, codes, option_and_then}
 use Rattle.std.specs.Option.{option_map_or}
-use Rattle.std.specs.List.{AllByRecursion, list_all, list_any, position, position_from}
-use Rattle.std.specs.declared.option.Option.{Option}
+use Rattle.std.specs.List.{list_all, list_any, position, position_from}
 use Rattle.std.specs.declared.option.Option.TheVariants.{None, Some}
 use Rattle.std.proofs.lemmas.Bool.{and_parts, false≢true}
 use Rattle.std.proofs.lemmas.Slice.Eq.{bytes_eq-Decides}
@@ -14,12 +14,13 @@ use Rattle.mi_catalog.specs.declared.index.Column.{Column}
 use Rattle.mi_catalog.specs.declared.index.Index.{Index}
 use Rattle.mi_catalog.specs.declared.index.IndexKind.{IndexKind}
 use Rattle.mi_catalog.specs.declared.index.IndexKind.TheVariants.{Ordered, Ranked, Hashed, Sequenced}
-use Rattle.mi_catalog.specs.Shape.{Shape, find_column, find_index, index_at}
+use Rattle.mi_catalog.specs.Shape.{Shape, index_at}
 use Rattle.mi_catalog.specs.Key.{Row}
-use Rattle.mi_catalog.specs.Rules.{are_distinct, are_columns, are_indexes, is_declared_index, is_id_index, is_schema}
+use Rattle.mi_catalog.specs.Rules.{are_distinct, are_indexes, is_declared_index, is_schema}
 use Rattle.mi_catalog.specs.Fits.{fits_record}
 use Rattle.mi_model.specs.Table.{Table, list_of, IsTable}
-use Rattle.mi_reshape.specs.Reshaped.{first_value, reshaped_value, reshaped_row, reshaped_list, reshaped_table, column_at, same_kind, same_flag, same_parts, same_index, kept_index, RowsFit, ReshapedToSame}
+use Rattle.mi_reshape.specs.Reshaped.{first_value, reshaped_value, reshaped_row, reshaped_list, column_at, same_kind, same_flag, same_parts}
+use Rattle.mi_reshape.specs.Reshaped.{same_index, kept_index, RowsFit, ReshapedToSame}
 use Rattle.mi_reshape.proofs.FitLemmas.{and_both}
 
 -- The first of a name is the one
@@ -35,8 +36,8 @@ not_true : (b : Bool) → not b ≡ true → b ≡ false
 not_true true e = absurd (cc)
 not_true false e = refl
 
-other_name : {X : Type 0} (name : X → List ℕ) (n : List ℕ) (xs : List X) (k : ℕ) (d : X) → list_any (λ other. bytes_eq n other) (map name xs) ≡ false → k < length xs
-    → bytes_eq n (name (slice_index_or xs k d)) ≡ false
+other_name : {X : Type 0} (name : X → List ℕ) (n : List ℕ) (xs : List X) (k : ℕ) (d : X)
+    → list_any (λ other. bytes_eq n other) (map name xs) ≡ false → k < length xs → bytes_eq n (name (slice_index_or xs k d)) ≡ false
 other_name name n [] k d none within = absurd (omega arith)
 other_name name n (x ∷ xs) zero d none within = (neither _ _ none).0
 other_name name n (x ∷ xs) (suc k) d none within = other_name name n xs k d (neither _ _ none).1 (omega arith)
@@ -129,7 +130,9 @@ free_names : (columns : ℕ) (n : List ℕ) (is : List Index) → n ≡ codes "i
 free_names columns n [] e h = refl
 free_names columns n (j ∷ is) e h =
     let free : bytes_eq j.name (codes "id") ≡ false = not_true _ (and_parts _ _ (and_parts _ _ (and_parts _ _ h).0).0).1 in
-    let other : bytes_eq n j.name ≡ false = turned (bytes_eq n j.name) (λ t. absurd (false≢true (sym free ∙ (bytes_eq-Decides j.name (codes "id")).1 (sym ((bytes_eq-Decides n j.name).0 t) ∙ e)))) in
+    let other : bytes_eq n j.name ≡ false =
+    turned (bytes_eq n j.name)
+    (λ t. absurd (false≢true (sym free ∙ (bytes_eq-Decides j.name (codes "id")).1 (sym ((bytes_eq-Decides n j.name).0 t) ∙ e)))) in
     or_neither _ _ other (free_names columns n is e (and_parts _ _ h).1)
   where
     turned : (b : Bool) → (b ≡ true → b ≡ false) → b ≡ false

@@ -1,5 +1,6 @@
 -- A table of the old schema becomes one of the new.
-use Rattle.std.proofs.Common.{◌≡◌, ℕ, ◌+◌, ◌<◌, Bool, true, false, cond, inl, inr, List, [], ◌∷◌, map, length, refl, sym, ap, ◌∙◌, subst, arith}
+-- Cited by `laws::reshaped_is_table`, `CatalogLemmas` and `ResultLemmas`.
+use Rattle.std.proofs.Common.{◌≡◌, ℕ, zero, suc, ◌<◌, Bool, true, false, cond, inl, inr, List, [], ◌∷◌, map, length, slice_index_or, refl, sym, ap, ◌∙◌, subst, arith}
 use Rattle.std.specs.Prelude.{◌==◌, option_and_then}
 use Rattle.std.specs.Option.{option_map_or, is_some}
 use Rattle.std.specs.List.{AllByRecursion}
@@ -13,16 +14,22 @@ use Rattle.mi_value.specs.declared.value.Value.{Value}
 use Rattle.mi_catalog.specs.declared.index.Index.{Index}
 use Rattle.mi_catalog.specs.Shape.{Shape, find_index, index_at}
 use Rattle.mi_catalog.specs.Key.{Row}
-use Rattle.mi_model.specs.Table.{Table, has, list_of, Rise, times, ListsEach, IsTable}
-use Rattle.mi_model.proofs.TableLaws.{all_get}
+use Rattle.mi_model.specs.Table.{Table, list_of, Rise, times, ListsEach, IsTable}
 use Rattle.mi_reshape.specs.Reshaped.{reshaped_row, same_index, kept_index, reshaped_list, reshaped_table, ReshapedIsTable}
 
 abbrev put : Shape → Shape → Row → Row
 put from to r = (r.0, reshaped_row from to r.1)
 
+-- what holds of each element holds of that of a number
+pub all_at : {X : Type 0} (P : X → Type 0) (xs : List X) (k : ℕ) (d : X) → AllByRecursion P xs → k < length xs → P (slice_index_or xs k d)
+all_at P [] k d all within = absurd (omega arith)
+all_at P (x ∷ xs) zero d all within = all.0
+all_at P (x ∷ xs) (suc k) d all within = all_at P xs k d all.1 (omega arith)
+
 -- The ids stay
 
-above_stay : (from to : Shape) (a : ℕ) (rows : List Row) → AllByRecursion (λ (q : Row). a < q.0) rows → AllByRecursion (λ (q : Row). a < q.0) (map (put from to) rows)
+above_stay : (from to : Shape) (a : ℕ) (rows : List Row) → AllByRecursion (λ (q : Row). a < q.0) rows
+    → AllByRecursion (λ (q : Row). a < q.0) (map (put from to) rows)
 above_stay from to a [] all = tt
 above_stay from to a (r ∷ rows) all = (all.0, above_stay from to a rows all.1)
 
@@ -80,9 +87,10 @@ kept_within from to j x e = (position-Some _ from.indexes x j (kept_of (λ y. sa
 list_by : (from : Shape) (t : Table) (o : Option ℕ) → IsTable from t → ((x : ℕ) → o ≡ Some x → x < length from.indexes)
     → ListsEach t (option_map_or (list_of t) o (map (λ r. r.0) t.rows))
 list_by from t None is within e = ids_once t.next e t.rows is.ordered
-list_by from t (Some x) is within e = all_get (ListsEach t) t.lists x is.complete (subst (λ n. x < n) (sym is.one_each) (within x refl)) e
+list_by from t (Some x) is within e = all_at (ListsEach t) t.lists x [] is.complete (subst (λ n. x < n) (sym is.one_each) (within x refl)) e
 
-lists_each : (from to : Shape) (t : Table) (js : List Index) → IsTable from t → AllByRecursion (ListsEach (reshaped_table from to t)) (map (reshaped_list from to t) js)
+lists_each : (from to : Shape) (t : Table) (js : List Index) → IsTable from t
+    → AllByRecursion (ListsEach (reshaped_table from to t)) (map (reshaped_list from to t) js)
 lists_each from to t [] is = tt
 lists_each from to t (j ∷ js) is = (
   λ id. list_by from t (kept_index from to j) is (kept_within from to j) id ∙ sym (ap (λ b. cond {A = ℕ} b 1 0) (has_stays from to id t.rows)),

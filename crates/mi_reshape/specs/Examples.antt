@@ -1,7 +1,6 @@
 -- A table of people under another schema: each statement is proved by computation.
 use Rattle.std.specs.Prelude.{◌≡◌, ℕ, pos, Bool, true, false, List, [], ◌∷◌, codes}
 use Rattle.std.specs.declared.option.Option.TheVariants.{None, Some}
-use Rattle.mi_value.specs.declared.value.Value.{Value}
 use Rattle.mi_value.specs.declared.value.Value.TheVariants.{Int, Text, Flag}
 use Rattle.mi_value.specs.declared.value.ColumnType.{ColumnType}
 use Rattle.mi_value.specs.declared.value.ColumnType.TheVariants as column
@@ -9,7 +8,7 @@ use Rattle.mi_value.specs.declared.compare.KeyPart.{KeyPart}
 use Rattle.mi_catalog.specs.declared.index.Column.{Column}
 use Rattle.mi_catalog.specs.declared.index.Index.{Index}
 use Rattle.mi_catalog.specs.declared.index.IndexKind.TheVariants.{Ordered, Ranked, Sequenced}
-use Rattle.mi_catalog.specs.Shape.{Shape, CatalogShape}
+use Rattle.mi_catalog.specs.Shape.{Shape}
 use Rattle.mi_model.specs.Table.{Table, list_of}
 use Rattle.mi_reshape.specs.Reshaped.{reshaped_table, other_type}
 use Rattle.mi_reshape.specs.Catalogs.{tables_under, lost}
@@ -69,7 +68,7 @@ two = record {
 abbrev pub TwoPeople : Type 0
 TwoPeople = reshaped_table people citizens two ≡ record {
   rows =
-  (3, Flag true ∷ Text (codes "Bo") ∷ Text [] ∷ Int (pos 0) ∷ []) ∷ (7, Flag false ∷ Text (codes "Al") ∷ Text [] ∷ Int (pos 0) ∷ []) ∷ [];
+      (3, Flag true ∷ Text (codes "Bo") ∷ Text [] ∷ Int (pos 0) ∷ []) ∷ (7, Flag false ∷ Text (codes "Al") ∷ Text [] ∷ Int (pos 0) ∷ []) ∷ [];
   lists = (3 ∷ 7 ∷ []) ∷ (7 ∷ 3 ∷ []) ∷ (3 ∷ 7 ∷ []) ∷ [];
   next = 9;
   arrivals = 12;

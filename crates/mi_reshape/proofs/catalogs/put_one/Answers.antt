@@ -11,5 +11,6 @@ returns-in-Some-clause-table c =
     let found = c.in-Some.ensures ∙ ap (find_table c.args.from.now) c.table_name.ensures in
     let within : n < length c.args.from.now.tables = (position-Some _ c.args.from.now.tables n c.args.to.now (sym found)).0 in
     let there = subst (λ m. n < m) (sym c.requires) within in
-    under_result c.args.from.now c.table.result.now c.args.to.now c.args.images.now n c.index-images-number.result c.put_under.result there found c.table.ensures
-    c.index-images-number.is c.put_under.ensures.table
+    let image = c.index-images-number in
+    under_result c.args.from.now c.table.result.now c.args.to.now c.args.images.now n image.result c.put_under.result there found c.table.ensures image.is
+    c.put_under.ensures.table
