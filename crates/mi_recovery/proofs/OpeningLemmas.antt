@@ -1,5 +1,5 @@
 -- The first line of a journal, and what is done before the first connection comes.
--- Cited by `journal_text::text_size`, `opening::continued`, `opening::cut_off`, `opening::found`, `opening::opened` and 2 more.
+-- Cited by `journal_text::text_size`, `opening::continued`, `opening::cut_off`, `opening::found`, `opening::opened` and 4 more.
 use Rattle.std.proofs.Common.{◌≡◌, ◌≤◌, ℕ, List, [], ◌∷◌, ◌++◌, ◌<◌, zero, suc, take, get_or, nat_eq, length, Bool, true, false, cond, ◌==◌, Option, Some, None, option_map, Result, Ok, Err, drop, ◌-◌, ◌+◌, refl, sym, ap, ◌∙◌, subst, append-nil, length-append, arith}
 use Rattle.std.proofs.Math.Seq.{take-length}
 use Rattle.mi_recovery.specs.JournalFile.{text_of, from_byte, IsCutTo}
@@ -33,7 +33,7 @@ resumed_makes appended steps hub first mid last log start undone kept is same p 
     (subst (λ l. Makes steps first mid (appended l) (appended undone)) same p)) stays more
 
 -- what stands behind the last newline is no longer than all
-after_within : (bs : List ℕ) → length (after_newlines bs) ≤ length bs
+pub after_within : (bs : List ℕ) → length (after_newlines bs) ≤ length bs
 unfolding after_newlines
 after_within [] = omega arith
 after_within (b ∷ bs) = go (ended (b ∷ bs)) (after_within bs)
