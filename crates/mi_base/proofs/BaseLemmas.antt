@@ -1,18 +1,17 @@
 -- Tables that are read one behind another, and what a whole base is.
--- Cited by `read_tables`, `read_base`.
-use Rattle.std.proofs.Common.{◌≡◌, ℕ, zero, suc, ◌+◌, ◌<◌, List, [], ◌∷◌, ◌++◌, map, drop, length, get_or, Option, Some, None, Result, Ok, Err, refl, sym, ap, ◌∙◌, subst, arith, append_assoc}
-use Rattle.std.specs.Prelude.{IfSome, MatchResult}
+-- Cited by `read::read_tables`.
+use Rattle.std.proofs.Common.{◌≡◌, ℕ, suc, ◌+◌, ◌<◌, List, [], ◌∷◌, ◌++◌, map, drop, length, get_or, Option, Some, None, Result, Err, refl, sym, ap, ◌∙◌, subst, arith, append_assoc}
+use Rattle.std.specs.Prelude.{IfSome}
 use Rattle.std.specs.List.{AllByRecursion, AllZip}
 use Rattle.std.proofs.lemmas.List.{append-nil, length-append, map-append}
 use Rattle.std.proofs.Math.Seq.{drop-cons}
 use Rattle.sha2.specs.declared.Sha256.{Sha256}
-use Rattle.serde_json.specs.Data.{Data}
 use Rattle.mi_catalog.specs.Shape.{Shape}
 use Rattle.mi_model.specs.Table.{Table}
 use Rattle.mi_container.specs.declared.restore.TableImage.{TableImage}
 use Rattle.mi_container.specs.Restore.{image_table}
 use Rattle.mi_base.specs.declared.fault.BaseFault.{BaseFault}
-use Rattle.mi_base.specs.Lines.{line_text, lines_text, IsPlain}
+use Rattle.mi_base.specs.Lines.{lines_text, IsPlain}
 use Rattle.mi_base.specs.Base.{table_lines, tables_lines}
 use Rattle.mi_base.specs.Reads.{IsRead, IsImage, IsFormat, Reads}
 use Rattle.mi_base.specs.Reader.{Takes}
@@ -46,13 +45,17 @@ going_on ss (Some bytes) b c s left done u h one = λ ts rest can e.
     let y = one_left s left g.0 g.1.1.0.0 in
     let both : CanBeAll (s ∷ left) (y.0 ∷ y.1.0) = subst (CanBeAll (s ∷ left)) y.1.1 g.1.1.0 in
     let at : b ≡ Some (lines_text (table_lines s y.0) ++ (lines_text (tables_lines left y.1.0) ++ rest)) =
-        g.1.1.1 ∙ ap (λ t. Some (lines_text (tables_lines (s ∷ left) t) ++ rest)) y.1.1
-        ∙ ap (λ x. Some (x ++ rest)) (lines_both (table_lines s y.0) (tables_lines left y.1.0))
-        ∙ ap Some (append_assoc (lines_text (table_lines s y.0)) (lines_text (tables_lines left y.1.0)) rest) in
+    g.1.1.1 ∙ ap (λ t. Some (lines_text (tables_lines (s ∷ left) t) ++ rest)) y.1.1
+    ∙ ap (λ x. Some (x ++ rest)) (lines_both (table_lines s y.0) (tables_lines left y.1.0))
+    ∙ ap Some (append_assoc (lines_text (table_lines s y.0)) (lines_text (tables_lines left y.1.0)) rest) in
     let r = at_some b _ _ at one y.0 (lines_text (tables_lines left y.1.0) ++ rest)
-        (both.0.0, all_front IsPlain (table_lines s y.0) (tables_lines left y.1.0) both.1) refl in
-    (y.1.0, (g.1.0 ∙ ap (λ t. done ++ t) y.1.1 ∙ ap (λ z. done ++ z ∷ y.1.0) (sym r.0) ∙ sym (append_assoc done (u ∷ []) y.1.0),
-    ((both.0.1, all_back IsPlain (table_lines s y.0) (tables_lines left y.1.0) both.1), r.1)))
+    (both.0.0, all_front IsPlain (table_lines s y.0) (tables_lines left y.1.0) both.1) refl in (
+      y.1.0,
+      (
+        g.1.0 ∙ ap (λ t. done ++ t) y.1.1 ∙ ap (λ z. done ++ z ∷ y.1.0) (sym r.0) ∙ sym (append_assoc done (u ∷ []) y.1.0),
+        ((both.0.1, all_back IsPlain (table_lines s y.0) (tables_lines left y.1.0) both.1), r.1),
+      ),
+    )
 
 going_wrong : (ss : List Shape) (old b : Option (List ℕ)) (s : Shape) (left : List Shape) (done : List Table) (q : BaseFault) → GoingOn ss old b (s ∷ left) done
     → IfSome b (λ bytes. (t : Table) (rest : List ℕ) → CanBe s t → bytes ≡ lines_text (table_lines s t) ++ rest → IsFormat q → ⊥)
@@ -63,9 +66,9 @@ going_wrong ss (Some bytes) b s left done q h one = λ ts rest can e.
     let y = one_left s left g.0 g.1.1.0.0 in
     let both : CanBeAll (s ∷ left) (y.0 ∷ y.1.0) = subst (CanBeAll (s ∷ left)) y.1.1 g.1.1.0 in
     let at : b ≡ Some (lines_text (table_lines s y.0) ++ (lines_text (tables_lines left y.1.0) ++ rest)) =
-        g.1.1.1 ∙ ap (λ t. Some (lines_text (tables_lines (s ∷ left) t) ++ rest)) y.1.1
-        ∙ ap (λ x. Some (x ++ rest)) (lines_both (table_lines s y.0) (tables_lines left y.1.0))
-        ∙ ap Some (append_assoc (lines_text (table_lines s y.0)) (lines_text (tables_lines left y.1.0)) rest) in
+    g.1.1.1 ∙ ap (λ t. Some (lines_text (tables_lines (s ∷ left) t) ++ rest)) y.1.1
+    ∙ ap (λ x. Some (x ++ rest)) (lines_both (table_lines s y.0) (tables_lines left y.1.0))
+    ∙ ap Some (append_assoc (lines_text (table_lines s y.0)) (lines_text (tables_lines left y.1.0)) rest) in
     at_some b _ _ at one y.0 (lines_text (tables_lines left y.1.0) ++ rest)
     (both.0.0, all_front IsPlain (table_lines s y.0) (tables_lines left y.1.0) both.1) refl
 
@@ -113,14 +116,14 @@ pub so_more : (ss : List Shape) (a b c : Option (List ℕ)) (d e g : Sha256) (i 
     → IfSome b (λ bytes. (t : Table) (rest : List ℕ) → CanBe s t → bytes ≡ lines_text (table_lines s t) ++ rest → (u ≡ t) × (c ≡ Some rest))
     → ReadSo ss a c d g (i + 1) new
 so_more ss a b c d e g i done s0 s u new is l at h k fit one = subst (ReadSo ss a c d g (i + 1)) (sym is) (record {
-    takes = subst (Takes a c d g) (tables_more ss done s0 u (let same = h.count in omega (arith, same, l)))
-        (takes_both a b c d e g (tables_lines ss done) (table_lines (get_or ss (length done) s0) u) h.takes
-        (subst (λ x. Takes b c e g (table_lines x u)) (at ∙ ap (λ n. get_or ss n s0) (sym h.count)) k));
-    count = let same = h.count in let long = length-append done (u ∷ []) in omega (arith, same, long);
-    fits = first_push ss done s0 u (let same = h.count in omega (arith, same, l)) h.fits
-        (subst (λ x. IsRead x u) (at ∙ ap (λ n. get_or ss n s0) (sym h.count)) fit);
-    going = going_on ss a b c s (drop (i + 1) ss) done u (subst (λ x. GoingOn ss a b x done) split h.going) one;
-  })
+  takes = subst (Takes a c d g) (tables_more ss done s0 u (let same = h.count in omega (arith, same, l)))
+      (takes_both a b c d e g (tables_lines ss done) (table_lines (get_or ss (length done) s0) u) h.takes
+      (subst (λ x. Takes b c e g (table_lines x u)) (at ∙ ap (λ n. get_or ss n s0) (sym h.count)) k));
+  count = let same = h.count in let long = length-append done (u ∷ []) in omega (arith, same, long);
+  fits = first_push ss done s0 u (let same = h.count in omega (arith, same, l)) h.fits
+      (subst (λ x. IsRead x u) (at ∙ ap (λ n. get_or ss n s0) (sym h.count)) fit);
+  going = going_on ss a b c s (drop (i + 1) ss) done u (subst (λ x. GoingOn ss a b x done) split h.going) one;
+})
   where
     split : drop i ss ≡ s ∷ drop (i + 1) ss
     split = left_from ss i s0 l ∙ ap (λ x. x ∷ drop (i + 1) ss) (sym at)
@@ -144,9 +147,10 @@ so_ends ss None b d e i done none h = tt
 so_ends ss (Some bytes) b d e i done none h = λ ts rest can e.
     let g = h.going ts rest can e in
     let all : CanBeAll [] g.0 = subst (λ x. CanBeAll x g.0) none g.1.1.0 in
-    let more = none_left g.0 all.0 in
-    (sym (g.1.0 ∙ ap (λ t. done ++ t) more ∙ append-nil done),
-    g.1.1.1 ∙ ap (λ x. Some (lines_text (tables_lines x g.0) ++ rest)) none)
+    let more = none_left g.0 all.0 in (
+      sym (g.1.0 ∙ ap (λ t. done ++ t) more ∙ append-nil done),
+      g.1.1.1 ∙ ap (λ x. Some (lines_text (tables_lines x g.0) ++ rest)) none,
+    )
 
 pub images_push : (is : List TableImage) (i : TableImage) (new : List TableImage) → new ≡ is ++ i ∷ [] → map image_table new ≡ map image_table is ++ image_table i ∷ []
 images_push is i new e = ap (map image_table) e ∙ map-append image_table is (i ∷ [])

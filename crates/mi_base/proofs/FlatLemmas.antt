@@ -1,10 +1,8 @@
 -- What a base is made of has no floats and is nested once.
--- Cited by `put_row`.
-use Rattle.std.proofs.Common.{◌≡◌, ◌≤◌, ◌+◌, ◌||◌, ℕ, suc, List, [], ◌∷◌, map, Bool, true, false, refl, ap, ◌∙◌, arith, ℤ, pos, negsuc}
+-- Cited by `BaseLines::check_digest`, `read::take_head`, `read::take_heading`, `read::take_list`, `read::take_row` and 5 more.
+use Rattle.std.proofs.Common.{◌≡◌, ◌||◌, ℕ, List, [], ◌∷◌, map, false, refl, ap, ◌∙◌, arith, pos, negsuc}
 use Rattle.std.specs.Prelude.{max}
-use Rattle.serde_json.specs.Data.{Data, number, unsigned, negative, depth, items_depth}
-use Rattle.serde_json.specs.Read.{max_depth}
-use Rattle.serde_json.specs.Find.{of_integer}
+use Rattle.serde_json.specs.Data.{depth, items_depth}
 use Rattle.serde_json.specs.View.{items_of}
 use Rattle.serde_json.specs.Written.{has_float, items_have_float}
 use Rattle.mi_value.specs.declared.value.Value.{Value}

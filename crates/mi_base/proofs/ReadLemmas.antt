@@ -1,6 +1,6 @@
 -- Lines that are read one after another, and what is left where they stand first.
--- Cited by `read_rows`, `read_lists`.
-use Rattle.std.proofs.Common.{◌≡◌, ℕ, zero, suc, ◌+◌, ◌<◌, List, [], ◌∷◌, ◌++◌, map, length, Option, Some, None, Result, Err, refl, sym, ap, ◌∙◌, subst, arith, append_assoc}
+-- Cited by `read::read_end`, `read::read_lists`, `read::read_rows`, `BaseLemmas` and `ImageLemmas`.
+use Rattle.std.proofs.Common.{◌≡◌, ℕ, ◌+◌, ◌<◌, List, [], ◌∷◌, ◌++◌, map, length, Option, Some, None, Result, Err, refl, sym, ap, ◌∙◌, subst, arith, append_assoc}
 use Rattle.std.specs.Prelude.{IfSome, IfErr}
 use Rattle.std.specs.List.{AllByRecursion}
 use Rattle.std.proofs.lemmas.List.{append-nil, length-append, map-append}
@@ -47,9 +47,9 @@ module _ {A : Type 0} (f : A → Data) (F : A → Type 0) (n : ℕ) where
 
   fits_at : (xs done : List A) (y : A) (ys : List A) → AreLines xs → xs ≡ done ++ y ∷ ys → F y × IsPlain (f y)
   fits_at xs done y ys are e = (
-      all_middle F done y ys (subst (AllByRecursion F) e are.1.0),
-      all_middle IsPlain (map f done) (f y) (map f ys) (subst (AllByRecursion IsPlain) (ap (map f) e ∙ map-append f done (y ∷ ys)) are.1.1),
-    )
+    all_middle F done y ys (subst (AllByRecursion F) e are.1.0),
+    all_middle IsPlain (map f done) (f y) (map f ys) (subst (AllByRecursion IsPlain) (ap (map f) e ∙ map-append f done (y ∷ ys)) are.1.1),
+  )
 
   pub going_more : (old b c : Option (List ℕ)) (done : List A) (x : A) → length done < n → Going old b done
       → IfSome b (λ bytes. (a : A) (rest : List ℕ) → F a × IsPlain (f a) → bytes ≡ line_text (f a) ++ rest → (x ≡ a) × (c ≡ Some rest))
@@ -60,8 +60,8 @@ module _ {A : Type 0} (f : A → Data) (F : A → Type 0) (n : ℕ) where
       let y = next_is xs done g.0 are g.1.0 l in
       let split : xs ≡ done ++ y.0 ∷ y.1.0 = g.1.0 ∙ ap (λ t. done ++ t) y.1.1 in
       let left : b ≡ Some (line_text (f y.0) ++ (lines_text (map f y.1.0) ++ rest)) =
-          g.1.1 ∙ ap (λ t. Some (lines_text (map f t) ++ rest)) y.1.1
-          ∙ ap Some (append_assoc (line_text (f y.0)) (lines_text (map f y.1.0)) rest) in
+      g.1.1 ∙ ap (λ t. Some (lines_text (map f t) ++ rest)) y.1.1
+      ∙ ap Some (append_assoc (line_text (f y.0)) (lines_text (map f y.1.0)) rest) in
       let r = at_some b _ _ left one y.0 (lines_text (map f y.1.0) ++ rest) (fits_at xs done y.0 y.1.0 are split) refl in
       (y.1.0, (split ∙ ap (λ z. done ++ z ∷ y.1.0) (sym r.0) ∙ sym (append_assoc done (x ∷ []) y.1.0), r.1))
 
@@ -74,8 +74,8 @@ module _ {A : Type 0} (f : A → Data) (F : A → Type 0) (n : ℕ) where
       let y = next_is xs done g.0 are g.1.0 l in
       let split : xs ≡ done ++ y.0 ∷ y.1.0 = g.1.0 ∙ ap (λ t. done ++ t) y.1.1 in
       let left : b ≡ Some (line_text (f y.0) ++ (lines_text (map f y.1.0) ++ rest)) =
-          g.1.1 ∙ ap (λ t. Some (lines_text (map f t) ++ rest)) y.1.1
-          ∙ ap Some (append_assoc (line_text (f y.0)) (lines_text (map f y.1.0)) rest) in
+      g.1.1 ∙ ap (λ t. Some (lines_text (map f t) ++ rest)) y.1.1
+      ∙ ap Some (append_assoc (line_text (f y.0)) (lines_text (map f y.1.0)) rest) in
       at_some b _ _ left one y.0 (lines_text (map f y.1.0) ++ rest) (fits_at xs done y.0 y.1.0 are split) refl
 
   none_more : (xs done more : List A) → AreLines xs → xs ≡ done ++ more → length done ≡ n → more ≡ []

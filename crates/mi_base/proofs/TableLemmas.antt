@@ -1,27 +1,20 @@
 -- The lines of tables, as they are written and read one behind another.
--- Cited by `put_image`.
-use Rattle.std.proofs.Common.{◌≡◌, ℕ, zero, suc, ◌+◌, ◌<◌, Bool, true, false, nat_lt, List, [], ◌∷◌, ◌++◌, map, drop, take, length, get_or, Option, Result, Ok, Err, refl, sym, ap, ◌∙◌, subst, arith, append_assoc}
+-- Cited by `write::put_image`, `write::put_tables` and `BaseLemmas`.
+use Rattle.std.proofs.Common.{◌≡◌, ℕ, ◌+◌, ◌<◌, List, [], ◌∷◌, ◌++◌, map, drop, take, length, get_or, Option, Result, Ok, Err, refl, sym, ap, ◌∙◌, subst, arith, append_assoc}
 use Rattle.std.specs.Prelude.{OnOk}
-use Rattle.std.proofs.lemmas.Bool.Decides.{nat_tests}
-use Rattle.std.proofs.lemmas.List.{append-nil, length-append, length-map, length-take-le, map-append, take_more}
+use Rattle.std.proofs.lemmas.List.{append-nil, length-map, length-take-le, map-append, take_more}
 use Rattle.std.specs.declared.alloc.Global.{Global}
 use Rattle.std.specs.declared.vec.Vec.{Vec}
-use Rattle.std.specs.Io.KnownBytes.{Appends}
-use Rattle.sha2.specs.Hashers.{Holds256}
 use Rattle.sha2.specs.declared.Sha256.{Sha256}
-use Rattle.serde_json.specs.Data.{Data}
-use Rattle.mi_catalog.specs.Shape.{Shape, CatalogShape, schema_at}
+use Rattle.mi_catalog.specs.Shape.{Shape}
 use Rattle.mi_catalog.specs.Key.{Row}
 use Rattle.mi_model.specs.Table.{Table}
 use Rattle.mi_container.specs.declared.restore.TableImage.{TableImage}
 use Rattle.mi_container.specs.Restore.{image_table}
-use Rattle.mi_base.specs.declared.heading.Heading.{Heading}
 use Rattle.mi_base.specs.declared.heading.Head.{Head}
-use Rattle.mi_base.specs.Lines.{line_text, lines_text}
-use Rattle.mi_base.specs.Base.{head_data, head_of, row_data, list_data, heading_data, digest_data, table_lines, tables_lines, base_front, base_text}
+use Rattle.mi_base.specs.Base.{head_data, head_of, row_data, list_data, table_lines, tables_lines}
 use Rattle.mi_base.specs.Writes.{Puts}
-use Rattle.mi_base.specs.Reads.{ArePlain}
-use Rattle.mi_base.proofs.LineLemmas.{puts_none, puts_both, appends_both}
+use Rattle.mi_base.proofs.LineLemmas.{puts_none, puts_both}
 
 each_items : (ls : List (Vec ℕ Global)) → map (λ l. list_data l.items) ls ≡ map list_data (map (λ l. l.items) ls)
 each_items [] = refl
@@ -71,8 +64,8 @@ put_more ss is i s0 s x a b c d e g l long at item h k =
     let count : length (map image_table (take i is)) ≡ i = length-map (take i is) image_table ∙ length-take-le i is (omega (arith, l)) in
     let low : length (map image_table (take i is)) < length ss = omega (arith, count, l, long) in
     let one : map image_table (take i is) ++ image_table x ∷ [] ≡ map image_table (take (i + 1) is) =
-        sym (map-append image_table (take i is) (x ∷ [])) ∙ ap (λ y. map image_table (take i is ++ y ∷ [])) item
-        ∙ ap (map image_table) (sym (take_more is i x l)) in
+    sym (map-append image_table (take i is) (x ∷ [])) ∙ ap (λ y. map image_table (take i is ++ y ∷ [])) item
+    ∙ ap (map image_table) (sym (take_more is i x l)) in
     subst (λ ts. Puts a c d g (tables_lines ss ts)) one
     (subst (Puts a c d g) (tables_more ss (map image_table (take i is)) s0 (image_table x) low)
     (puts_both a b c d e g (tables_lines ss (map image_table (take i is)))

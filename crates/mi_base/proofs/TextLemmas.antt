@@ -1,11 +1,11 @@
 -- No newline stands within the compact text of a value, so its line is the first one of what begins with it.
--- Cited by `BaseLines::advance`.
-use Rattle.std.proofs.Common.{◌≡◌, ◌≢◌, ℕ, zero, suc, ◌+◌, ◌/◌, ◌%◌, ◌-◌, ◌||◌, ◌&&◌, List, [], ◌∷◌, ◌++◌, length, get_or, Bool, true, false, cond, nat_eq, nat_lt, ℤ, pos, negsuc}
-use Rattle.std.proofs.Common.{Option, Some, None, Result, Ok, Err, refl, sym, ap, ◌∙◌, subst, arith, flat_map, append_assoc}
+-- Cited by `BaseLines::advance` and `BaseLines::is_at_end`.
+use Rattle.std.proofs.Common.{◌≡◌, ℕ, zero, suc, ◌+◌, ◌/◌, ◌%◌, ◌-◌, ◌&&◌, List, [], ◌∷◌, ◌++◌, length, get_or, Bool, true, false, cond, nat_eq, nat_lt, ℤ, pos, negsuc}
+use Rattle.std.proofs.Common.{Option, Some, None, refl, sym, ap, ◌∙◌, arith, append_assoc}
 use Rattle.std.proofs.lemmas.Bool.Decides.{nat_tests}
 use Rattle.std.proofs.lemmas.List.{length-append}
 use Rattle.std.proofs.Math.Seq.{get_or-append_seam}
-use Rattle.std.specs.Prelude.{IfSome, MatchResult, decimal}
+use Rattle.std.specs.Prelude.{IfSome, decimal}
 use Rattle.std.specs.Char.{digit_char}
 use Rattle.std.specs.Fmt.{digit_glyph, digits_onto, digits}
 use Rattle.std.specs.Fmt.{signed_decimal}
@@ -125,9 +125,9 @@ pub line_found : (old new : Option (List ℕ)) (front line : List ℕ) → IfSom
     → IfSome old (λ bytes. (d : Data) (rest : List ℕ) → Unit {0} → bytes ≡ line_text d ++ rest → (line ≡ line_text d) × (new ≡ Some rest))
 line_found None new front line h none k = tt
 line_found (Some bytes) new front line h none k = λ d rest u e. (
-    h ∙ ap (λ t. t ++ take_through 10 bytes) none ∙ ap (take_through 10) e ∙ line_through d rest,
-    k ∙ ap (λ t. Some (drop_through 10 t)) e ∙ ap Some (line_behind d rest),
-  )
+  h ∙ ap (λ t. t ++ take_through 10 bytes) none ∙ ap (take_through 10) e ∙ line_through d rest,
+  k ∙ ap (λ t. Some (drop_through 10 t)) e ∙ ap Some (line_behind d rest),
+)
 
 -- such a line ends with its newline
 ends_so : (text : List ℕ) → ends_with_byte 10 (text ++ 10 ∷ []) ≡ true

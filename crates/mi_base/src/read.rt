@@ -239,10 +239,7 @@ fn take_heading<R>(
 }
 
 /// Reads the heading.
-fn read_heading<R: BufRead>(
-    alloc: Global,
-    lines: &mut BaseLines<R>,
-) -> Result<Heading, BaseFault>
+fn read_heading<R: BufRead>(alloc: Global, lines: &mut BaseLines<R>) -> Result<Heading, BaseFault>
     ensures ok { IfOk result (λ h. Takes (R.remaining (reader_of lines.old)) (R.remaining (reader_of lines.new)) (digest_of lines.old) (digest_of lines.new) (heading_data h ∷ [])) }
     ensures exact { Reads (λ h. line_text (heading_data h)) (λ h. IsPlain (heading_data h)) (λ h a. heading_data h ≡ heading_data a)
         (R.remaining (reader_of lines.old)) (R.remaining (reader_of lines.new)) result }

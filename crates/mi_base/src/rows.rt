@@ -92,7 +92,11 @@ fn record_of(alloc: Global, schema: &Schema, items: &[Value]) -> Result<Option<R
         return Ok(None);
     }
     let row = Record::new(alloc, values.as_slice())?;
-    Ok(if schema.fits_record(&row) { Some(row) } else { None })
+    Ok(if schema.fits_record(&row) {
+        Some(row)
+    } else {
+        None
+    })
 }
 
 /// The row that the items of an array are in a table of this schema.

@@ -1,8 +1,7 @@
 -- What a value's text is read as is the value.
-use Rattle.std.proofs.Common.{subst, sym, ap, ◌∙◌, Some}
+use Rattle.std.proofs.Common.{subst, sym, ap, ◌∙◌}
 use Rattle.std.specs.Str.{IsUtf8}
 use Rattle.std.proofs.lemmas.Str.{IsUtf8-had}
-use Rattle.serde_json.specs.View.{view}
 use Rattle.serde_json.specs.Read.{read}
 use Rattle.mi_base.proofs.line.line_of.Goals as goal
 

@@ -1,5 +1,5 @@
 -- The items of an array are those of the list that it is.
-use Rattle.std.proofs.Common.{◌∙◌, sym, ap, Some}
+use Rattle.std.proofs.Common.{◌∙◌, ap, Some}
 use Rattle.serde_json.specs.View.{items_view}
 use Rattle.mi_base.specs.Base.{list_data}
 use Rattle.mi_base.proofs.ArrayLemmas.{array_is, list_found}

@@ -13,8 +13,8 @@ returns-in_err-read_row-clause-exact g c =
 
 pub rows-preserved : goal.rows-preserved
 rows-preserved g c = (
-    read_more_by row_data (FitsRow c.args.schema.now) c.args.count _ _ _ _ _ _ c.rows._row c.rows.rows.items c.in_ok-read_row.field-0 c.put.new.list.items
-    c.in_ok-put.ensures (omega arith) c.rows.invariant.0 c.in_ok-read_row.ensures.ok c.in_ok-read_row.ensures.exact,
-    all_push_by (λ r. fits_record c.args.schema.now.columns r.1 ≡ true) c.rows.rows.items c.in_ok-read_row.field-0 c.put.new.list.items
-    c.in_ok-put.ensures c.rows.invariant.1 c.in_ok-read_row.ensures.fits,
-  )
+  read_more_by row_data (FitsRow c.args.schema.now) c.args.count _ _ _ _ _ _ c.rows._row c.rows.rows.items c.in_ok-read_row.field-0 c.put.new.list.items
+      c.in_ok-put.ensures (omega arith) c.rows.invariant.0 c.in_ok-read_row.ensures.ok c.in_ok-read_row.ensures.exact,
+  all_push_by (λ r. fits_record c.args.schema.now.columns r.1 ≡ true) c.rows.rows.items c.in_ok-read_row.field-0 c.put.new.list.items
+      c.in_ok-put.ensures c.rows.invariant.1 c.in_ok-read_row.ensures.fits,
+)

@@ -1,5 +1,5 @@
 -- A table's numbers, rows and lists are its image, and a fault says that there's none.
-use Rattle.std.proofs.Common.{◌-◌, arith, rules, map, ap, ◌∙◌, sym}
+use Rattle.std.proofs.Common.{◌-◌, arith, rules, map, ap, ◌∙◌}
 use Rattle.mi_base.proofs.ImageLemmas.{has_index, table_rows, table_lists, table_fails, table_fails_late, table_reads, table_takes, table_is, lists_of}
 use Rattle.mi_base.proofs.read.read_table.Goals as goal
 

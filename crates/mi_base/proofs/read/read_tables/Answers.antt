@@ -1,7 +1,7 @@
 -- One table more, or none where it doesn't stand.
 use Rattle.std.proofs.lemmas.List.{at_drop_all}
 use Rattle.mi_catalog.specs.Shape.{Shape}
-use Rattle.std.proofs.Common.{List, map, arith, rules, subst, sym, ap}
+use Rattle.std.proofs.Common.{List, map, arith, rules, ap}
 use Rattle.mi_container.specs.Restore.{image_table}
 use Rattle.mi_base.proofs.BaseLemmas.{so_begins, so_more, so_fails, so_ends, first_all, images_push}
 use Rattle.mi_base.proofs.read.read_tables.Goals as goal

@@ -1,5 +1,5 @@
 -- The items of an array are those of the row that it is.
-use Rattle.std.proofs.Common.{◌∷◌, map, ◌∙◌, sym, ap, Some}
+use Rattle.std.proofs.Common.{◌∷◌, map, ◌∙◌, ap, Some}
 use Rattle.serde_json.specs.Data.{number, unsigned}
 use Rattle.serde_json.specs.View.{items_view}
 use Rattle.mi_base.specs.Base.{row_data, value_data}

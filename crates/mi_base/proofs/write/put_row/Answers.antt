@@ -1,7 +1,6 @@
 -- A row has no floats, and is nested once.
 use Rattle.std.proofs.Common.{subst, sym}
 use Rattle.mi_base.specs.Lines.{IsFlat}
-use Rattle.mi_base.specs.Writes.{Puts}
 use Rattle.mi_base.proofs.FlatLemmas.{row_flat}
 use Rattle.mi_base.proofs.write.put_row.Goals as goal
 
