@@ -15,3 +15,6 @@ pub use catalogs::reshaped_all;
 pub use fault::{CatalogFault, ReshapeFault};
 pub use lost::{DroppedPart, dropped};
 pub use reshape::reshaped;
+
+#[cfg(test)]
+mod tests;
