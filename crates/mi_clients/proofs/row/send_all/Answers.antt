@@ -2,13 +2,14 @@
 use Rattle.std.proofs.Common.{rules, ◌≡◌, ◌<◌, ◌≤◌, [], length, ◌∙◌, refl, sym, ap, subst, arith}
 use Rattle.std.proofs.KnownBytes.{Keeps-refl, Keeps-trans}
 use Rattle.std.specs.Io.KnownBytes.{Keeps}
+use Rattle.std.specs.List.{All}
 use Rattle.std.specs.Prelude.{slice_set, slice_index_or}
 use Rattle.mi_hub.specs.Run.{HubState}
 use Rattle.mi_ledger.specs.Ledger.{hub_of}
 use Rattle.mi_clients.specs.Client.{IsSent}
 use Rattle.mi_clients.specs.Row.{ids, inputs, Attends, EachServed, EachUnread, EachAsFar}
 use Rattle.mi_clients.specs.declared.client.Client.{Client}
-use Rattle.mi_clients.proofs.RowLemmas.{ids_set, inputs_set, holds_none, holds_set, done_set, whole_row}
+use Rattle.mi_clients.proofs.RowLemmas.{ids_set, inputs_set, holds_none, holds_set, holds_all, done_set, whole_row}
 use Rattle.mi_clients.proofs.ServedLemmas.{nothing_given, each_none, each_set, each_then, served_then, served_owes, served_sends, sent_all, far_none, far_then, far_set, unread_none, unread_set}
 use Rattle.mi_clients.proofs.StreamLemmas.{Written, written_one, written_all}
 use Rattle.mi_clients.proofs.row.send_all.Goals as goal
@@ -66,6 +67,61 @@ loop-client-preserved g c =
       appended = Keeps-trans _ _ _ before.appended c.release.ensures.appended;
       room = c.in_ok-release.ensures.room ∙ before.room;
     }
+
+pub returns-clause-sends : goal.returns-clause-sends
+returns-clause-sends g c =
+    let old = c.args.row.now.items in
+    let row = c.loop-client.client-items in
+    let len : c.args.row.now.len ≡ length old = search rules in
+    let same : length row ≡ length old = search rules in
+    let all = whole_row old row c.args.row.now.len len same in
+    subst (EachServed g.S.Duplex.contents [] old) (sym all) c.loop-client.invariant.each
+
+pub returns-clause-sent : goal.returns-clause-sent
+returns-clause-sent g c =
+    let old = c.args.row.now.items in
+    let row = c.loop-client.client-items in
+    let len : c.args.row.now.len ≡ length old = search rules in
+    let same : length row ≡ length old = search rules in
+    let all = whole_row old row c.args.row.now.len len same in
+    let le : length row ≤ c.loop-client.client-index = omega (arith, c.loop-client-test.false, c.loop-client.auto.client-items) in
+    subst (All (λ x. IsSent x)) (sym all) (holds_all (λ x. IsSent x) row c.loop-client.client-index le c.loop-client.invariant.sent)
+
+pub returns-clause-far : goal.returns-clause-far
+returns-clause-far g c =
+    let old = c.args.row.now.items in
+    let row = c.loop-client.client-items in
+    let len : c.args.row.now.len ≡ length old = search rules in
+    let same : length row ≡ length old = search rules in
+    let all = whole_row old row c.args.row.now.len len same in
+    subst (EachAsFar old) (sym all) c.loop-client.invariant.far
+
+pub returns-clause-inputs : goal.returns-clause-inputs
+returns-clause-inputs g c =
+    let old = c.args.row.now.items in
+    let row = c.loop-client.client-items in
+    let len : c.args.row.now.len ≡ length old = search rules in
+    let same : length row ≡ length old = search rules in
+    let all = whole_row old row c.args.row.now.len len same in
+    ap inputs all ∙ c.loop-client.invariant.inputs
+
+pub returns-clause-unread : goal.returns-clause-unread
+returns-clause-unread g c =
+    let old = c.args.row.now.items in
+    let row = c.loop-client.client-items in
+    let len : c.args.row.now.len ≡ length old = search rules in
+    let same : length row ≡ length old = search rules in
+    let all = whole_row old row c.args.row.now.len len same in
+    subst (EachUnread g.S.Duplex.remaining old) (sym all) c.loop-client.invariant.unread
+
+pub returns-clause-attends : goal.returns-clause-attends
+returns-clause-attends g c =
+    let old = c.args.row.now.items in
+    let row = c.loop-client.client-items in
+    let len : c.args.row.now.len ≡ length old = search rules in
+    let same : length row ≡ length old = search rules in
+    let all = whole_row old row c.args.row.now.len len same in
+    subst (λ items. Attends (ids items) (hub_of c.loop-client.ledger).attached) (sym all) c.loop-client.invariant.attends
 
 pub returns-clause-whole : goal.returns-clause-whole
 returns-clause-whole g c =
