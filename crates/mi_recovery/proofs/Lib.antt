@@ -1,1 +1,3 @@
 mod OpeningLemmas
+mod SegmentLemmas
+mod HashLemmas

@@ -2,4 +2,6 @@
 pub mod JournalFile
 pub mod Device
 pub mod Recovery
+pub mod Names
+pub mod Segments
 pub mod Fingerprint

@@ -1,5 +1,5 @@
 -- What a journal's bytes leave when they are asked again: of "{\"journal\":1, ..}⏎start⏎st" the line "start" is replayed, and "st" is torn.
-use Rattle.std.specs.Prelude.{◌≡◌, ◌≤◌, ◌-◌, ⊤, ℕ, List, [], ◌∷◌, ◌++◌, length, take, Bool, true, false, if◌then◌else◌, Option, Some, None}
+use Rattle.std.specs.Prelude.{◌≡◌, ◌≤◌, ◌-◌, ◌+◌, min, nat_lt, ⊤, ℕ, List, [], ◌∷◌, ◌++◌, length, take, Bool, true, false, if◌then◌else◌, Option, Some, None}
 use Rattle.mi_commands.specs.Holder.{HeldDatabase, released}
 use Rattle.mi_hub.specs.Ended.{after_newlines}
 use Rattle.mi_hub.specs.Lines.{lines_of}
@@ -46,10 +46,12 @@ IsWith (Journal torn) attached = attached ≡ fresh replayer ∷ []
 
 -- A hub with this state goes on with its journal, and has that. Where there was a journal, the sessions are undone that the connection which
 -- replayed it holds, and no other, where whoever holds sessions holds one at least.
+abbrev pub IsUndone : HeldDatabase → HeldDatabase → Type 0
+IsUndone old new = (HoldsSome old.holder → new ≡ released replayer old) × (¬ (holder_conn old.holder ≡ Some replayer) → new ≡ old)
+
 abbrev pub IsResumed : Journaled → HeldDatabase → HeldDatabase → Type 0
 IsResumed Nothing old new = new ≡ old
-IsResumed (Journal torn) old new =
-    (HoldsSome old.holder → new ≡ released replayer old) × (¬ (holder_conn old.holder ≡ Some replayer) → new ≡ old)
+IsResumed (Journal torn) old new = IsUndone old new
 
 -- what was found in these bytes: a beginning of the header, or so many torn bytes at their end
 abbrev pub IsFound : List ℕ → List ℕ → Journaled → Type 0
@@ -84,6 +86,10 @@ abbrev pub ends_replay : JournalFailure → Bool
 ends_replay failure.File = true
 ends_replay failure.Schema = true
 ends_replay (failure.Line line) = true
+ends_replay (failure.Segment segment) = true
+ends_replay (failure.SegmentLine segment line) = true
+ends_replay failure.Base = true
+ends_replay failure.Sessions = false
 ends_replay failure.Memory = true
 ends_replay failure.Turns = true
 ends_replay failure.Locked = false
@@ -95,3 +101,21 @@ told_as replay.Read = failure.File
 told_as (replay.Damaged line) = failure.Line line
 told_as replay.Memory = failure.Memory
 told_as replay.Turns = failure.Turns
+
+-- The same in a segment, where so many lines were passed over: a line is told with the segment's number where that isn't the first, and a header
+-- that isn't the wanted one by the number alone.
+abbrev pub told_in : ℕ → ℕ → JournalFailure → JournalFailure
+told_in number skip failure.File = failure.File
+told_in number skip failure.Schema = if nat_lt 1 number then failure.Segment number else failure.Schema
+told_in number skip (failure.Line line) =
+    if nat_lt 1 line
+    then (if nat_lt 1 number then failure.SegmentLine number (min (line + skip) 18446744073709551615) else failure.Line (min (line + skip) 18446744073709551615))
+    else (if nat_lt 1 number then failure.Segment number else failure.Line line)
+told_in number skip (failure.Segment segment) = failure.Segment segment
+told_in number skip (failure.SegmentLine segment line) = failure.SegmentLine segment line
+told_in number skip failure.Base = failure.Base
+told_in number skip failure.Sessions = failure.Sessions
+told_in number skip failure.Locked = failure.Locked
+told_in number skip failure.Write = failure.Write
+told_in number skip failure.Memory = failure.Memory
+told_in number skip failure.Turns = failure.Turns

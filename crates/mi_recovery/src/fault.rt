@@ -1,6 +1,6 @@
 //! Why a journal isn't opened or doesn't go on, and what the system has said of it. It touches nothing.
 ghost use Rattle.std.specs.Prelude.{◌≡◌, ◌⊎◌, true};
-ghost use Rattle.mi_recovery.specs.Recovery.{ends_replay, told_as};
+ghost use Rattle.mi_recovery.specs.Recovery.{ends_replay, told_as, told_in};
 ghost use Rattle.mi_ledger.specs.declared.fault.LedgerFault.TheVariants as ledger_fault;
 ghost use Rattle.mi_recovery.specs.declared.fault.JournalFailure.TheVariants as told;
 
@@ -14,8 +14,16 @@ pub enum JournalFailure {
     File,
     /// It is one of another schema or format.
     Schema,
-    /// This line of it, from 1, isn't one of a journal.
+    /// This line of its first segment, from 1, isn't one of a journal.
     Line(u64),
+    /// The segment of this number isn't there, is one of another journal, or ends within a line though another follows.
+    Segment(u64),
+    /// In this segment, behind the first, this line isn't one of a journal. Both count from 1.
+    SegmentLine(u64, u64),
+    /// The base is torn, or is one of another schema or journal.
+    Base,
+    /// Sessions are open at its end, so no base can be made of it.
+    Sessions,
     /// Another process has it.
     Locked,
     /// It can't be appended to, or can't be made to stay.
@@ -37,6 +45,26 @@ impl JournalFailure {
             ReplayFault::Damaged(line) => JournalFailure::Line(line),
             ReplayFault::Memory => JournalFailure::Memory,
             ReplayFault::Turns => JournalFailure::Turns,
+        }
+    }
+
+    /// The same in the segment of this number, where so many lines behind its header were passed over before its lines were counted.
+    pub fn in_segment(self, number: u64, skip: u64) -> JournalFailure
+        ensures is { result ≡ told_in number skip self }
+        ensures kind { ends_replay self ≡ true → ends_replay result ≡ true }
+    {
+        match self {
+            JournalFailure::Line(line) if line > 1 => {
+                let line = line.saturating_add(skip);
+                if number > 1 {
+                    JournalFailure::SegmentLine(number, line)
+                } else {
+                    JournalFailure::Line(line)
+                }
+            }
+            JournalFailure::Line(_) | JournalFailure::Schema if number > 1 =>
+                JournalFailure::Segment(number),
+            other => other,
         }
     }
 }

@@ -1,11 +1,7 @@
-//! The file that a journal is kept in, and where it is found. It looks at no byte of the journal.
-use mi_log::{Device, RoomFile};
-use std::fs::{File, OpenOptions, TryLockError};
-use std::io::ErrorKind;
-use std::os::unix::fs::{FileExt, MetadataExt};
-use std::path::Path;
-use std::rt::Files;
-use std::{fs, io};
+//! The files that a journal is kept in, and where they are found: what is asked of them. It opens none.
+use mi_log::Device;
+use std::fs::TryLockError;
+use std::io;
 
 /// An open file of a journal: it is locked, read from its start, cut where its text ends, and written to behind its end.
 pub trait JournalFile: Device {
@@ -39,7 +35,7 @@ pub trait JournalFile: Device {
 
 /// Where journals are found by their paths.
 pub trait JournalFiles {
-    ghost use Rattle.std.specs.Prelude.{◌≡◌, ℕ, List, true, Ok};
+    ghost use Rattle.std.specs.Prelude.{◌≡◌, ℕ, List, true, Ok, IfOk, IfSome};
 
     /// What a path opens.
     type File: JournalFile + Drop;
@@ -47,8 +43,28 @@ pub trait JournalFiles {
     /// Whether a file was seen under a path.
     ghost is_seen: { Self → List ℕ → Self.File → Type 0 };
 
+    /// Whether a journal's newest segment was seen to have this number: no later one was there. It is 0 where no segment was.
+    ghost is_newest: { Self → List ℕ → ℕ → Type 0 };
+
     /// Opens the file at a path, to be read and written to behind its end; it is made where none is there.
     fn open(&self, path: &str) -> io::Result<Self::File>;
+
+    /// Opens the file at a path in the same way, where one is there.
+    fn open_there(&self, path: &str) -> io::Result<Option<Self::File>>
+        ensures { IfOk result (λ file. IfSome file (λ f. is_seen self.now path.now f)) };
+
+    /// Makes a file at a path, where none is there, and opens it in the same way. An error where one is there, which stays as it is.
+    fn make(&self, path: &str) -> io::Result<Self::File>;
+
+    /// The number of the newest segment of the journal at a path, or 0 where it has none.
+    fn newest(&self, path: &str) -> io::Result<u64>
+        ensures { IfOk result (λ number. is_newest self.now path.now number) };
+
+    /// Gives a path's file another path, in the place of what has that. Its folder isn't synced.
+    fn rename(&self, from: &str, to: &str) -> io::Result<()>;
+
+    /// Takes a path's file away. Its folder isn't synced.
+    fn remove(&self, path: &str) -> io::Result<()>;
 
     /// Whether a path names this file now.
     fn names(&self, path: &str, file: &Self::File) -> io::Result<bool>
@@ -56,90 +72,4 @@ pub trait JournalFiles {
 
     /// Makes the name of a path's file stay: its folder is synced, where the file system knows that.
     fn keep_name(&self, path: &str) -> io::Result<()>;
-}
-
-/// No clause can say what a file of the system has, so it tells nothing of its bytes.
-impl JournalFile for RoomFile<File> {
-    fn try_lock(&mut self) -> Result<(), TryLockError> {
-        self.file().try_lock()?;
-        match self.file().metadata() {
-            Ok(metadata) => {
-                self.renew(metadata.len());
-                Ok(())
-            }
-            Err(error) => Err(TryLockError::Error(error)),
-        }
-    }
-
-    fn read_at(&self, buffer: &mut [u8], at: u64) -> io::Result<usize> {
-        self.file().read_at(buffer, at)
-    }
-
-    fn size(&self) -> io::Result<u64> {
-        Ok(self.len())
-    }
-
-    fn cut_to(&mut self, size: u64) -> io::Result<()> {
-        self.cut(size)
-    }
-}
-
-/// The files of the system.
-#[derive(Drop)]
-pub struct SystemFiles<'a, R> {
-    rt: &'a R,
-}
-
-impl<'a, R> SystemFiles<'a, R> {
-    /// The files that a runtime opens.
-    pub fn new(rt: &'a R) -> SystemFiles<'a, R> {
-        SystemFiles { rt }
-    }
-}
-
-/// The folder that a path's file stands in.
-fn folder_of(path: &str) -> Path<'_> {
-    match Path::new(path).parent() {
-        Some(folder) if !folder.as_str().is_empty() => folder,
-        _ => Path::new("."),
-    }
-}
-
-impl<'a, R: Files<File = File>> JournalFiles for SystemFiles<'a, R> {
-    ghost use Rattle.std.specs.Prelude.{⊤};
-
-    type File = RoomFile<File>;
-
-    ghost is_seen = { λ _ _ _. ⊤ };
-
-    fn open(&self, path: &str) -> io::Result<RoomFile<File>> {
-        let file = OpenOptions::new()
-            .read(true)
-            .write(true)
-            .create(true)
-            .open(self.rt, path)?;
-        Ok(RoomFile::new(file, 0))
-    }
-
-    fn names(&self, path: &str, file: &RoomFile<File>) -> io::Result<bool> {
-        let opened = file.file().metadata()?;
-        match fs::metadata(self.rt, path) {
-            Ok(named) => Ok(named.ino() == opened.ino() && named.dev() == opened.dev()),
-            Err(error) => match error.kind() {
-                ErrorKind::NotFound => Ok(false),
-                _ => Err(error),
-            },
-        }
-    }
-
-    fn keep_name(&self, path: &str) -> io::Result<()> {
-        let folder = fs::open(self.rt, folder_of(path))?;
-        match folder.sync_all() {
-            Ok(()) => Ok(()),
-            Err(error) => match error.kind() {
-                ErrorKind::InvalidInput => Ok(()),
-                _ => Err(error),
-            },
-        }
-    }
 }

@@ -22,7 +22,7 @@ fn place_behind(at: u64, count: usize) -> Result<u64, JournalFault>
 
 /// How many bytes the text of a file has. Behind it stands room, or a page that a stop of the machine lost.
 ///
-/// `JournalFile` where the file can't be read.
+/// `File` where the file can't be read.
 pub fn text_size<F: JournalFile>(file: &F) -> Result<u64, JournalFault>
     ensures { IfOk result (λ size. IfSome (F.contents file.now) (λ bytes. size ≡ length (text_of bytes))) }
 {

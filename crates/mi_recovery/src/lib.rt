@@ -2,17 +2,29 @@
 //! knows a database by the hub alone.
 #![tactic(auto)]
 
+mod asking;
 mod claim;
 mod device;
 mod digest;
 mod fault;
 mod file_reader;
+mod going_on;
 mod journal_file;
 mod journal_text;
+mod names;
 mod opening;
+mod place;
+mod segments;
+mod system_files;
+mod text_hash;
 
+pub use asking::{Asked, asked};
 pub use device::{JournalDevice, Keeping};
 pub use digest::fingerprint;
 pub use fault::{JournalFailure, JournalFault};
-pub use journal_file::{JournalFile, JournalFiles, SystemFiles};
+pub use going_on::{log_of_newest, opened_behind};
+pub use journal_file::{JournalFile, JournalFiles};
+pub use names::{base_path, new_base_path, segment_number, segment_path};
 pub use opening::{FileLedger, JournalLedger, Journaled, log_error, opened, recovered, without};
+pub use place::{JournalSchema, Place, Position, first_place, segment_header};
+pub use system_files::SystemFiles;

@@ -34,7 +34,11 @@ pub type JournalLedger<F, D> = Ledger<D, DeviceLog<JournalDevice<F>>>;
 pub type FileLedger<D> = JournalLedger<RoomFile<File>, D>;
 
 /// Makes the name of a journal's file stay, where what is appended to it is made to stay.
-fn named<P: JournalFiles>(files: &P, path: &str, keeping: Keeping) -> Result<(), JournalFault> {
+pub(crate) fn named<P: JournalFiles>(
+    files: &P,
+    path: &str,
+    keeping: Keeping,
+) -> Result<(), JournalFault> {
     match keeping {
         Keeping::Synced => match files.keep_name(path) {
             Ok(()) => Ok(()),
@@ -81,7 +85,10 @@ fn is_beginning(header: &[u8], bytes: &[u8]) -> bool
 }
 
 /// Reads the first line, which is to be the header, and answers whether there is one: else there is no more than a beginning of it.
-fn read_heading<R: BufRead>(lines: &mut LogLines<R>, header: &[u8]) -> Result<bool, JournalFailure>
+pub(crate) fn read_heading<R: BufRead>(
+    lines: &mut LogLines<R>,
+    header: &[u8],
+) -> Result<bool, JournalFailure>
     ensures found { result ≡ Ok true → HasHeader header.now (R.remaining (reader_of lines.old)) (R.remaining (reader_of lines.new)) }
     ensures none { result ≡ Ok false → IfSome (R.remaining (reader_of lines.old)) (IsBeginning header.now) }
     ensures fails { IfErr result (λ failure. ends_replay failure ≡ true) }
@@ -213,7 +220,7 @@ fn size_of<F: JournalFile>(file: &F) -> Result<u64, JournalFault>
 
 /// The log of a journal that begins: what its file lacks of the header is appended to it. Nothing is cut off the file.
 ///
-/// `JournalFile` where the file is longer than the header, `Journal` where it can't be appended to.
+/// `File` where the file is longer than the header, `Write` where it can't be appended to.
 fn begun<F: JournalFile + Drop>(
     file: F,
     keeping: Keeping,
@@ -234,7 +241,7 @@ fn begun<F: JournalFile + Drop>(
     Ok(log)
 }
 
-/// A file that has nothing behind its text, which has so many bytes. `JournalFile` where it has: it is as it was then.
+/// A file that has nothing behind its text, which has so many bytes. `File` where it has: it is as it was then.
 fn check_end<F: JournalFile>(file: &F, text: u64) -> Result<(), JournalFault>
     ensures { OnOk result (IfSome (F.contents file.now) (λ bytes. text ≡ length bytes)) }
 {
@@ -256,7 +263,7 @@ fn cut_off<F: JournalFile>(file: &mut F, text: u64, torn: u64) -> Result<(), Jou
 }
 
 /// The log of a journal that goes on behind what was found in its text, which has so many bytes.
-fn continued<F: JournalFile + Drop>(
+pub(crate) fn continued<F: JournalFile + Drop>(
     file: F,
     text: u64,
     keeping: Keeping,
@@ -324,8 +331,8 @@ pub fn without<F: JournalFile + Drop, D: Sessions + Drop>(hub: Hub<D>) -> Journa
 /// byte. Behind that it is seen under its path. Then what stands behind its whole lines is cut off, or the header is appended where it has none.
 /// The sessions that were held at its end are undone, by lines that are appended, and what it has stays, its name too.
 ///
-/// `JournalLocked` where another process has the file. `JournalFile` where it can't be opened, read or cut, was moved meanwhile, or has a zero
-/// byte behind a header's beginning. `JournalSchema` and `JournalLine` where it is no journal of this header. `Journal` where it can't be
+/// `Locked` where another process has the file. `File` where it can't be opened, read or cut, was moved meanwhile, or has a zero
+/// byte behind a header's beginning. `Schema` and `Line` where it is no journal of this header. `Write` where it can't be
 /// appended to or made to stay. The file is as it was then, but that it may lack what stands behind its whole lines or have the header's begin.
 pub fn opened<P: JournalFiles, D: Sessions + Drop>(
     alloc: Global,
@@ -344,7 +351,7 @@ pub fn opened<P: JournalFiles, D: Sessions + Drop>(
     ensures stays { IfOk result (λ ledger. is_staying (device_of (log_of ledger)) ≡ is_synced keeping) }
 {
     let mut hub = hub;
-    let file = claimed(files, path)?;
+    let file = claimed(files, path, true)?;
     named(files, path, keeping)?;
     let text = text_size(&file)?;
     let found = found(alloc, &mut hub, &file, text, header.as_bytes())?;

@@ -17,6 +17,10 @@ use Rattle.mi_serving.specs.declared.failure.Failure.TheVariants.{
   JournalFile,
   JournalSchema,
   JournalLine,
+  JournalSegment,
+  JournalSegmentLine,
+  JournalBase,
+  JournalSessions,
   JournalLocked,
   Journal,
   Output,
@@ -69,6 +73,10 @@ ends_serving (Schema fault) = false
 ends_serving JournalFile = false
 ends_serving JournalSchema = false
 ends_serving (JournalLine line) = false
+ends_serving (JournalSegment segment) = false
+ends_serving (JournalSegmentLine segment line) = false
+ends_serving JournalBase = false
+ends_serving JournalSessions = false
 ends_serving JournalLocked = false
 ends_serving Output = false
 ends_serving Listen = false

@@ -22,6 +22,14 @@ pub enum Failure {
     JournalSchema,
     /// This line of the journal isn't one of a journal.
     JournalLine(u64),
+    /// This segment of the journal isn't there, is one of another journal, or ends within a line though another follows.
+    JournalSegment(u64),
+    /// In this segment of the journal this line isn't one of a journal.
+    JournalSegmentLine(u64, u64),
+    /// The journal's base is torn, or is one of another schema or journal.
+    JournalBase,
+    /// Sessions are open at the journal's end, so no base can be made of it.
+    JournalSessions,
     /// Another process has the journal.
     JournalLocked,
     /// The journal can't be appended to, or can't be made to stay.
@@ -57,6 +65,12 @@ impl Failure {
             JournalFailure::File => Failure::JournalFile,
             JournalFailure::Schema => Failure::JournalSchema,
             JournalFailure::Line(line) => Failure::JournalLine(line),
+            JournalFailure::Segment(segment) => Failure::JournalSegment(segment),
+            JournalFailure::SegmentLine(segment, line) => Failure::JournalSegmentLine(
+                segment, line,
+            ),
+            JournalFailure::Base => Failure::JournalBase,
+            JournalFailure::Sessions => Failure::JournalSessions,
             JournalFailure::Locked => Failure::JournalLocked,
             JournalFailure::Write => Failure::Journal,
             JournalFailure::Memory => Failure::Memory,
@@ -74,6 +88,10 @@ impl Failure {
             | Failure::JournalFile
             | Failure::JournalSchema
             | Failure::JournalLine(_)
+            | Failure::JournalSegment(_)
+            | Failure::JournalSegmentLine(_, _)
+            | Failure::JournalBase
+            | Failure::JournalSessions
             | Failure::JournalLocked => 3,
             Failure::Journal
             | Failure::Output
@@ -96,6 +114,13 @@ impl fmt::Display for Failure {
             Failure::JournalFile => f.write_str("journal: file"),
             Failure::JournalSchema => f.write_str("journal: schema"),
             Failure::JournalLine(line) => write!(f, "journal: line {line}"),
+            Failure::JournalSegment(segment) => write!(f, "journal: segment {segment}"),
+            Failure::JournalSegmentLine(segment, line) => write!(
+                f,
+                "journal: segment {segment} line {line}"
+            ),
+            Failure::JournalBase => f.write_str("journal: base"),
+            Failure::JournalSessions => f.write_str("journal: sessions"),
             Failure::JournalLocked => f.write_str("journal: locked"),
             Failure::Journal => f.write_str("fault: journal"),
             Failure::Output => f.write_str("fault: write"),

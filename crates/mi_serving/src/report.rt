@@ -47,6 +47,10 @@ fn place_of<'a>(fault: &Fault, options: &'a Options) -> Option<Place<'a>> {
         Failure::JournalFile
         | Failure::JournalSchema
         | Failure::JournalLine(_)
+        | Failure::JournalSegment(_)
+        | Failure::JournalSegmentLine(_, _)
+        | Failure::JournalBase
+        | Failure::JournalSessions
         | Failure::JournalLocked
         | Failure::Journal => {
             let journal = options.journal.as_ref()?;

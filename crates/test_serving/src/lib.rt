@@ -2,6 +2,10 @@
 #![tactic(auto)]
 
 #[cfg(test)]
+mod folder;
+#[cfg(test)]
+mod segments;
+#[cfg(test)]
 mod telling;
 #[cfg(test)]
 mod tests;

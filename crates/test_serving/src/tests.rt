@@ -150,6 +150,8 @@ impl<'a> JournalFiles for OneFile<'a> {
 
     ghost is_seen = { λ _ _ _. ⊤ };
 
+    ghost is_newest = { λ _ _ _. ⊤ };
+
     fn open(&self, _path: &str) -> io::Result<MemoryFile> {
         match Vec::from_slice(self.alloc, self.bytes) {
             Ok(bytes) => Ok(MemoryFile {
@@ -158,6 +160,26 @@ impl<'a> JournalFiles for OneFile<'a> {
             }),
             Err(_error) => Err(Error::from(ErrorKind::OutOfMemory)),
         }
+    }
+
+    fn open_there(&self, path: &str) -> io::Result<Option<MemoryFile>> {
+        Ok(Some(self.open(path)?))
+    }
+
+    fn make(&self, path: &str) -> io::Result<MemoryFile> {
+        self.open(path)
+    }
+
+    fn newest(&self, _path: &str) -> io::Result<u64> {
+        Ok(1)
+    }
+
+    fn rename(&self, _from: &str, _to: &str) -> io::Result<()> {
+        Ok(())
+    }
+
+    fn remove(&self, _path: &str) -> io::Result<()> {
+        Ok(())
     }
 
     fn names(&self, _path: &str, _file: &MemoryFile) -> io::Result<bool> {
