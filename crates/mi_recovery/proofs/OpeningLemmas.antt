@@ -33,7 +33,7 @@ resumed_makes appended steps hub first mid last log start undone kept is same p 
     (subst (λ l. Makes steps first mid (appended l) (appended undone)) same p)) stays more
 
 -- what stands behind the last newline is no longer than all
-after_within : (bs : List ℕ) → length (after_newlines bs) ≤ length bs
+pub after_within : (bs : List ℕ) → length (after_newlines bs) ≤ length bs
 unfolding after_newlines
 after_within [] = omega arith
 after_within (b ∷ bs) = go (ended (b ∷ bs)) (after_within bs)

@@ -18,15 +18,18 @@ use Rattle.mi_hub.specs.OneLine.{IsWholeLine}
 use Rattle.mi_replay.specs.Replayed.{replayed}
 use Rattle.mi_ledger.specs.Replay.{Passes, HasPassed}
 use Rattle.mi_clients.specs.Steps.{Step, Makes, GivesNone}
+use Rattle.mi_recovery.specs.declared.asking.Asked.{Asked}
 use Rattle.mi_recovery.specs.declared.device.Keeping.{Keeping}
 use Rattle.mi_recovery.specs.declared.opening.Journaled.{Journaled}
 use Rattle.mi_recovery.specs.declared.opening.Journaled.TheVariants.{Nothing, Journal}
 use Rattle.mi_recovery.specs.declared.place.JournalSchema.{JournalSchema}
 use Rattle.mi_recovery.specs.declared.place.Place.{Place}
+use Rattle.mi_recovery.specs.declared.place.Position.{Position}
 use Rattle.mi_recovery.specs.JournalFile.{text_of}
+use Rattle.mi_recovery.specs.Names.{segment_name}
 use Rattle.mi_recovery.specs.Recovery.{HasHeader, IsBeginning, IsFound, IsReplayed, IsUndone, Has, kept_bytes}
-use Rattle.mi_recovery.specs.Segments.{IsAsked, IsNext, GoesOn, hash_of}
-use Rattle.mi_recovery.proofs.OpeningLemmas.{after_within}
+use Rattle.mi_recovery.specs.Segments.{AsksUpTo, GoesOn, IsAsked, IsAskedBehind, IsNext, IsStart}
+use Rattle.mi_recovery.proofs.OpeningLemmas.{after_within, read_text}
 
 -- ---- lines that are passed over
 
@@ -91,7 +94,7 @@ pub asked_by : (a b c : Option (List ℕ)) (header line : List ℕ) (skip : ℕ)
 asked_by None b c header line skip old new p q held torn = tt
 asked_by (Some bytes) None c header line skip old new p q held torn = absurd p
 asked_by (Some bytes) (Some rest) None header line skip old new p q held torn = absurd q
-asked_by (Some bytes) (Some rest) (Some left) header line skip old new p q held torn = (rest, left, p, q, held, ap length torn)
+asked_by (Some bytes) (Some rest) (Some left) header line skip old new p q held torn = (rest, left, p, q, (held, ap length torn))
 
 asked_found : (header text : List ℕ) (skip : ℕ) (found : Journaled) (old new : HeldDatabase) → IsAsked header skip text found old new
     → IsFound header text found
@@ -107,14 +110,68 @@ pub asked_after : (o : Option (List ℕ)) (header : List ℕ) (skip : ℕ) (foun
 asked_after None header skip found old new p = tt
 asked_after (Some bytes) header skip found old new p = asked_found header (text_of bytes) skip found old new p
 
+-- what is read of the text is what is asked
+pub asked_text : (o known : Option (List ℕ)) (text : ℕ) (header same : List ℕ) (skip : ℕ) (found : Journaled) (old new : HeldDatabase)
+    → IfSome o (λ bytes. text ≡ length (text_of bytes)) → known ≡ option_map (λ bytes. take text bytes) o → header ≡ same
+    → IfSome known (λ bytes. IsAsked header skip bytes found old new) → IfSome o (λ bytes. IsAsked same skip (text_of bytes) found old new)
+asked_text o known text header same skip found old new p is head q =
+    read_text o text (λ bytes. IsAsked same skip bytes found old new) p
+    (subst (λ h. IfSome (option_map (λ bytes. take text bytes) o) (λ bytes. IsAsked h skip bytes found old new)) head
+    (subst (λ k. IfSome k (λ bytes. IsAsked header skip bytes found old new)) is q))
+
 -- ---- one segment behind another
 
 -- what two calls say of a file's bytes
-pub both_of : (o : Option (List ℕ)) (P Q : List ℕ → Type 0) → IfSome o P → IfSome o Q → IfSome o (λ bytes. P bytes × Q bytes)
-both_of None P Q p q = tt
-both_of (Some bytes) P Q p q = (p, q)
+next_both : (o : Option (List ℕ)) (P R Q : List ℕ → Type 0) → ((bytes : List ℕ) → R bytes → P bytes) → IfSome o R → IfSome o Q
+    → IfSome o (λ bytes. P bytes × Q bytes)
+next_both None P R Q f p q = tt
+next_both (Some bytes) P R Q f p q = (f bytes p, q)
+
+-- a segment's file was seen, its text is asked, and the place behind it is this
+pub next_asked : {F E : Type 0} (is_seen : List ℕ → F → Type 0) (contents : F → Option (List ℕ)) (path : List ℕ) (schema : JournalSchema) (place : Place)
+    (file : F) (r : Result Place E) (old new : HeldDatabase) → is_seen (segment_name path place.number) file
+    → IfSome (contents file) (λ bytes. IsAsked (string_bytes place.header) place.skip (text_of bytes) (Journal 0) old new)
+    → IfOk r (λ next. IfSome (contents file) (λ bytes. (p : Place) → p.number ≡ place.number → IsNext schema p (text_of bytes) next))
+    → IfOk r (λ next. (f : F) × is_seen (segment_name path place.number) f × IfSome (contents f) (λ bytes. IsNext schema place (text_of bytes) next
+    × IsAsked (string_bytes place.header) place.skip (text_of bytes) (Journal 0) old new))
+next_asked is_seen contents path schema place file (Ok next) old new seen asked is = (
+  file,
+  seen,
+  next_both (contents file) (λ bytes. IsNext schema place (text_of bytes) next)
+      (λ bytes. (p : Place) → p.number ≡ place.number → IsNext schema p (text_of bytes) next)
+      (λ bytes. IsAsked (string_bytes place.header) place.skip (text_of bytes) (Journal 0) old new) (λ bytes f. f place refl) is asked,
+)
+next_asked is_seen contents path schema place file (Err e) old new seen asked is = tt
 
 -- ---- the newest one
+
+-- the segments in front are asked, and then it
+pub asked_row : {F E : Type 0} (is_locked : F → Type 0) (is_seen : List ℕ → F → Type 0) (is_newest : ℕ → Type 0) (contents : F → Option (List ℕ))
+    (path : List ℕ) (schema : JournalSchema) (position : Option Position) (start last : Place) (row : List F) (file : F) (name : List ℕ) (number : ℕ)
+    (old mid new : HeldDatabase) (r : Result (Asked F) E) → IsStart schema position start
+    → AsksUpTo is_seen contents path schema start row last old mid → last.number ≡ number → is_newest number → is_locked file
+    → name ≡ segment_name path number → IfOk r (λ a. a.place ≡ last) → IfOk r (λ a. a.file ≡ file) → OnOk r (is_seen name file)
+    → IfOk r (λ a. IfSome (contents file) (λ bytes. a.text ≡ length (text_of bytes)))
+    → IfOk r (λ a. IfSome (contents file) (λ bytes. IsAsked (string_bytes last.header) last.skip (text_of bytes) a.found mid new))
+    → IfOk r (λ a. IsAskedBehind is_locked is_seen is_newest contents path schema position old a new)
+asked_row is_locked is_seen is_newest contents path schema position start last row file name number old mid new (Ok a) starts asks num newest locked named
+    p q seen text asked =
+    let here : a.place.number ≡ number = ap (λ (l : Place). l.number) p ∙ num in record {
+      start = start;
+      files = row;
+      mid = mid;
+      starts = starts;
+      asks = subst (λ l. AsksUpTo is_seen contents path schema start row l old mid) (sym p) asks;
+      is_last = subst is_newest (sym here) newest;
+      locked = subst is_locked (sym q) locked;
+      seen = subst (is_seen (segment_name path a.place.number)) (sym q)
+          (subst (λ n. is_seen n file) (named ∙ ap (segment_name path) (sym here)) seen);
+      text = subst (λ f. IfSome (contents f) (λ bytes. a.text ≡ length (text_of bytes))) (sym q) text;
+      newest = subst (λ f. IfSome (contents f) (λ bytes. IsAsked (string_bytes a.place.header) a.place.skip (text_of bytes) a.found mid new)) (sym q)
+          (subst (λ (l : Place). IfSome (contents file) (λ bytes. IsAsked (string_bytes l.header) l.skip (text_of bytes) a.found mid new)) (sym p) asked);
+    }
+asked_row is_locked is_seen is_newest contents path schema position start last row file name number old mid new (Err e) starts asks num newest locked named
+    p q seen text asked = tt
 
 -- what was asked, kept and undone goes on
 pub goes_by : (o : Option (List ℕ)) (header : List ℕ) (found : Journaled) (keeping : Keeping) (old new : HubState) (from told : Option (List ℕ))
@@ -129,3 +186,9 @@ goes_by (Some bytes) header found keeping old new from told has makes undone =
       none = makes.1;
       makes = subst (λ f. Makes makes.0 old new f told) has makes.2;
     }
+
+-- a file of no byte has none
+pub none_there : (o : Option (List ℕ)) (size : ℕ) → IfSome o (λ bytes. size ≡ length bytes) → size ≡ 0 → IfSome o (λ bytes. bytes ≡ [])
+none_there None size is none = tt
+none_there (Some []) size is none = refl
+none_there (Some (b ∷ bs)) size is none = absurd (omega (arith, is, none))

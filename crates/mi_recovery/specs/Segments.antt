@@ -24,9 +24,12 @@ abbrev pub hash_of : List ℕ → List ℕ
 hash_of text = encode_lower (sha256 text)
 
 -- the header of a segment behind the first: {"journal":2,"previous":"9f86..","revision":0,"schema":"5ad0..","segment":2}
+unfoldable pub segment_front : List ℕ → ℕ → List ℕ
+segment_front previous revision = codes "{\"journal\":2,\"previous\":\"" ++ previous ++ codes "\",\"revision\":" ++ decimal revision
+
 abbrev pub segment_header_of : List ℕ → ℕ → List ℕ → ℕ → List ℕ
-segment_header_of previous revision schema n = codes "{\"journal\":2,\"previous\":\"" ++ previous ++ codes "\",\"revision\":" ++ decimal revision
-    ++ codes ",\"schema\":\"" ++ schema ++ codes "\",\"segment\":" ++ decimal n ++ codes "}"
+segment_header_of previous revision schema n =
+    segment_front previous revision ++ codes ",\"schema\":\"" ++ schema ++ codes "\",\"segment\":" ++ decimal n ++ codes "}"
 
 -- the lines of a journal begin: behind the header of segment 1, where no base says more, and else behind the line that a base names
 abbrev pub IsStart : JournalSchema → Option Position → Place → Type 0

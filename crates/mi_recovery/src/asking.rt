@@ -239,7 +239,7 @@ fn ask_row<P: JournalFiles, D: Sessions + Drop>(
 /// position is none of this journal. `Segment` where a segment isn't there, is one of another journal, or ends within a line though another
 /// follows. `Schema` where the first is one of another schema. `Line` and `SegmentLine` where a line isn't one of a journal. What the hub is then
 /// isn't said.
-pub fn asked<P: JournalFiles, D: Sessions + Drop>(
+pub fn ask_journal<P: JournalFiles, D: Sessions + Drop>(
     alloc: Global,
     files: &P,
     hub: &mut Hub<D>,

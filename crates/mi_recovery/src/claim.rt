@@ -1,5 +1,6 @@
 //! The claim on a journal's file: it is opened, locked for this process alone, and seen under its path. It reads no journal.
 ghost use Rattle.std.specs.Prelude.{◌≡◌, true, IfOk, OnOk};
+ghost use Rattle.std.specs.Io.KnownBytes.{Keeps};
 
 use crate::fault::{JournalFailure, JournalFault};
 use crate::journal_file::{JournalFile, JournalFiles};
@@ -10,8 +11,9 @@ use std::io::{Error, ErrorKind};
 const MOST_TRIES: usize = 16;
 
 /// Locks a file for this process alone. `Locked` where another has it, `File` where it can't be locked.
-fn lock<F: JournalFile>(file: &mut F) -> Result<(), JournalFault>
-    ensures { OnOk result (F.is_locked file.new ≡ true) }
+pub(crate) fn lock<F: JournalFile>(file: &mut F) -> Result<(), JournalFault>
+    ensures locked { OnOk result (F.is_locked file.new ≡ true) }
+    ensures contents { Keeps (F.contents file.old) (F.contents file.new) }
 {
     match file.try_lock() {
         Ok(()) => Ok(()),

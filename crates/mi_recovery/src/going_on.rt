@@ -12,7 +12,7 @@ ghost use Rattle.mi_recovery.specs.JournalFile.{text_of};
 ghost use Rattle.mi_recovery.specs.Recovery.{IsFound, IsUndone, Has, kept_bytes};
 ghost use Rattle.mi_recovery.specs.Segments.{GoesOn, IsOpenedBehind};
 
-use crate::asking::{Asked, asked};
+use crate::asking::{Asked, ask_journal};
 use crate::device::{JournalDevice, Keeping};
 use crate::fault::{JournalFailure, JournalFault};
 use crate::journal_file::{JournalFile, JournalFiles};
@@ -75,7 +75,7 @@ pub fn log_of_newest<P: JournalFiles>(
 /// goes on with its newest segment, which is claimed first. In that a torn end is cut off, or what it lacks of its header is appended; the sessions
 /// that were held at its end are undone, by lines that are appended. What it has stays, its name too. No other segment changes.
 ///
-/// The faults are those of `asked`, and `Write` where the newest segment can't be appended to or made to stay. The files are as they were then,
+/// The faults are those of `ask_journal`, and `Write` where the newest segment can't be appended to or made to stay. The files are as they were then,
 /// but that the newest may lack what stands behind its whole lines, or have its header.
 pub fn opened_behind<P: JournalFiles, D: Sessions + Drop>(
     alloc: Global,
@@ -95,7 +95,7 @@ pub fn opened_behind<P: JournalFiles, D: Sessions + Drop>(
     ensures stays { IfOk result (λ ledger. is_staying (device_of (log_of ledger)) ≡ is_synced keeping) }
 {
     let mut hub = hub;
-    let asked = asked(alloc, files, &mut hub, path, schema, position)?;
+    let asked = ask_journal(alloc, files, &mut hub, path, schema, position)?;
     let log = log_of_newest(files, asked, keeping)?;
     Ok(undone(alloc, hub, log)?)
 }

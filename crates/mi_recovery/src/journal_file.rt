@@ -35,7 +35,7 @@ pub trait JournalFile: Device {
 
 /// Where journals are found by their paths.
 pub trait JournalFiles {
-    ghost use Rattle.std.specs.Prelude.{◌≡◌, ℕ, List, true, Ok, IfOk, IfSome};
+    ghost use Rattle.std.specs.Prelude.{◌≡◌, ℕ, List, [], true, Ok, IfOk, IfSome};
 
     /// What a path opens.
     type File: JournalFile + Drop;
@@ -47,14 +47,16 @@ pub trait JournalFiles {
     ghost is_newest: { Self → List ℕ → ℕ → Type 0 };
 
     /// Opens the file at a path, to be read and written to behind its end; it is made where none is there.
-    fn open(&self, path: &str) -> io::Result<Self::File>;
+    fn open(&self, path: &str) -> io::Result<Self::File>
+        ensures { IfOk result (λ file. is_seen self.now path.now file) };
 
     /// Opens the file at a path in the same way, where one is there.
     fn open_there(&self, path: &str) -> io::Result<Option<Self::File>>
         ensures { IfOk result (λ file. IfSome file (λ f. is_seen self.now path.now f)) };
 
     /// Makes a file at a path, where none is there, and opens it in the same way. An error where one is there, which stays as it is.
-    fn make(&self, path: &str) -> io::Result<Self::File>;
+    fn make(&self, path: &str) -> io::Result<Self::File>
+        ensures { IfOk result (λ file. IfSome (Self.File.contents file) (λ bytes. bytes ≡ [])) };
 
     /// The number of the newest segment of the journal at a path, or 0 where it has none.
     fn newest(&self, path: &str) -> io::Result<u64>

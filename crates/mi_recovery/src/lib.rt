@@ -3,11 +3,13 @@
 #![tactic(auto)]
 
 mod asking;
+mod beginning;
 mod claim;
 mod device;
 mod digest;
 mod fault;
 mod file_reader;
+mod file_writer;
 mod going_on;
 mod journal_file;
 mod journal_text;
@@ -18,13 +20,18 @@ mod segments;
 mod system_files;
 mod text_hash;
 
-pub use asking::{Asked, asked};
+pub use asking::{Asked, ask_journal};
+pub use beginning::{next_segment, sync};
 pub use device::{JournalDevice, Keeping};
 pub use digest::fingerprint;
 pub use fault::{JournalFailure, JournalFault};
+pub use file_reader::FileReader;
+pub use file_writer::FileWriter;
 pub use going_on::{log_of_newest, opened_behind};
 pub use journal_file::{JournalFile, JournalFiles};
+pub use journal_text::text_size;
 pub use names::{base_path, new_base_path, segment_number, segment_path};
 pub use opening::{FileLedger, JournalLedger, Journaled, log_error, opened, recovered, without};
 pub use place::{JournalSchema, Place, Position, first_place, segment_header};
+pub use segments::next_place;
 pub use system_files::SystemFiles;

@@ -209,7 +209,7 @@ fn append<D: Device>(log: &mut DeviceLog<D>, bytes: &[u8]) -> Result<(), Journal
 }
 
 /// How many bytes a file has.
-fn size_of<F: JournalFile>(file: &F) -> Result<u64, JournalFault>
+pub(crate) fn size_of<F: JournalFile>(file: &F) -> Result<u64, JournalFault>
     ensures { IfOk result (λ size. IfSome (F.contents file.now) (λ bytes. size ≡ length bytes)) }
 {
     match file.size() {
@@ -221,7 +221,7 @@ fn size_of<F: JournalFile>(file: &F) -> Result<u64, JournalFault>
 /// The log of a journal that begins: what its file lacks of the header is appended to it. Nothing is cut off the file.
 ///
 /// `File` where the file is longer than the header, `Write` where it can't be appended to.
-fn begun<F: JournalFile + Drop>(
+pub(crate) fn begun<F: JournalFile + Drop>(
     file: F,
     keeping: Keeping,
     header: &[u8],

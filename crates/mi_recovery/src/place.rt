@@ -2,7 +2,7 @@
 ghost use Rattle.std.specs.Prelude.{◌≡◌, IfOk};
 ghost use Rattle.std.specs.String.{string_bytes};
 ghost use Rattle.mi_log.specs.Header.{header_of};
-ghost use Rattle.mi_recovery.specs.Segments.{segment_header_of};
+ghost use Rattle.mi_recovery.specs.Segments.{segment_front, segment_header_of};
 
 use mi_log::header_line;
 use std::alloc::{AllocError, Global};
@@ -38,6 +38,18 @@ pub struct Place {
     pub skip: u64,
 }
 
+/// What stands in front of the schema in the header of a segment behind the first.
+fn header_front(alloc: Global, previous: &str, revision: u64) -> Result<String, AllocError>
+    ensures { IfOk result (λ line. string_bytes line ≡ segment_front previous.now revision) }
+{
+    let number = revision.to_string(alloc)?;
+    let mut line = String::from_str(alloc, "{\"journal\":2,\"previous\":\"")?;
+    line.push_str(previous)?;
+    line.push_str("\",\"revision\":")?;
+    line.push_str(number.as_str())?;
+    Ok(line)
+}
+
 /// The header of a segment behind the first, without its newline: the format, 2, the SHA-256 of the segment in front of it, the revision and
 /// the hash of the schema, and its number. Both hashes are hexadecimal digits.
 pub fn segment_header(
@@ -48,12 +60,8 @@ pub fn segment_header(
 ) -> Result<String, AllocError>
     ensures { IfOk result (λ line. string_bytes line ≡ segment_header_of previous.now schema.now.revision (string_bytes schema.now.hash) number) }
 {
-    let revision = schema.revision.to_string(alloc)?;
     let digits = number.to_string(alloc)?;
-    let mut line = String::from_str(alloc, "{\"journal\":2,\"previous\":\"")?;
-    line.push_str(previous)?;
-    line.push_str("\",\"revision\":")?;
-    line.push_str(revision.as_str())?;
+    let mut line = header_front(alloc, previous, schema.revision)?;
     line.push_str(",\"schema\":\"")?;
     line.push_str(schema.hash.as_str())?;
     line.push_str("\",\"segment\":")?;

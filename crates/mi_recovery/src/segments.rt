@@ -74,7 +74,26 @@ fn ask_text<D: Sessions + Drop, R: BufRead + Drop>(
     }
 }
 
-/// Asks a hub the text of a file, which has so many bytes, by reads of up to 64 KiB. A failure names the segment.
+/// The same of a reader, by reads of up to 64 KiB.
+fn ask_reader<D: Sessions + Drop, R: Read + Drop>(
+    alloc: Global,
+    hub: &mut Hub<D>,
+    reader: R,
+    header: &[u8],
+    skip: u64,
+) -> Result<Journaled, JournalFailure>
+    requires { rest_at replayer hub.old.attached ≡ Some (Some []) }
+    ensures asked { IfOk result (λ found. IfSome (R.remaining reader) (λ bytes. IsAsked header.now skip bytes found hub.old.held hub.new.held)) }
+    ensures attached { OnOk result (hub.new.attached ≡ hub.old.attached) }
+    ensures fails { IfErr result (λ failure. ends_replay failure ≡ true) }
+{
+    match BufReader::with_capacity(alloc, 65_536, reader) {
+        Ok(reader) => ask_text(alloc, hub, reader, header, skip),
+        Err(_error) => Err(JournalFailure::Memory),
+    }
+}
+
+/// Asks a hub the text of a file, which has so many bytes. A failure names the segment.
 pub(crate) fn ask_file<F: JournalFile, D: Sessions + Drop>(
     alloc: Global,
     hub: &mut Hub<D>,
@@ -89,11 +108,8 @@ pub(crate) fn ask_file<F: JournalFile, D: Sessions + Drop>(
     ensures attached { OnOk result (hub.new.attached ≡ hub.old.attached) }
     ensures fails { IfErr result (λ failure. ends_replay failure ≡ true) }
 {
-    let Ok(reader) = BufReader::with_capacity(alloc, 65_536, FileReader::new(file).take(text))
-    else {
-        return Err(JournalFailure::Memory);
-    };
-    match ask_text(alloc, hub, reader, place.header.as_bytes(), place.skip) {
+    let reader = FileReader::new(file).take(text);
+    match ask_reader(alloc, hub, reader, place.header.as_bytes(), place.skip) {
         Ok(found) => Ok(found),
         Err(failure) => Err(failure.in_segment(place.number, place.skip)),
     }
@@ -120,7 +136,7 @@ fn ask_whole<F: JournalFile, D: Sessions + Drop>(
 }
 
 /// The place behind a segment that has this file, whose text has so many bytes. `Turns` where there is no number more.
-pub(crate) fn next_place<F: JournalFile>(
+pub fn next_place<F: JournalFile>(
     alloc: Global,
     schema: &JournalSchema,
     number: u64,

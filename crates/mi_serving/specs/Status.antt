@@ -24,15 +24,15 @@ status_of failure.Memory = 4
 status_of failure.Turns = 4
 
 -- what a service says of a failure of its journal
-abbrev pub of_journal : JournalFailure → Failure
-of_journal journal.File = failure.JournalFile
-of_journal journal.Schema = failure.JournalSchema
-of_journal (journal.Line line) = failure.JournalLine line
-of_journal (journal.Segment segment) = failure.JournalSegment segment
-of_journal (journal.SegmentLine segment line) = failure.JournalSegmentLine segment line
-of_journal journal.Base = failure.JournalBase
-of_journal journal.Sessions = failure.JournalSessions
-of_journal journal.Locked = failure.JournalLocked
-of_journal journal.Write = failure.Journal
-of_journal journal.Memory = failure.Memory
-of_journal journal.Turns = failure.Turns
+abbrev pub failure_of : JournalFailure → Failure
+failure_of journal.File = failure.JournalFile
+failure_of journal.Schema = failure.JournalSchema
+failure_of (journal.Line line) = failure.JournalLine line
+failure_of (journal.Segment segment) = failure.JournalSegment segment
+failure_of (journal.SegmentLine segment line) = failure.JournalSegmentLine segment line
+failure_of journal.Base = failure.JournalBase
+failure_of journal.Sessions = failure.JournalSessions
+failure_of journal.Locked = failure.JournalLocked
+failure_of journal.Write = failure.Journal
+failure_of journal.Memory = failure.Memory
+failure_of journal.Turns = failure.Turns

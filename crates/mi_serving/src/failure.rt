@@ -1,6 +1,6 @@
 //! Why the service ends: the line on standard error and the exit status.
 ghost use Rattle.std.specs.Prelude.{◌≡◌, ◌⊎◌, true, false};
-ghost use Rattle.mi_serving.specs.Status.{status_of, of_journal};
+ghost use Rattle.mi_serving.specs.Status.{status_of, failure_of};
 ghost use Rattle.mi_ledger.specs.declared.fault.LedgerFault.TheVariants as ledger_fault;
 ghost use Rattle.mi_serving.specs.declared.failure.Failure.TheVariants as told;
 
@@ -59,7 +59,7 @@ impl Failure {
 
     /// What a failure of the journal is.
     pub fn of_journal(failure: JournalFailure) -> Failure
-        ensures { result ≡ of_journal failure }
+        ensures { result ≡ failure_of failure }
     {
         match failure {
             JournalFailure::File => Failure::JournalFile,
@@ -191,7 +191,7 @@ impl From<Failure> for Fault {
 }
 
 impl From<JournalFault> for Fault {
-    ghost from_gives = { λ fault told. told.failure ≡ of_journal fault.failure };
+    ghost from_gives = { λ fault told. told.failure ≡ failure_of fault.failure };
 
     fn from(fault: JournalFault) -> Fault {
         Fault {

@@ -17,7 +17,7 @@ const FIRST: &str = "{\"cmd\":\"insert\",\"row\":{\"owner\":\"ann\",\"balance\":
 const SECOND: &str = "{\"cmd\":\"insert\",\"row\":{\"owner\":\"bob\",\"balance\":7,\"vip\":true}}\n";
 
 /// What tells the schema in a header.
-fn schema(alloc: Global) -> Result<JournalSchema, Fail> {
+pub(crate) fn schema(alloc: Global) -> Result<JournalSchema, Fail> {
     Ok(JournalSchema {
         revision: 0,
         hash: String::from_str(alloc, "5ad0")?,
@@ -37,7 +37,7 @@ fn joined(alloc: Global, one: &str, other: &str) -> Result<String, Fail> {
 }
 
 /// The text of the segment with this number behind another text, which has these lines.
-fn segment(alloc: Global, before: &str, number: u64, lines: &str) -> Result<String, Fail> {
+pub(crate) fn segment(alloc: Global, before: &str, number: u64, lines: &str) -> Result<String, Fail> {
     let previous = sum(alloc, before)?;
     let mut text = segment_header(alloc, previous.as_str(), &schema(alloc)?, number)?;
     text.push_str("\n")?;
@@ -46,7 +46,7 @@ fn segment(alloc: Global, before: &str, number: u64, lines: &str) -> Result<Stri
 }
 
 /// A folder with three segments of a journal: an account, another one, and no line.
-fn three(alloc: Global) -> Result<Folder, Fail> {
+pub(crate) fn three(alloc: Global) -> Result<Folder, Fail> {
     let folder = Folder::new(alloc);
     let first = joined(
         alloc,

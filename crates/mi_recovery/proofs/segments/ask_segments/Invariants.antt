@@ -7,7 +7,7 @@ use Rattle.mi_recovery.proofs.segments.ask_segments.Given as goal
 -- the segments in front of the place are asked
 abbrev pub invariant-segments : goal.invariant-segments
 invariant-segments g l = record {
-  row : List g.P.JournalFiles.File;
+  row : List g.row.P-File.Denot;
   asked : AsksUpTo (g.P.JournalFiles.is_seen l.fn.files) g.P.File.Device.contents l.fn.path l.fn.schema l.fn.start row l.place l.fn.hub.held l.hub.held;
   within : l.place.number ≤ l.newest;
   attached : l.hub.attached ≡ l.fn.hub.attached;

@@ -1,0 +1,2 @@
+-- To be read in this order, behind those of mi_recovery and mi_base.
+pub mod Rebase

@@ -1,0 +1,18 @@
+-- The text alone is read.
+use Rattle.std.proofs.Common.{ap, subst, ◌∙◌, take, option_map}
+use Rattle.std.specs.Prelude.{IfSome}
+use Rattle.std.specs.String.{string_bytes}
+use Rattle.mi_recovery.specs.JournalFile.{from_byte}
+use Rattle.mi_recovery.specs.Segments.{IsAsked}
+use Rattle.mi_recovery.proofs.SegmentLemmas.{asked_text}
+use Rattle.mi_recovery.proofs.segments.ask_file.Goals as goal
+
+pub returns-in-Ok-clause-asked : goal.returns-in-Ok-clause-asked
+returns-in-Ok-clause-asked g c =
+    let contents = g.F.Device.contents in
+    let reader = c.take-reader.result.inner in
+    let same = ap (λ n. option_map (λ bytes. take n bytes) (from_byte (contents reader.file.now) reader.at)) c.take-reader.ensures.limit
+    ∙ ap (λ (r : _). option_map (λ bytes. take c.args.text bytes) (from_byte (contents r.file.now) r.at)) c.take-reader.ensures.inner
+    ∙ ap (λ o. option_map (λ bytes. take c.args.text bytes) o) c.new.ensures in
+    asked_text (contents c.args.file.now) _ c.args.text c.as_bytes.result.now (string_bytes c.args.place.now.header) c.args.place.now.skip
+    c.in-Ok.found c.args.hub.now.held c.ask_reader.new.hub.held c.requires.text same c.as_bytes.ensures.value c.in-Ok.ensures.asked
