@@ -2,7 +2,7 @@
 -- Cited by nobody yet.
 use Rattle.std.proofs.Common.{◌≡◌, ◌≤◌, ◌<◌, ◌+◌, ◌-◌, ℕ, zero, suc, List, [], ◌∷◌, ◌++◌, length, take, drop, get_or, Bool, true, false, ◌&&◌, nat_eq, nat_lt, ◌≢◌}
 use Rattle.std.proofs.Common.{Option, Some, None, option_map, Result, Ok, Err, refl, sym, ap, ◌∙◌, subst, arith, length-append}
-use Rattle.std.proofs.lemmas.List.{drop_all, drop-drop, get_or-take, length-take}
+use Rattle.std.proofs.lemmas.List.{drop_all, drop-drop}
 use Rattle.std.proofs.lemmas.List.Elements.{All-get_or}
 use Rattle.std.specs.Prelude.{IfOk, IfSome, OnOk}
 use Rattle.std.specs.String.{string_bytes}
@@ -27,7 +27,7 @@ use Rattle.mi_recovery.specs.declared.place.Place.{Place}
 use Rattle.mi_recovery.specs.declared.place.Position.{Position}
 use Rattle.mi_recovery.specs.JournalFile.{text_of}
 use Rattle.mi_recovery.specs.Names.{segment_name}
-use Rattle.mi_recovery.specs.Recovery.{HasHeader, IsBeginning, IsFound, IsReplayed, IsUndone, Has, kept_bytes}
+use Rattle.mi_recovery.specs.Recovery.{HasHeader, IsFound, IsUndone, Has, kept_bytes}
 use Rattle.mi_recovery.specs.Segments.{AsksUpTo, GoesOn, IsAsked, IsAskedBehind, IsNext, IsStart}
 use Rattle.mi_recovery.proofs.OpeningLemmas.{after_within, read_text}
 

@@ -1,5 +1,5 @@
 -- A journal in segments, asked again from some position on: behind segment 1 stands segment 2, whose header has the sum of segment 1's text.
-use Rattle.std.specs.Prelude.{◌≡◌, ◌+◌, ⊤, ℕ, List, [], ◌∷◌, ◌++◌, take, length, Option, Some, None, IfSome, codes, decimal}
+use Rattle.std.specs.Prelude.{◌≡◌, ◌+◌, ℕ, List, [], ◌∷◌, ◌++◌, length, Option, Some, None, IfSome, codes, decimal}
 use Rattle.std.specs.String.{string_bytes}
 use Rattle.sha2.specs.Sha256.{sha256}
 use Rattle.hex.specs.Hex.{encode_lower}

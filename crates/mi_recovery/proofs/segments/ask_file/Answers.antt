@@ -1,9 +1,7 @@
 -- The text alone is read.
-use Rattle.std.proofs.Common.{ap, subst, ◌∙◌, take, option_map}
-use Rattle.std.specs.Prelude.{IfSome}
+use Rattle.std.proofs.Common.{ap, ◌∙◌, take, option_map}
 use Rattle.std.specs.String.{string_bytes}
 use Rattle.mi_recovery.specs.JournalFile.{from_byte}
-use Rattle.mi_recovery.specs.Segments.{IsAsked}
 use Rattle.mi_recovery.proofs.SegmentLemmas.{asked_text}
 use Rattle.mi_recovery.proofs.segments.ask_file.Goals as goal
 

@@ -1,6 +1,4 @@
 -- Its text is asked, and its sum stands in the header behind it.
-use Rattle.mi_recovery.specs.JournalFile.{text_of}
-use Rattle.mi_recovery.specs.Segments.{IsAsked, IsNext}
 use Rattle.mi_recovery.proofs.SegmentLemmas.{next_asked}
 use Rattle.mi_recovery.proofs.segments.ask_segment.Goals as goal
 

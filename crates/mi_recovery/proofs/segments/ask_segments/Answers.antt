@@ -1,5 +1,5 @@
 -- A segment more is asked.
-use Rattle.std.proofs.Common.{◌∷◌, [], refl, ◌∙◌, arith, subst, sym, ap}
+use Rattle.std.proofs.Common.{◌∷◌, [], refl, ◌∙◌, arith}
 use Rattle.mi_recovery.proofs.segments.ask_segments.Goals as goal
 
 pub segments-init : goal.segments-init

@@ -1,6 +1,4 @@
-use Rattle.std.proofs.Common.{◌≡◌, ◌≤◌, ◌-◌, List, Some, []}
-use Rattle.mi_hub.specs.Connections.{rest_at}
-use Rattle.mi_replay.specs.Replayed.{replayer}
+use Rattle.std.proofs.Common.{◌≡◌, ◌≤◌, ◌-◌, List}
 use Rattle.mi_recovery.specs.Segments.{AsksUpTo}
 use Rattle.mi_recovery.proofs.segments.ask_segments.Given as goal
 
