@@ -4,13 +4,14 @@
 --     head_data      {"arrivals":A,"next":N,"rows":K,"table":"accounts"}
 --     row_data      [id,value,..]
 --     list_data      [id,id,..]
---     digest_data      {"sha256":".."}
+--     digits_data, digest_data      {"sha256":".."}
 --     table_lines, tables_lines, base_lines      the lines of a table, of tables, and of a base without its last one
 --     base_front, base_text      the text of those lines, and of the whole base
 use Rattle.std.specs.Prelude.{ℕ, List, [], ◌∷◌, ◌++◌, map, drop, length, codes, string_bytes}
 use Rattle.sha2.specs.Sha256.{sha256}
 use Rattle.hex.specs.Hex.{encode_lower}
-use Rattle.serde_json.specs.Data.{Data, boolean, number, unsigned, string, array, object, Items, no_items, item, Members, no_members, member}
+use Rattle.serde_json.specs.Data.{Data, boolean, number, unsigned, string, array, object, no_members, member}
+use Rattle.serde_json.specs.View.{items_of}
 use Rattle.serde_json.specs.Find.{of_integer}
 use Rattle.mi_value.specs.declared.value.Value.{Value}
 use Rattle.mi_value.specs.declared.value.Value.TheVariants as value
@@ -21,7 +22,7 @@ use Rattle.mi_base.specs.declared.heading.Heading.{Heading}
 use Rattle.mi_base.specs.declared.heading.Head.{Head}
 use Rattle.mi_base.specs.Lines.{line_text, lines_text}
 
-abbrev pub heading_data : Heading → Data
+unfoldable pub heading_data : Heading → Data
 heading_data h = object (member (codes "base") (number (unsigned 1)) (member (codes "line") (number (unsigned h.line))
     (member (codes "revision") (number (unsigned h.revision)) (member (codes "schema") (string (string_bytes h.schema))
     (member (codes "segment") (number (unsigned h.segment)) (member (codes "sum") (string (string_bytes h.sum)) no_members))))))
@@ -30,7 +31,7 @@ heading_data h = object (member (codes "base") (number (unsigned 1)) (member (co
 abbrev pub head_of : Table → Head
 head_of t = record { arrivals = t.arrivals; next = t.next; rows = length t.rows }
 
-abbrev pub head_data : List ℕ → Head → Data
+unfoldable pub head_data : List ℕ → Head → Data
 head_data name h = object (member (codes "arrivals") (number (unsigned h.arrivals)) (member (codes "next") (number (unsigned h.next))
     (member (codes "rows") (number (unsigned h.rows)) (member (codes "table") (string name) no_members))))
 
@@ -40,19 +41,14 @@ value_data (value.Int n) = number (of_integer n)
 value_data (value.Text t) = string t
 value_data (value.Flag b) = boolean b
 
-abbrev pub values_items : List Value → Items
-values_items [] = no_items
-values_items (v ∷ vs) = item (value_data v) (values_items vs)
+unfoldable pub row_data : Row → Data
+row_data r = array (items_of (number (unsigned r.0) ∷ map value_data r.1))
 
-abbrev pub row_data : Row → Data
-row_data r = array (item (number (unsigned r.0)) (values_items r.1))
+abbrev pub id_data : ℕ → Data
+id_data id = number (unsigned id)
 
-abbrev pub ids_items : List ℕ → Items
-ids_items [] = no_items
-ids_items (id ∷ ids) = item (number (unsigned id)) (ids_items ids)
-
-abbrev pub list_data : List ℕ → Data
-list_data ids = array (ids_items ids)
+unfoldable pub list_data : List ℕ → Data
+list_data ids = array (items_of (map id_data ids))
 
 -- the list of index 0 isn't written: it's the ids of the rows
 abbrev pub table_lines : Shape → Table → List Data
@@ -69,8 +65,12 @@ base_lines h c ts = heading_data h ∷ tables_lines c.tables ts
 abbrev pub base_front : Heading → CatalogShape → List Table → List ℕ
 base_front h c ts = lines_text (base_lines h c ts)
 
+-- of a digest's 32 bytes
+unfoldable pub digits_data : List ℕ → Data
+digits_data digest = object (member (codes "sha256") (string (encode_lower digest)) no_members)
+
 abbrev pub digest_data : List ℕ → Data
-digest_data front = object (member (codes "sha256") (string (encode_lower (sha256 front))) no_members)
+digest_data front = digits_data (sha256 front)
 
 abbrev pub base_text : Heading → CatalogShape → List Table → List ℕ
 base_text h c ts = base_front h c ts ++ line_text (digest_data (base_front h c ts))

@@ -4,5 +4,3 @@ pub mod Base
 pub mod Writes
 pub mod Reads
 pub mod Reader
-pub mod Images
-pub mod Laws

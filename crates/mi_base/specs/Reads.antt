@@ -4,7 +4,7 @@
 --     IsRead      what is known of one that was read
 --     IsFormat      a fault of the text, and not of the reader or of memory
 --     Reads      a part is read where one stands, and no other is made of it
-use Rattle.std.specs.Prelude.{◌≡◌, ℕ, ◌<◌, ◌++◌, ◌^◌, pos, negsuc, ◌<ℤ◌, List, [], true, map, length, slice_index_or, IfSome, Some, MatchResult, Result}
+use Rattle.std.specs.Prelude.{◌≡◌, ℕ, ◌++◌, ◌^◌, pos, ◌<ℤ◌, List, [], true, map, length, slice_index_or, IfSome, Some, MatchResult, Result}
 use Rattle.std.specs.List.{AllByRecursion, AllZip}
 use Rattle.std.specs.declared.option.Option.{Option}
 use Rattle.mi_value.specs.declared.value.Value.{Value}

@@ -1,7 +1,7 @@
 -- What a write of lines does to the writer and to the hasher of all that is written.
 --     Hashes      a hasher takes a text in
 --     Puts      lines are written and hashed, and each is read as it was
-use Rattle.std.specs.Prelude.{ℕ, List, [], ◌++◌}
+use Rattle.std.specs.Prelude.{ℕ, List, ◌++◌}
 use Rattle.std.specs.List.{AllByRecursion}
 use Rattle.std.specs.declared.option.Option.{Option}
 use Rattle.std.specs.Io.KnownBytes.{Appends}

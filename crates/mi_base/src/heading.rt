@@ -1,9 +1,8 @@
 //! The heading of a base, and the numbers in front of a table's rows, as values of JSON and back. It reads and writes no stream.
-ghost use Rattle.std.specs.Prelude.{◌≡◌, IfOk, ℕ, List, option_map, option_and_then};
+ghost use Rattle.std.specs.Prelude.{◌≡◌, IfOk, option_map, option_and_then};
 ghost use Rattle.serde_json.specs.Find.{get, as_number, as_u64, as_str};
 ghost use Rattle.serde_json.specs.View.{view};
-ghost use Rattle.sha2.specs.Sha256.{sha256};
-ghost use Rattle.mi_base.specs.Base.{digest_data};
+ghost use Rattle.mi_base.specs.Base.{digits_data};
 
 use serde_json::{Value, json};
 use std::alloc::{AllocError, Global};
@@ -51,6 +50,7 @@ impl Heading {
     ghost use Rattle.mi_base.specs.Base.{heading_data};
 
     /// The heading as JSON.
+    #[tactic(auto, unfolding(crate::specs::Base::heading_data))]
     pub(crate) fn to_value(&self, alloc: Global) -> Result<Value, AllocError>
         ensures { IfOk result (λ v. view v ≡ heading_data self.now) }
     {
@@ -65,6 +65,7 @@ impl Heading {
     }
 
     /// The heading that a value is, if its members are there.
+    #[tactic(auto, unfolding(crate::specs::Base::heading_data))]
     pub(crate) fn of(alloc: Global, value: &Value) -> Result<Option<Heading>, AllocError>
         ensures { IfOk result (λ found. (h : Heading) → view value.now ≡ heading_data h → IsSome found × IfSome found (λ g. heading_data g ≡ heading_data h)) }
     {
@@ -94,6 +95,7 @@ impl Head {
     ghost use Rattle.mi_base.specs.Base.{head_data};
 
     /// The line in front of the rows of the table of this name, as JSON.
+    #[tactic(auto, unfolding(crate::specs::Base::head_data))]
     pub(crate) fn to_value(self, alloc: Global, name: &str) -> Result<Value, AllocError>
         ensures { IfOk result (λ v. view v ≡ head_data name.now self) }
     {
@@ -106,6 +108,7 @@ impl Head {
     }
 
     /// The numbers that a value has, if they are there.
+    #[tactic(auto, unfolding(crate::specs::Base::head_data))]
     pub(crate) fn of(value: &Value) -> Option<Head>
         ensures { (name : List ℕ) (h : Head) → view value.now ≡ head_data name h → result ≡ Some h }
     {
@@ -118,8 +121,9 @@ impl Head {
 }
 
 /// The digest of what stands in front, as JSON.
+#[tactic(auto, unfolding(crate::specs::Base::digits_data))]
 pub(crate) fn digest_value(alloc: Global, digest: &[u8; 32]) -> Result<Value, AllocError>
-    ensures { IfOk result (λ v. (front : List ℕ) → digest.now ≡ sha256 front → view v ≡ digest_data front) }
+    ensures { IfOk result (λ v. view v ≡ digits_data digest.now) }
 {
     let digits = hex::encode(alloc, digest.as_slice())?;
     json!(in alloc; {"sha256": digits.as_str()})

@@ -1,11 +1,9 @@
-//! The tables of a database as the text of a base, lines of JSON with a digest, and back. It opens no file, and knows no journal beyond what a
+//! Images of tables as the text of a base, lines of JSON with a digest, and back. It opens no file, and knows no journal beyond what a
 //! heading says.
 #![tactic(auto)]
 
 mod fault;
 mod heading;
-mod image;
-pub mod laws;
 mod line;
 mod lines;
 mod lists;
@@ -15,6 +13,5 @@ mod write;
 
 pub use fault::{BaseFault, WriteFault};
 pub use heading::Heading;
-pub use image::image_of;
 pub use read::read_base;
 pub use write::write_base;

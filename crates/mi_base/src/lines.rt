@@ -1,5 +1,6 @@
 //! The lines of a base out of a reader's bytes, one after another, and the digest of those that were accepted. It knows no table.
 ghost use Rattle.std.specs.Prelude.{◌≡◌, [], IfOk, IfErr, IfSome, IsSome, OnOk, ℕ, List, ⊤};
+ghost use Rattle.std.specs.Io.BufRead.{ends_with_byte};
 ghost use Rattle.std.specs.Io.KnownBytes.{Consumes, IsAtEnd};
 ghost use Rattle.serde_json.specs.Data.{Data};
 ghost use Rattle.serde_json.specs.View.{view};
@@ -25,6 +26,13 @@ pub(crate) struct BaseLines<R> {
     digest: Sha256,
     line: Vec<u8>,
     number: u64,
+}
+
+/// Whether bytes end with a newline.
+fn ends_line(bytes: &[u8]) -> bool
+    ensures { result ≡ ends_with_byte 10 bytes.now }
+{
+    bytes.ends_with(b"\n")
 }
 
 /// The value that a line is, without its newline; none where it's no JSON.
@@ -84,6 +92,23 @@ impl<R> BaseLines<R> {
         self.digest.update(self.line.as_slice());
         Ok(())
     }
+
+    /// Whether the line that was read last is the digest of those that were accepted.
+    fn check_digest(&mut self, alloc: Global) -> Result<(), BaseFault>
+        ensures ok { OnOk result ((front : List ℕ) → Holds256 (digest_of self.old) front → last_line self.old ≡ line_text (digest_data front)) }
+        ensures exact { (front : List ℕ) → Holds256 (digest_of self.old) front
+            → IfErr result (λ e. IsFormat e → last_line self.old ≡ line_text (digest_data front) → ⊥) }
+        ensures reader { reader_of self.new ≡ reader_of self.old }
+    {
+        let digest = self.digest.finalize_reset();
+        let value = digest_value(alloc, &digest)?;
+        let line = line_of(alloc, &value)?;
+        if line.as_bytes() == self.line.as_slice() {
+            Ok(())
+        } else {
+            Err(BaseFault::Torn)
+        }
+    }
 }
 
 impl<R: BufRead> BaseLines<R> {
@@ -98,10 +123,14 @@ impl<R: BufRead> BaseLines<R> {
     {
         self.number = self.number.saturating_add(1);
         self.line.clear();
-        if self.reader.read_until(b'\n', &mut self.line).is_err() {
-            return Err(BaseFault::Read);
+        match self.reader.read_until(b'\n', &mut self.line) {
+            Ok(_count) => if ends_line(self.line.as_slice()) {
+                Ok(())
+            } else {
+                Err(BaseFault::Torn)
+            },
+            Err(_error) => Err(BaseFault::Read),
         }
-        if self.line.ends_with(b"\n") { Ok(()) } else { Err(BaseFault::Torn) }
     }
 
     /// Reads the next line, as the value that it is.
@@ -118,24 +147,21 @@ impl<R: BufRead> BaseLines<R> {
         }
     }
 
-    /// Reads the last line, which is to be the digest of those that were accepted, and answers whether it is.
+    /// Reads the last line, which is to be the digest of those that were accepted.
     pub(crate) fn ends(&mut self, alloc: Global) -> Result<(), BaseFault>
         ensures ok { OnOk result ((front : List ℕ) → Holds256 (digest_of self.old) front
             → Consumes (R.remaining (reader_of self.old)) (R.remaining (reader_of self.new)) (line_text (digest_data front))) }
         ensures exact { (front : List ℕ) → Holds256 (digest_of self.old) front
-            → Reads (λ _. line_text (digest_data front)) (λ (u : ⊤). Unit {0}) (λ _ _. Unit {0}) (R.remaining (reader_of self.old)) (R.remaining (reader_of self.new)) result }
+            → Reads line_text (λ d. d ≡ digest_data front) (λ _ _. Unit {0}) (R.remaining (reader_of self.old)) (R.remaining (reader_of self.new)) result }
     {
         self.advance()?;
-        let digest = self.digest.finalize_reset();
-        let value = digest_value(alloc, &digest)?;
-        let line = line_of(alloc, &value)?;
-        if line.as_bytes() == self.line.as_slice() { Ok(()) } else { Err(BaseFault::Torn) }
+        self.check_digest(alloc)
     }
 
     /// Whether nothing is left to read.
     pub(crate) fn is_at_end(&mut self) -> Result<(), BaseFault>
         ensures ok { OnOk result (IsAtEnd (R.remaining (reader_of self.old))) }
-        ensures exact { IfErr result (λ e. IsFormat e → IsAtEnd (R.remaining (reader_of self.old)) → ⊥) }
+        ensures exact { IfErr result (λ e. IsFormat e → IfSome (R.remaining (reader_of self.old)) (λ bytes. bytes ≡ [] → ⊥)) }
     {
         self.number = self.number.saturating_add(1);
         self.line.clear();

@@ -1,13 +1,14 @@
 //! A list of ids as a value of JSON, and back. It knows no table.
 ghost use Rattle.std.specs.Prelude.{◌≡◌, ◌++◌, ◌∷◌, [], IfOk, OnOk, ℕ, List, IsSome, IfSome, map};
-ghost use Rattle.serde_json.specs.View.{view, items_view};
-ghost use Rattle.mi_base.specs.Base.{list_data, ids_items};
+ghost use Rattle.serde_json.specs.View.{view};
+ghost use Rattle.mi_base.specs.Base.{list_data, id_data};
 
 use mi_value::Record;
 use serde_json::Value;
 use std::alloc::{AllocError, Global};
 
 /// Ids as JSON.
+#[tactic(auto, unfolding(crate::specs::Base::list_data))]
 pub(crate) fn list_value(alloc: Global, ids: &[u64]) -> Result<Value, AllocError>
     ensures { IfOk result (λ v. view v ≡ list_data ids.now) }
 {
@@ -20,7 +21,7 @@ pub(crate) fn list_value(alloc: Global, ids: &[u64]) -> Result<Value, AllocError
 
 /// The numbers that values are.
 fn numbers_in(alloc: Global, items: &[Value]) -> Result<Option<Vec<u64>>, AllocError>
-    ensures { IfOk result (λ found. (ids : List ℕ) → items_view items.now ≡ ids_items ids → IsSome found × IfSome found (λ list. list.items ≡ ids)) }
+    ensures { IfOk result (λ found. (ids : List ℕ) → map view items.now ≡ map id_data ids → IsSome found × IfSome found (λ list. list.items ≡ ids)) }
 {
     let mut list = Vec::with_capacity(alloc, items.len())?;
     'items: for item in items {
@@ -58,4 +59,11 @@ pub(crate) fn put<T: Drop>(list: &mut Vec<T>, item: T) -> Result<(), AllocError>
     ensures { OnOk result (list.new.items ≡ list.old.items ++ item ∷ []) }
 {
     Ok(list.push(item)?)
+}
+
+/// Puts an item in front of the first.
+pub(crate) fn put_first<T: Drop>(list: &mut Vec<T>, item: T) -> Result<(), AllocError>
+    ensures { OnOk result (list.new.items ≡ item ∷ list.old.items) }
+{
+    Ok(list.insert(0, item)?)
 }

@@ -18,7 +18,7 @@ ghost use Rattle.mi_base.specs.Reader.{reader_of, digest_of, line_of, Takes};
 use crate::fault::BaseFault;
 use crate::heading::{Head, Heading};
 use crate::lines::BaseLines;
-use crate::lists::{ids_of, list_of, list_value, put};
+use crate::lists::{ids_of, list_of, list_value, put, put_first};
 use crate::rows::{row_of, row_value};
 use mi_catalog::{Catalog, Schema};
 use mi_container::TableImage;
@@ -76,7 +76,7 @@ fn read_rows<R: BufRead>(
     ensures count { IfOk result (λ rows. length rows.items ≡ count) }
     ensures fits { IfOk result (λ rows. AllByRecursion (λ r. fits_record schema.now.columns r.1 ≡ true) rows.items) }
     ensures exact { Reads (λ rows. lines_text (map row_data rows))
-        (λ rows. (length rows ≡ count) × AllByRecursion (FitsRow schema.now) rows × AllByRecursion IsPlain (map row_data rows)) (λ rows a. rows.items ≡ a)
+        (λ rows. (length rows ≡ count) × (AllByRecursion (FitsRow schema.now) rows × AllByRecursion IsPlain (map row_data rows))) (λ rows a. rows.items ≡ a)
         (R.remaining (reader_of lines.old)) (R.remaining (reader_of lines.new)) result }
 {
     let mut rows = Vec::new(alloc);
@@ -116,25 +116,25 @@ fn read_list<R: BufRead>(alloc: Global, lines: &mut BaseLines<R>) -> Result<Vec<
     take_list(alloc, &value, lines)
 }
 
-/// Reads so many lists behind those that are there.
+/// Reads so many lists.
 fn read_lists<R: BufRead>(
     alloc: Global,
     count: usize,
-    lists: &mut Vec<Vec<u64>>,
     lines: &mut BaseLines<R>,
-) -> Result<(), BaseFault>
-    ensures ok { OnOk result (Takes (R.remaining (reader_of lines.old)) (R.remaining (reader_of lines.new)) (digest_of lines.old) (digest_of lines.new)
-        (map list_data (map (λ l. l.items) (drop (length lists.old.items) lists.new.items)))) }
-    ensures front { OnOk result (take (length lists.old.items) lists.new.items ≡ lists.old.items) }
-    ensures count { OnOk result (length lists.new.items ≡ length lists.old.items + count) }
-    ensures exact { Reads (λ ids. lines_text (map list_data ids)) (λ ids. (length ids ≡ count) × AllByRecursion IsPlain (map list_data ids))
-        (λ _ a. map (λ l. l.items) lists.new.items ≡ map (λ l. l.items) lists.old.items ++ a)
+) -> Result<Vec<Vec<u64>>, BaseFault>
+    ensures ok { IfOk result (λ lists. Takes (R.remaining (reader_of lines.old)) (R.remaining (reader_of lines.new)) (digest_of lines.old) (digest_of lines.new)
+        (map list_data (map (λ l. l.items) lists.items))) }
+    ensures count { IfOk result (λ lists. length (map (λ l. l.items) lists.items) ≡ count) }
+    ensures exact { Reads (λ ids. lines_text (map list_data ids))
+        (λ ids. (length ids ≡ count) × (AllByRecursion (λ _. Unit {0}) ids × AllByRecursion IsPlain (map list_data ids)))
+        (λ lists a. map (λ l. l.items) lists.items ≡ a)
         (R.remaining (reader_of lines.old)) (R.remaining (reader_of lines.new)) result }
 {
+    let mut lists = Vec::new(alloc);
     'lists: for _list in 0..count {
-        put(lists, read_list(alloc, lines)?)?;
+        put(&mut lists, read_list(alloc, lines)?)?;
     }
-    Ok(())
+    Ok(lists)
 }
 
 /// The numbers in front of a table's rows that the line that was read last is, as JSON.
@@ -184,11 +184,11 @@ fn read_table<R: BufRead>(
     ensures exact { Reads (λ t. lines_text (table_lines schema.now t)) (λ t. IsImage schema.now t × AllByRecursion IsPlain (table_lines schema.now t))
         (λ image t. image_table image ≡ t) (R.remaining (reader_of lines.old)) (R.remaining (reader_of lines.new)) result }
 {
+    schema.keeps_rules();
     let head = read_head(alloc, schema.table_name(), lines)?;
     let rows = read_rows(alloc, schema, head.rows, lines)?;
-    let mut lists = Vec::new(alloc);
-    put(&mut lists, ids_of(alloc, rows.as_slice())?)?;
-    read_lists(alloc, schema.index_count() - 1, &mut lists, lines)?;
+    let mut lists = read_lists(alloc, schema.index_count() - 1, lines)?;
+    put_first(&mut lists, ids_of(alloc, rows.as_slice())?)?;
     Ok(TableImage {
         rows,
         lists,
@@ -239,10 +239,7 @@ fn take_heading<R>(
 }
 
 /// Reads the heading.
-fn read_heading<R: BufRead>(
-    alloc: Global,
-    lines: &mut BaseLines<R>,
-) -> Result<Heading, BaseFault>
+fn read_heading<R: BufRead>(alloc: Global, lines: &mut BaseLines<R>) -> Result<Heading, BaseFault>
     ensures ok { IfOk result (λ h. Takes (R.remaining (reader_of lines.old)) (R.remaining (reader_of lines.new)) (digest_of lines.old) (digest_of lines.new) (heading_data h ∷ [])) }
     ensures exact { Reads (λ h. line_text (heading_data h)) (λ h. IsPlain (heading_data h)) (λ h a. heading_data h ≡ heading_data a)
         (R.remaining (reader_of lines.old)) (R.remaining (reader_of lines.new)) result }

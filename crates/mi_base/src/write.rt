@@ -1,27 +1,20 @@
-//! The text of a base, written behind what a writer has: heading, tables, digest. Of each table one image is in memory at a time.
+//! The text of a base, written behind what a writer has: heading, tables, digest. A line is in memory at a time.
 ghost use Rattle.std.specs.Prelude.{◌≡◌, ◌++◌, IfOk, OnOk, [], ◌∷◌, ℕ, List, map, drop, length};
 ghost use Rattle.std.specs.Io.KnownBytes.{Appends};
 ghost use Rattle.sha2.specs.Hashers.{Holds256};
-ghost use Rattle.mi_catalog.specs.Fitting.{HasTable};
-ghost use Rattle.mi_catalog.specs.Shape.{schema_at};
-ghost use Rattle.mi_model.specs.Table.{Table};
-ghost use Rattle.mi_model.specs.Database.{schema_of, table_of};
 ghost use Rattle.mi_container.specs.Restore.{image_table};
 ghost use Rattle.mi_base.specs.Lines.{line_text};
 ghost use Rattle.mi_base.specs.Base.{row_data, list_data, head_of, head_data, heading_data, table_lines, tables_lines, digest_data, base_text};
 ghost use Rattle.mi_base.specs.Writes.{Puts};
-ghost use Rattle.mi_base.specs.Images.{IsImageOf, AreImagesOf};
 ghost use Rattle.mi_base.specs.Reads.{ArePlain};
 
 use crate::fault::WriteFault;
 use crate::heading::{Head, Heading, digest_value};
-use crate::image::image_of;
 use crate::line::{line_of, put_line};
 use crate::lists::list_value;
 use crate::rows::row_value;
-use mi_catalog::Schema;
+use mi_catalog::{Catalog, Schema};
 use mi_container::TableImage;
-use mi_sessions::Sessions;
 use mi_value::Record;
 use sha2::{Digest, Sha256};
 use std::alloc::Global;
@@ -75,7 +68,7 @@ fn put_lists<W: Write>(
     digest: &mut Sha256,
     out: &mut W,
 ) -> Result<(), WriteFault>
-    ensures { OnOk result (Puts (W.contents out.old) (W.contents out.new) digest.old digest.new (map list_data (map (λ l. l.items) lists.now))) }
+    ensures { OnOk result (Puts (W.contents out.old) (W.contents out.new) digest.old digest.new (map (λ l. list_data l.items) lists.now)) }
 {
     'lists: for list in lists {
         put_list(alloc, list.as_slice(), digest, out)?;
@@ -97,6 +90,16 @@ fn put_head<W: Write>(
     put_line(alloc, &value, digest, out)
 }
 
+/// The lists behind the first.
+fn others(lists: &[Vec<u64>]) -> &[Vec<u64>]
+    ensures { result.now ≡ drop 1 lists.now }
+{
+    match lists.split_first() {
+        Some((_ids, others)) => others,
+        None => lists,
+    }
+}
+
 /// Writes a table: its numbers, its rows, and the lists of all indexes but the first.
 fn put_image<W: Write>(
     alloc: Global,
@@ -110,42 +113,26 @@ fn put_image<W: Write>(
     let head = Head {
         arrivals: image.arrivals,
         next: image.next,
-        rows: image.rows.len() as u64,
+        rows: image.rows.as_slice().len() as u64,
     };
     put_head(alloc, schema.table_name(), head, digest, out)?;
     put_rows(alloc, image.rows.as_slice(), digest, out)?;
-    let (_ids, lists) = image.lists.split_at(image.lists.len().min(1));
-    put_lists(alloc, lists, digest, out)
+    put_lists(alloc, others(image.lists.as_slice()), digest, out)
 }
 
-/// Writes the image of a table of a database.
-fn put_table<D: Sessions, W: Write>(
+/// Writes the images of all tables of a catalog, of which there is one a table.
+fn put_tables<W: Write>(
     alloc: Global,
-    database: &D,
-    table: usize,
+    catalog: &Catalog,
+    images: &[TableImage],
     digest: &mut Sha256,
     out: &mut W,
 ) -> Result<(), WriteFault>
-    requires { HasTable (D.state database.now).catalog table }
-    ensures { OnOk result ((image : Table) × IsImageOf (schema_of (D.state database.now) table) (table_of (D.state database.now) table) image
-        × Puts (W.contents out.old) (W.contents out.new) digest.old digest.new (table_lines (schema_of (D.state database.now) table) image)) }
+    requires { length images.now ≡ length catalog.now.tables }
+    ensures { OnOk result (Puts (W.contents out.old) (W.contents out.new) digest.old digest.new (tables_lines catalog.now.tables (map image_table images.now))) }
 {
-    let image = image_of(alloc, database, table)?;
-    put_image(alloc, database.catalog().table(table), &image, digest, out)
-}
-
-/// Writes the images of all tables of a database.
-fn put_tables<D: Sessions, W: Write>(
-    alloc: Global,
-    database: &D,
-    digest: &mut Sha256,
-    out: &mut W,
-) -> Result<(), WriteFault>
-    ensures { OnOk result ((images : List Table) × AreImagesOf (D.state database.now) images
-        × Puts (W.contents out.old) (W.contents out.new) digest.old digest.new (tables_lines (D.state database.now).catalog.tables images)) }
-{
-    'tables: for table in 0..database.catalog().table_count() {
-        put_table(alloc, database, table, digest, out)?;
+    'tables: for (table, image) in images.iter().enumerate() {
+        put_image(alloc, catalog.table(table), image, digest, out)?;
     }
     Ok(())
 }
@@ -175,22 +162,23 @@ fn put_digest<W: Write>(alloc: Global, digest: Sha256, out: &mut W) -> Result<()
     }
 }
 
-/// Writes the base of a database behind what the writer has, as its sessions leave the tables now: a heading, an image of each table, and a digest.
-/// It holds one image in memory at a time. The database stays as it is.
+/// Writes the base of these images, one for each table of the catalog in its order, behind what the writer has: a heading, the tables, and a
+/// digest. It writes a line at a time.
 ///
 /// `Memory` where memory is refused, and `Write` where a write fails; then nothing is said of what was written.
-pub fn write_base<D: Sessions, W: Write>(
+pub fn write_base<W: Write>(
     alloc: Global,
-    database: &D,
+    catalog: &Catalog,
     heading: &Heading,
+    images: &[TableImage],
     out: &mut W,
 ) -> Result<(), WriteFault>
-    ensures { OnOk result ((images : List Table) × AreImagesOf (D.state database.now) images
-        × ArePlain heading.now (D.state database.now).catalog images
-        × Appends (W.contents out.old) (W.contents out.new) (base_text heading.now (D.state database.now).catalog images)) }
+    requires { length images.now ≡ length catalog.now.tables }
+    ensures text { OnOk result (Appends (W.contents out.old) (W.contents out.new) (base_text heading.now catalog.now (map image_table images.now))) }
+    ensures plain { OnOk result (ArePlain heading.now catalog.now (map image_table images.now)) }
 {
     let mut digest = Sha256::new();
     put_heading(alloc, heading, &mut digest, out)?;
-    put_tables(alloc, database, &mut digest, out)?;
+    put_tables(alloc, catalog, images, &mut digest, out)?;
     put_digest(alloc, digest, out)
 }
