@@ -7,7 +7,7 @@ use Rattle.mi_model.specs.Database.{Database, depth}
 use Rattle.mi_commands.specs.Holder.{HeldDatabase}
 use Rattle.mi_base.specs.declared.heading.Heading.{Heading}
 use Rattle.mi_base.specs.Base.{base_text}
-use Rattle.mi_base.specs.Images.{AreImagesOf}
+use Rattle.mi_rebase.specs.Images.{AreImagesOf}
 use Rattle.mi_recovery.specs.declared.asking.Asked.{Asked}
 use Rattle.mi_recovery.specs.declared.place.JournalSchema.{JournalSchema}
 use Rattle.mi_recovery.specs.declared.place.Place.{Place}

@@ -3,7 +3,9 @@
 
 mod base;
 mod closing;
+mod images;
 mod rebasing;
 
 pub use base::{Base, base_of};
+pub use images::Imaged;
 pub use rebasing::rebased;

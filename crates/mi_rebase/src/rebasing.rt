@@ -1,11 +1,12 @@
 //! A base, made anew: a journal is asked to its end, its tables are written, the next segment is begun, and what the base has is taken away. Ended
 //! at any point, the journal gives the same tables. It looks at no line.
-ghost use Rattle.std.specs.Prelude.{◌≡◌, ◌+◌, [], length, true, Some, option_map, List, OnOk, IfOk, IfSome};
-ghost use Rattle.std.specs.Io.KnownBytes.{Keeps};
+ghost use Rattle.std.specs.Prelude.{◌≡◌, ◌+◌, [], length, true, Some, option_map, map, List, OnOk, IfOk, IfSome};
+ghost use Rattle.std.specs.Io.KnownBytes.{Appends, Keeps};
+ghost use Rattle.mi_container.specs.Restore.{image_table};
 ghost use Rattle.mi_model.specs.Database.{depth};
 ghost use Rattle.mi_model.specs.Table.{Table};
 ghost use Rattle.mi_base.specs.Base.{base_text};
-ghost use Rattle.mi_base.specs.Images.{AreImagesOf};
+ghost use Rattle.mi_rebase.specs.Images.{AreImagesOf};
 ghost use Rattle.std.specs.String.{string_bytes};
 ghost use Rattle.mi_base.specs.declared.heading.Heading.{Heading};
 ghost use Rattle.mi_recovery.specs.JournalFile.{text_of};
@@ -15,17 +16,21 @@ ghost use Rattle.mi_recovery.specs.Segments.{IsNext};
 ghost use Rattle.mi_rebase.specs.Rebase.{IsHeadingAt, IsWritten, IsRebased};
 
 use crate::closing::{closed, place_behind};
+use crate::images::Imaged;
 use mi_base::{Heading, WriteFault, write_base};
+use mi_catalog::Catalog;
+use mi_container::TableImage;
 use mi_hub::Hub;
 use mi_log::{Device, DeviceLog};
 use mi_recovery::{
     Asked, FileWriter, JournalDevice, JournalFailure, JournalFault, JournalFile, JournalFiles,
-    JournalSchema, Place, Position, ask_journal, base_path, new_base_path, next_segment, segment_path,
+    JournalSchema, Place, Position, ask_journal, base_path, new_base_path, next_segment,
+    segment_path,
 };
 use mi_sessions::Sessions;
 use sha2::{Digest, Sha256};
 use std::alloc::{AllocError, Global};
-use std::io::BufWriter;
+use std::io::{BufWriter, Write};
 
 /// What a base's first line says that stands at a place, behind no line of its segment.
 fn heading_at(
@@ -60,31 +65,68 @@ fn emptied<P: JournalFiles>(files: &P, path: &str) -> Result<P::File, JournalFau
     }
 }
 
+/// Writes the base of these images behind what a writer has, by writes of up to 64 KiB.
+fn write_behind<W: Write + Drop>(
+    alloc: Global,
+    catalog: &Catalog,
+    heading: &Heading,
+    images: &[TableImage],
+    writer: W,
+) -> Result<W, JournalFailure>
+    requires { length images.now ≡ length catalog.now.tables }
+    ensures { IfOk result (λ after. Appends (W.contents writer) (W.contents after) (base_text heading.now catalog.now (map image_table images.now))) }
+{
+    let Ok(mut out) = BufWriter::with_capacity(alloc, 65_536, writer) else {
+        return Err(JournalFailure::Memory);
+    };
+    match write_base(alloc, catalog, heading, images, &mut out) {
+        Ok(()) => {}
+        Err(WriteFault::Memory) => return Err(JournalFailure::Memory),
+        Err(WriteFault::Write) => return Err(JournalFailure::Write),
+    }
+    match out.into_inner() {
+        Ok(after) => Ok(after),
+        Err(_error) => Err(JournalFailure::Write),
+    }
+}
+
 /// Writes the base of a database behind what a file has.
-fn write_into<F: JournalFile + Drop, D: Sessions>(
+fn write_into<F: JournalFile + Drop, D: Imaged>(
     alloc: Global,
     database: &D,
     heading: &Heading,
     file: F,
 ) -> Result<F, JournalFailure>
     ensures { IfOk result (λ after. (images : List Table) × AreImagesOf (D.state database.now) images
-        × (F.contents file ≡ Some [] → F.contents after ≡ Some (base_text heading.now (D.state database.now).catalog images))) }
+        × Appends (F.contents file) (F.contents after) (base_text heading.now (D.state database.now).catalog images)) }
 {
-    let Ok(mut out) = BufWriter::with_capacity(alloc, 65_536, FileWriter::new(file)) else {
+    let Ok(images) = database.images(alloc) else {
         return Err(JournalFailure::Memory);
     };
-    match write_base(alloc, database, heading, &mut out) {
-        Ok(()) => match out.into_inner() {
-            Ok(writer) => Ok(writer.into_file()),
-            Err(_error) => Err(JournalFailure::Write),
-        },
-        Err(WriteFault::Memory) => Err(JournalFailure::Memory),
-        Err(WriteFault::Write) => Err(JournalFailure::Write),
+    let catalog = database.catalog();
+    let written = write_behind(
+        alloc,
+        catalog,
+        heading,
+        images.as_slice(),
+        FileWriter::new(file),
+    )?;
+    Ok(written.into_file())
+}
+
+/// Makes what a file has stay. `Write` where that fails.
+fn make_stay<F: JournalFile>(file: &mut F) -> Result<(), JournalFault>
+    ensures contents { Keeps (F.contents file.old) (F.contents file.new) }
+    ensures stays { OnOk result (Keeps (F.contents file.new) (F.stays file.new)) }
+{
+    match file.sync_data() {
+        Ok(()) => Ok(()),
+        Err(error) => Err(JournalFault::of(JournalFailure::Write, error)),
     }
 }
 
 /// Writes the base of a database to the file of a base that isn't whole yet, and makes it stay.
-fn write_new<P: JournalFiles, D: Sessions>(
+fn write_new<P: JournalFiles, D: Imaged>(
     alloc: Global,
     files: &P,
     path: &str,
@@ -98,10 +140,7 @@ fn write_new<P: JournalFiles, D: Sessions>(
     };
     let file = emptied(files, name.as_str())?;
     let mut file = write_into(alloc, database, heading, file)?;
-    match file.sync_data() {
-        Ok(()) => Ok(()),
-        Err(error) => Err(JournalFault::of(JournalFailure::Write, error)),
-    }
+    make_stay(&mut file)
 }
 
 /// The base that was written takes the place of the one before, and its name stays.
@@ -157,14 +196,12 @@ fn first_there<P: JournalFiles>(
     path: &str,
     last: u64,
 ) -> Result<u64, JournalFault> {
-    let mut first = last;
-    while first > 1 {
-        if !is_there(alloc, files, path, first - 1)? {
-            return Ok(first);
+    for back in 1..last {
+        if !is_there(alloc, files, path, last - back)? {
+            return Ok(last - back + 1);
         }
-        first -= 1;
     }
-    Ok(first)
+    Ok(1)
 }
 
 /// Takes away the segments up to this one, the oldest first: so those that are left stand without a gap, and a later rebase finds them.
@@ -174,15 +211,11 @@ fn remove_up_to<P: JournalFiles>(
     path: &str,
     last: u64,
 ) -> Result<(), JournalFault> {
-    let mut number = first_there(alloc, files, path, last)?;
-    while number <= last {
+    let first = first_there(alloc, files, path, last)?;
+    for number in first..last {
         remove(alloc, files, path, number)?;
-        match number.checked_add(1) {
-            Some(next) => number = next,
-            None => return Ok(()),
-        }
     }
-    Ok(())
+    remove(alloc, files, path, last)
 }
 
 /// No session is open. `Sessions` where one is.
@@ -197,7 +230,7 @@ fn check_settled<D: Sessions + Drop>(hub: &Hub<D>) -> Result<(), JournalFailure>
 
 /// The newest segment is closed, and the base of a hub whose journal was asked to its end is written. The answer is where the next segment begins,
 /// and the log of the closed one, which this process has still.
-fn written<P: JournalFiles, D: Sessions + Drop>(
+fn written<P: JournalFiles, D: Imaged + Drop>(
     alloc: Global,
     files: &P,
     hub: &Hub<D>,
@@ -240,7 +273,7 @@ fn replaced<P: JournalFiles>(
 ///
 /// The faults are those of `ask_journal`, `Sessions` where sessions are open at the end, and `Write` where a file isn't written, renamed or made to stay.
 /// `Locked` where a service has the journal. Whatever comes, a start gives the same tables as before.
-pub fn rebased<P: JournalFiles, D: Sessions + Drop>(
+pub fn rebased<P: JournalFiles, D: Imaged + Drop>(
     alloc: Global,
     files: &P,
     hub: Hub<D>,
