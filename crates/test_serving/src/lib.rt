@@ -4,6 +4,8 @@
 #[cfg(test)]
 mod folder;
 #[cfg(test)]
+mod rebasing;
+#[cfg(test)]
 mod segments;
 #[cfg(test)]
 mod telling;
