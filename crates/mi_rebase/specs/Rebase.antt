@@ -25,8 +25,7 @@ pub record IsHeadingAt (schema : JournalSchema) (revision : ℕ) (place : Place)
   pub line_is : heading.line ≡ place.skip
   pub sum_is : string_bytes heading.sum ≡ hash_of (string_bytes place.header)
 
--- A file of a base that isn't whole yet was seen, and has the base of this database then, which stays: images of its tables, each of which shows the
--- same as its table.
+-- A file of a base that isn't whole yet was seen, and has the base of this database then, which stays: its tables.
 pub record IsWritten {F : Type 0} (is_seen : List ℕ → F → Type 0) (contents stays : F → Option (List ℕ)) (path : List ℕ) (heading : Heading) (d : Database)
     : Type 0 where
   pub before : F

@@ -1,5 +1,6 @@
 //! Images of the tables of a database: what a base is written from.
-use mi_container::TableImage;
+use mi_container::{Container, TableImage};
+use mi_database::Linked;
 use mi_sessions::Sessions;
 use std::alloc::{AllocError, Global};
 
@@ -9,8 +10,14 @@ pub trait Imaged: Sessions {
     ghost use Rattle.mi_container.specs.Restore.{image_table};
     ghost use Rattle.mi_rebase.specs.Images.{AreImagesOf};
 
-    /// An image of each table as it is now, in the catalog's order. Each shows the same as its table in every index. An error where memory is
-    /// refused; nothing changes.
+    /// An image of each table as it is now, in the catalog's order: the very table. An error where memory is refused; nothing changes.
     fn images(&self, alloc: Global) -> Result<Vec<TableImage>, AllocError>
         ensures { IfOk result (λ images. AreImagesOf (Self.state self.now) (map image_table images.items)) };
+}
+
+impl<C: Container> Imaged for Linked<C> {
+    fn images(&self, alloc: Global) -> Result<Vec<TableImage>, AllocError> {
+        self.keeps_rules();
+        self.images(alloc)
+    }
 }

@@ -4,7 +4,6 @@
 mod base;
 mod closing;
 mod images;
-mod linked;
 mod rebasing;
 
 pub use base::{Base, base_of};
