@@ -3,9 +3,10 @@
     shop.journal           segment 1: a header of format 1, and lines
     shop.journal.000002    a later segment: a header of format 2, and lines
     shop.journal.base      the base, one JSON value a line: a heading; of each table its counters, its rows by their ids, and of each index but
-                           `id` all ids in order; and the SHA-256 of all that
+                           `id` all ids, those of one key in their order; and the SHA-256 of all that
 """
 import collections
+import functools
 import hashlib
 import json
 import os
@@ -141,7 +142,9 @@ def shows_same(image, table):
 
 
 def in_order(table, x, ids):
-    """The ids as the index shows them: of a hashed one the ids of each key."""
+    """The ids as the index shows them: of a hashed one the ids of each key, of a sorted one by their keys, equals as the list has them."""
+    if table.schema.indexes[x].is_sorted:
+        return sorted(ids, key=functools.cmp_to_key(lambda a, b: table.compare_keys(x, table.key(x, a), table.key(x, b))))
     if table.schema.indexes[x].kind != "hashed":
         return ids
     keys = collections.defaultdict(list)
