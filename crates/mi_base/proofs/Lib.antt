@@ -1,0 +1,8 @@
+pub mod TextLemmas
+pub mod LineLemmas
+pub mod FlatLemmas
+pub mod ArrayLemmas
+pub mod TableLemmas
+pub mod ReadLemmas
+pub mod ImageLemmas
+pub mod BaseLemmas

@@ -1,0 +1,8 @@
+-- A row has no floats, and is nested once.
+use Rattle.std.proofs.Common.{subst, sym}
+use Rattle.mi_base.specs.Lines.{IsFlat}
+use Rattle.mi_base.proofs.FlatLemmas.{row_flat}
+use Rattle.mi_base.proofs.write.put_row.Goals as goal
+
+pub put_line-requires : goal.put_line-requires
+put_line-requires g c = subst IsFlat (sym c.in_ok-value.ensures) (row_flat _)
