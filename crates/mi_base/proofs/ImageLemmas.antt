@@ -1,5 +1,5 @@
 -- A table that is read: its numbers, its rows and its lists, one behind another.
--- Cited by `read_table`.
+-- Cited by `read::read_table` and `BaseLemmas`.
 use Rattle.std.proofs.Common.{◌≡◌, ℕ, ◌-◌, ◌<◌, List, [], ◌∷◌, ◌++◌, map, drop, length, get_or, Bool, true, false, ◌&&◌, Option, Some, None, Result, Err, refl, sym, ap, ◌∙◌, subst, arith, append_assoc}
 use Rattle.std.specs.Prelude.{IfSome, MatchResult}
 use Rattle.std.proofs.lemmas.List.{length-drop}

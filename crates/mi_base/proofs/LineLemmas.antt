@@ -1,5 +1,5 @@
 -- Lines one behind another, written and read.
--- Cited by `line_of`.
+-- Cited by `write::put_lists`, `write::put_rows`, `BaseLemmas`, `ImageLemmas`, `ReadLemmas` and 1 more.
 use Rattle.std.proofs.Common.{◌≡◌, ℕ, ◌+◌, ◌<◌, List, [], ◌∷◌, ◌++◌, map, take, length, get_or, Option, Some, None, refl, sym, ap, ◌∙◌, subst, append_assoc}
 use Rattle.std.proofs.lemmas.List.{append-nil, take_more, map-append}
 use Rattle.std.specs.List.{AllByRecursion}

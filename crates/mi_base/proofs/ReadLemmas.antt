@@ -1,5 +1,5 @@
 -- Lines that are read one after another, and what is left where they stand first.
--- Cited by `read_rows`, `read_lists`.
+-- Cited by `read::read_end`, `read::read_lists`, `read::read_rows`, `BaseLemmas` and `ImageLemmas`.
 use Rattle.std.proofs.Common.{◌≡◌, ℕ, ◌+◌, ◌<◌, List, [], ◌∷◌, ◌++◌, map, length, Option, Some, None, Result, Err, refl, sym, ap, ◌∙◌, subst, arith, append_assoc}
 use Rattle.std.specs.Prelude.{IfSome, IfErr}
 use Rattle.std.specs.List.{AllByRecursion}

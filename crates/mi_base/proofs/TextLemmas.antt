@@ -1,5 +1,5 @@
 -- No newline stands within the compact text of a value, so its line is the first one of what begins with it.
--- Cited by `BaseLines::advance`.
+-- Cited by `BaseLines::advance` and `BaseLines::is_at_end`.
 use Rattle.std.proofs.Common.{◌≡◌, ℕ, zero, suc, ◌+◌, ◌/◌, ◌%◌, ◌-◌, ◌&&◌, List, [], ◌∷◌, ◌++◌, length, get_or, Bool, true, false, cond, nat_eq, nat_lt, ℤ, pos, negsuc}
 use Rattle.std.proofs.Common.{Option, Some, None, refl, sym, ap, ◌∙◌, arith, append_assoc}
 use Rattle.std.proofs.lemmas.Bool.Decides.{nat_tests}

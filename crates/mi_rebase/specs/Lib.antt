@@ -1,0 +1,3 @@
+-- To be read in this order, behind those of mi_recovery and mi_base.
+pub mod Images
+pub mod Rebase

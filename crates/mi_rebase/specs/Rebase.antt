@@ -1,0 +1,54 @@
+-- A journal's base is made anew: behind segment 3, which is closed, stand the tables, and segment 4 begins.
+use Rattle.std.specs.Prelude.{◌≡◌, ◌+◌, ℕ, List, Option, Some, IfSome}
+use Rattle.std.specs.String.{string_bytes}
+use Rattle.std.specs.Io.KnownBytes.{Keeps}
+use Rattle.mi_model.specs.Table.{Table}
+use Rattle.mi_model.specs.Database.{Database, depth}
+use Rattle.mi_commands.specs.Holder.{HeldDatabase}
+use Rattle.mi_base.specs.declared.heading.Heading.{Heading}
+use Rattle.mi_base.specs.Base.{base_text}
+use Rattle.mi_rebase.specs.Images.{AreImagesOf}
+use Rattle.mi_recovery.specs.declared.asking.Asked.{Asked}
+use Rattle.mi_recovery.specs.declared.place.JournalSchema.{JournalSchema}
+use Rattle.mi_recovery.specs.declared.place.Place.{Place}
+use Rattle.mi_recovery.specs.declared.place.Position.{Position}
+use Rattle.mi_recovery.specs.JournalFile.{text_of}
+use Rattle.mi_recovery.specs.Names.{new_base_name}
+use Rattle.mi_recovery.specs.Recovery.{kept_bytes}
+use Rattle.mi_recovery.specs.Segments.{IsAskedBehind, IsNext, hash_of}
+
+-- what the first line of a base says that stands at a place, where the database has this revision
+pub record IsHeadingAt (schema : JournalSchema) (revision : ℕ) (place : Place) (heading : Heading) : Type 0 where
+  pub schema_is : string_bytes heading.schema ≡ string_bytes schema.hash
+  pub revision_is : heading.revision ≡ revision
+  pub segment_is : heading.segment ≡ place.number
+  pub line_is : heading.line ≡ place.skip
+  pub sum_is : string_bytes heading.sum ≡ hash_of (string_bytes place.header)
+
+-- A file of a base that isn't whole yet was seen, and has the base of this database then, which stays: images of its tables, each of which shows the
+-- same as its table.
+pub record IsWritten {F : Type 0} (is_seen : List ℕ → F → Type 0) (contents stays : F → Option (List ℕ)) (path : List ℕ) (heading : Heading) (d : Database)
+    : Type 0 where
+  pub before : F
+  pub after : F
+  pub images : List Table
+  pub seen : is_seen (new_base_name path) before
+  pub are : AreImagesOf d images
+  pub written : IfSome (contents before) (λ _. contents after ≡ Some (base_text heading d.catalog images))
+  pub stay : Keeps (contents after) (stays after)
+
+-- From old, which stands at a position of a journal, its base is made anew: the lines behind are asked, no session is open then, and the base of
+-- what they leave stands in front of the segment behind the newest.
+pub record IsRebased {F : Type 0} (is_locked : F → Type 0) (is_seen : List ℕ → F → Type 0) (is_newest : ℕ → Type 0) (contents stays : F → Option (List ℕ))
+    (path : List ℕ) (schema : JournalSchema) (position : Option Position) (old : HeldDatabase) : Type 0 where
+  pub asked : Asked F
+  pub new : HeldDatabase
+  pub next : Place
+  pub heading : Heading
+  pub behind : IsAskedBehind is_locked is_seen is_newest contents path schema position old asked new
+  pub settled : depth new.database ≡ 0
+  pub number : next.number ≡ asked.place.number + 1
+  pub closes : IfSome (contents asked.file) (λ bytes. IsNext schema asked.place
+      (text_of (kept_bytes (string_bytes asked.place.header) (text_of bytes) asked.found)) next)
+  pub stands : IsHeadingAt schema new.database.revision next heading
+  pub is : IsWritten is_seen contents stays path heading new.database
