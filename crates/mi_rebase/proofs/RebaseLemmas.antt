@@ -1,35 +1,19 @@
--- What is written of a base, and what a closed segment has.
--- Cited by nobody yet.
-use Rattle.std.proofs.Common.{◌≡◌, ℕ, List, [], ◌++◌, Option, Some, None, Result, Ok, Err, refl, sym, ap, ◌∙◌, subst, append-nil, length}
-use Rattle.std.specs.Prelude.{IfOk, IfSome, OnOk}
-use Rattle.std.specs.Prelude.{Bool, true, false, cond, option_and_then}
-use Rattle.mi_recovery.specs.declared.device.JournalDevice.{JournalDevice}
+-- What a closed segment has, and that what was asked of it was found.
+-- Cited by `closing::closed`, `rebasing::rebased` and `rebasing::written`.
+use Rattle.std.proofs.Common.{◌≡◌, ◌≤◌, ℕ, zero, suc, List, [], ◌∷◌, Option, Some, None, Result, Ok, Err, refl, ap, ◌∙◌, subst, length, length-append, arith}
+use Rattle.std.specs.Prelude.{IfSome, OnOk}
+use Rattle.std.specs.Io.KnownBytes.{Keeps}
+use Rattle.mi_commands.specs.Holder.{HeldDatabase}
+use Rattle.mi_hub.specs.Ended.{ended, if_none, after_newlines}
+use Rattle.mi_ledger.specs.Replay.{Passes}
 use Rattle.mi_recovery.specs.declared.device.Keeping.TheVariants.{Synced}
-use Rattle.mi_recovery.specs.Device.{file_of, is_staying, told_of}
-use Rattle.mi_recovery.specs.Recovery.{Has}
-use Rattle.std.specs.Io.KnownBytes.{Appends, Keeps, append_known}
-
--- what is written through an empty buffer is appended to what it writes to
-pub through_buffer : (o i n k : Option (List ℕ)) (b t : List ℕ) → i ≡ o → b ≡ [] → Appends (append_known i b) n t → Keeps n k → Appends o k t
-through_buffer None i n k b t is empty put kept = tt
-through_buffer (Some xs) i n k b t is empty put kept =
-    go n k (subst (λ c. Appends (append_known (Some xs) c) n t) empty (subst (λ j. Appends (append_known j b) n t) is put)) kept
-  where
-    go : (n k : Option (List ℕ)) → Appends (Some (xs ++ [])) n t → Keeps n k → Appends (Some xs) k t
-    go None k put kept = absurd put
-    go (Some ys) None put kept = absurd kept
-    go (Some ys) (Some zs) put kept = kept ∙ put ∙ ap (λ l. l ++ t) (append-nil xs)
-
--- a file that was emptied has then just what was appended
-pub written_whole : (before o n k : Option (List ℕ)) (t : List ℕ) → IfSome before (λ _. o ≡ Some []) → Appends o n t → Keeps n k
-    → IfSome before (λ _. k ≡ Some t)
-written_whole None o n k t empty put kept = tt
-written_whole (Some xs) o n k t empty put kept = go n k (subst (λ j. Appends j n t) empty put) kept
-  where
-    go : (n k : Option (List ℕ)) → Appends (Some []) n t → Keeps n k → k ≡ Some t
-    go None k put kept = absurd put
-    go (Some ys) None put kept = absurd kept
-    go (Some ys) (Some zs) put kept = ap Some (kept ∙ put)
+use Rattle.mi_recovery.specs.declared.opening.Journaled.{Journaled}
+use Rattle.mi_recovery.specs.declared.opening.Journaled.TheVariants.{Nothing, Journal}
+use Rattle.mi_recovery.specs.declared.place.JournalSchema.{JournalSchema}
+use Rattle.mi_recovery.specs.declared.place.Place.{Place}
+use Rattle.mi_recovery.specs.JournalFile.{text_of}
+use Rattle.mi_recovery.specs.Recovery.{Has, IsFound}
+use Rattle.mi_recovery.specs.Segments.{IsAsked, IsNext}
 
 -- ---- the newest segment, closed
 
@@ -44,22 +28,43 @@ has_kept (Some bytes) told new kept has keeps = go told new has keeps
     go (Some xs) None has keeps = absurd keeps
     go (Some xs) (Some ys) has keeps = ap Some keeps ∙ has
 
--- what is said of a file's bytes is said of what its device tells
-pub told_next : {F X E : Type 0} (contents : F → Option (List ℕ)) (d : JournalDevice F) (f : F) (Q : List ℕ → X → Type 0) (r : Result X E)
-    → file_of d ≡ Some f → IfOk r (λ x. IfSome (contents f) (λ bytes. Q bytes x)) → IfOk r (λ x. IfSome (told_of contents d) (λ bytes. Q bytes x))
-told_next {F} contents d f Q (Ok x) is q = go (is_staying d) (file_of d) is
-  where
-    go : (b : Bool) (o : Option F) → o ≡ Some f → IfSome (cond b (option_and_then contents o) None) (λ bytes. Q bytes x)
-    go true o same = subst (λ (j : Option F). IfSome (option_and_then contents j) (λ bytes. Q bytes x)) (sym same) q
-    go false o same = tt
-told_next contents d f Q (Err e) is q = tt
-
 -- what is said of all that a log tells is said of what was kept
-pub closes_by : (o told : Option (List ℕ)) (kept : List ℕ → List ℕ) (Q : List ℕ → Type 0) → IfSome o (λ bytes. Has Synced (kept bytes) told)
-    → IfSome told Q → IfSome o (λ bytes. Q (kept bytes))
-closes_by None told kept Q has q = tt
-closes_by (Some bytes) told kept Q has q = subst (λ t. IfSome t Q) has q
+pub closes_by : (o told : Option (List ℕ)) (kept : List ℕ → List ℕ) (schema : JournalSchema) (place next : Place)
+    → IfSome o (λ bytes. Has Synced (kept bytes) told)
+    → IfSome told (λ bytes. (p : Place) → p.number ≡ place.number → IsNext schema p (text_of bytes) next)
+    → IfSome o (λ bytes. IsNext schema place (text_of (kept bytes)) next)
+closes_by None told kept schema place next has q = tt
+closes_by (Some bytes) told kept schema place next has q =
+    subst (λ t. IfSome t (λ b. (p : Place) → p.number ≡ place.number → IsNext schema p (text_of b) next)) has q place refl
 
 pub on_ok : {X E : Type 0} (P : Type 0) (r : Result X E) → P → OnOk r P
 on_ok P (Ok x) p = p
 on_ok P (Err e) p = tt
+
+-- ---- what was asked was found
+
+after_within : (bs : List ℕ) → length (after_newlines bs) ≤ length bs
+unfolding after_newlines
+after_within [] = omega arith
+after_within (b ∷ bs) = go (ended (b ∷ bs)) (after_within bs)
+  where
+    go : (ts : List (List ℕ)) → length (after_newlines bs) ≤ length bs → length (if_none ts (b ∷ bs) (after_newlines bs)) ≤ length (b ∷ bs)
+    go [] within = omega arith
+    go (t ∷ ts) within = omega (arith, within)
+
+passes_within : (n : ℕ) (all left : List ℕ) → Passes n all left → length left ≤ length all
+passes_within zero all left p = omega (arith, ap length p)
+passes_within (suc n) all left p = omega (arith, passes_within n p.1 left p.4, ap length p.3, length-append p.0 p.1)
+
+asked_found : (header text : List ℕ) (skip : ℕ) (found : Journaled) (old new : HeldDatabase) → IsAsked header skip text found old new
+    → IsFound header text found
+asked_found header text skip Nothing old new p = p.0
+asked_found header text skip (Journal torn) old new p =
+    let inner : torn ≤ length p.1 = rw p.4.1 (after_within p.1) in
+    let within = passes_within skip p.0 p.1 p.3 in
+    rw (p.2, length-append) (omega (arith, inner, within))
+
+pub asked_after : (o : Option (List ℕ)) (header : List ℕ) (skip : ℕ) (found : Journaled) (old new : HeldDatabase)
+    → IfSome o (λ bytes. IsAsked header skip (text_of bytes) found old new) → IfSome o (λ bytes. IsFound header (text_of bytes) found)
+asked_after None header skip found old new p = tt
+asked_after (Some bytes) header skip found old new p = asked_found header (text_of bytes) skip found old new p
