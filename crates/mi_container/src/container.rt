@@ -189,6 +189,11 @@ pub trait Container: Drop {
     fn size(&self) -> u64
         ensures { result ≡ size_of (as_table (plain self.now)) };
 
+    /// Its table as plain data: copies of the records by rising ids, the list of each index, and both counters. Nothing changes, and no
+    /// kept node is in it. Refusal: memory; then nothing is left.
+    fn image(&self, alloc: Global) -> Result<TableImage, AllocError>
+        ensures { IfOk result (λ image. image_table image ≡ as_table (plain self.now)) };
+
     /// How many bytes of memory it takes: its nodes, its indexes, its map of ids, and records that don't lie in their nodes. No clause says how
     /// many; tests do. Its time doesn't grow with the table.
     fn memory(&self) -> u64;

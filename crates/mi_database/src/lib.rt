@@ -5,6 +5,7 @@
 mod bound;
 mod ending;
 mod erasing;
+mod images;
 mod linked;
 mod restored;
 mod sessions;

@@ -1,5 +1,5 @@
 -- All that is known of each index before and after a pass.
--- Cited by `AcceptLemmas`, `EraseLemmas`, `IndexNumberLemmas`, `InsertLemmas`, `InsertedLemmas` and 18 more.
+-- Cited by `AcceptLemmas`, `EraseLemmas`, `ImagingLemmas`, `IndexNumberLemmas`, `InsertLemmas` and 19 more.
 use Rattle.std.proofs.Common.{◌≡◌, ℕ, ◌+◌, ◌<◌, zero, suc, true, List, [], ◌∷◌, map, get_or, length, refl, ap, sym, ◌∙◌, subst, arith}
 use Rattle.std.specs.Ordering.{nat_cmp}
 use Rattle.std.specs.FinMap.{FinMap}

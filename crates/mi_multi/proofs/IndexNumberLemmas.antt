@@ -1,5 +1,5 @@
 -- What is known of the index of a number.
--- Cited by `CallLemmas`, `ConflictLemmas`, `KeyCallLemmas`, `LookUpLemmas`, `OldPlaceLemmas` and 5 more.
+-- Cited by `MultiIndex::stamp`, `CallLemmas`, `ConflictLemmas`, `ImagingLemmas`, `KeyCallLemmas` and 7 more.
 use Rattle.std.proofs.Common.{◌≡◌, ℕ, ◌+◌, ◌<◌, zero, suc, List, [], ◌∷◌, slice_get, get_or, length, refl, ap, subst, arith}
 use Rattle.std.specs.List.{AllByRecursion}
 use Rattle.std.specs.Ordering.{nat_cmp}

@@ -23,6 +23,7 @@ pub mod InsertedLemmas
 pub mod RoomLemmas
 pub mod AcceptLemmas
 pub mod HeldLemmas
+pub mod ImagingLemmas
 pub mod RelocateLemmas
 pub mod IndexNumberLemmas
 pub mod SecretLemmas

@@ -1,5 +1,5 @@
 -- The places that a row had, as its structures answer them, are those that the data say.
--- Cited by `MultiIndex::old_places` and `PutCallLemmas`.
+-- Cited by `MultiIndex::old_places`, `ImagingLemmas` and `PutCallLemmas`.
 use Rattle.std.proofs.Common.{◌≡◌, ℕ, ◌+◌, ◌^◌, ◌<◌, ◌≤◌, zero, suc, Bool, true, false, cond, not, List, []}
 use Rattle.std.proofs.Common.{◌∷◌, ◌++◌, map, take, get_or, length, slice_get, refl, ap, sym, ◌∙◌, subst, arith}
 use Rattle.std.specs.Option.{option_map}

@@ -1,5 +1,5 @@
 -- What the calls that put another record ask and answer, by what contracts see of the container.
--- Cited by `MultiIndex::changed_by`, `MultiIndex::edited`, `MultiIndex::live_row`, `MultiIndex::modify` and 4 more.
+-- Cited by `MultiIndex::changed_by`, `MultiIndex::edited`, `MultiIndex::live_row`, `MultiIndex::modify` and 5 more.
 use Rattle.std.proofs.Common.{◌≡◌, ℕ, ◌+◌, ◌^◌, ◌<◌, Bool, true, false, not, List, ◌++◌, ◌∷◌, map, length, slice_get, refl, ap, sym, ◌∙◌, subst}
 use Rattle.std.specs.Option.{option_map}
 use Rattle.std.specs.Ordering.{is_eq}

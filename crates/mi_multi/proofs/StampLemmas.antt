@@ -1,5 +1,5 @@
 -- The stamps of live nodes, and the list that they give a hashed index.
--- Cited by `InsertLemmas`, `LinkLemmas`, `NeighbourLemmas`, `OldPlaceLemmas`, `OldRecordPlaceLemmas` and 4 more.
+-- Cited by `ImagingLemmas`, `InsertLemmas`, `LinkLemmas`, `NeighbourLemmas`, `OldPlaceLemmas` and 5 more.
 use Rattle.std.proofs.Common.{◌≡◌, ℕ, ◌+◌, ◌<◌, zero, suc, Bool, true, false, cond, List, [], ◌∷◌, get_or, length, refl, ap, sym, ◌∙◌, subst, arith}
 use Rattle.std.specs.List.{AllByRecursion, filter}
 use Rattle.std.specs.Ordering.{nat_cmp, on}

@@ -101,6 +101,10 @@ impl Container for MultiIndex {
         self.size()
     }
 
+    fn image(&self, alloc: Global) -> Result<TableImage, AllocError> {
+        self.image(alloc)
+    }
+
     fn memory(&self) -> u64 {
         self.memory()
     }

@@ -28,6 +28,7 @@ mod changes;
 mod conflicts;
 mod container;
 mod counting;
+mod imaging;
 mod multi;
 mod putting;
 mod reading;

@@ -26,7 +26,7 @@ use std::alloc::{AllocError, Global};
 
 /// How an index keeps the order of its rows: by their ids, by stamps, or by a list of its own.
 #[derive(Clone, Copy)]
-enum Keeping {
+pub(crate) enum Keeping {
     Ids,
     Stamps,
     List,
@@ -140,7 +140,7 @@ impl MultiIndex {
     }
 
     /// How an index keeps the order of its rows.
-    fn keeping(&self, index: usize) -> Keeping
+    pub(crate) fn keeping(&self, index: usize) -> Keeping
         requires { index < length self.now.shape.indexes }
         ensures { result ≡ keeping_of (order_at self.now.plain.orders index) }
     {
@@ -458,7 +458,7 @@ fn check_rows(schema: &Schema, rows: &[(u64, Record)]) -> Result<(), RestoreFaul
 }
 
 /// The ids of rows.
-fn row_ids(alloc: Global, rows: &[(u64, Record)]) -> Result<Vec<u64>, AllocError>
+pub(crate) fn row_ids(alloc: Global, rows: &[(u64, Record)]) -> Result<Vec<u64>, AllocError>
     ensures { IfOk result (λ ids. ids.items ≡ map (λ r. r.0) rows.now) }
 {
     let mut ids = Vec::new(alloc);
