@@ -329,7 +329,11 @@ fn check_task(
     } else {
         places.some()
     };
-    if is_task { Ok(()) } else { Err(WordsFault::Rules) }
+    if is_task {
+        Ok(())
+    } else {
+        Err(WordsFault::Rules)
+    }
 }
 
 /// The options that were matched. The fault is `Rules` or `Memory`.

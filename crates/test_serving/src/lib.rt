@@ -4,8 +4,6 @@
 #[cfg(test)]
 mod folder;
 #[cfg(test)]
-mod rebasing;
-#[cfg(test)]
 mod segments;
 #[cfg(test)]
 mod telling;

@@ -11,10 +11,12 @@ use std::alloc::Global;
 use std::test::Fail;
 
 /// A line that inserts one account.
-const FIRST: &str = "{\"cmd\":\"insert\",\"row\":{\"owner\":\"ann\",\"balance\":50,\"vip\":false}}\n";
+const FIRST: &str =
+    "{\"cmd\":\"insert\",\"row\":{\"owner\":\"ann\",\"balance\":50,\"vip\":false}}\n";
 
 /// The same of another owner.
-const SECOND: &str = "{\"cmd\":\"insert\",\"row\":{\"owner\":\"bob\",\"balance\":7,\"vip\":true}}\n";
+const SECOND: &str =
+    "{\"cmd\":\"insert\",\"row\":{\"owner\":\"bob\",\"balance\":7,\"vip\":true}}\n";
 
 /// What tells the schema in a header.
 pub(crate) fn schema(alloc: Global) -> Result<JournalSchema, Fail> {
@@ -37,7 +39,12 @@ fn joined(alloc: Global, one: &str, other: &str) -> Result<String, Fail> {
 }
 
 /// The text of the segment with this number behind another text, which has these lines.
-pub(crate) fn segment(alloc: Global, before: &str, number: u64, lines: &str) -> Result<String, Fail> {
+pub(crate) fn segment(
+    alloc: Global,
+    before: &str,
+    number: u64,
+    lines: &str,
+) -> Result<String, Fail> {
     let previous = sum(alloc, before)?;
     let mut text = segment_header(alloc, previous.as_str(), &schema(alloc)?, number)?;
     text.push_str("\n")?;
@@ -183,7 +190,10 @@ fn segments_are_torn(rt: HostRuntime) -> Result<(), Fail> {
     assert!(rt; is_told(alloc, &folder, "journal: segment 1")?);
     let text = String::from_utf8_lossy(alloc, first.as_slice())?;
     let folder = three(alloc)?;
-    folder.put("j.000002", segment(alloc, text.as_str(), 2, "nothing\n")?.as_bytes())?;
+    folder.put(
+        "j.000002",
+        segment(alloc, text.as_str(), 2, "nothing\n")?.as_bytes(),
+    )?;
     assert!(rt; is_told(alloc, &folder, "journal: segment 2 line 2")?);
     Ok(())
 }

@@ -6,9 +6,7 @@ use mi_catalog::{Catalog, built_in};
 use mi_hub::Hub;
 use mi_log::Device;
 use mi_plain::Plain;
-use mi_recovery::{
-    JournalFile, JournalFiles, Journaled, Keeping, fingerprint, opened, recovered,
-};
+use mi_recovery::{JournalFile, JournalFiles, Journaled, Keeping, fingerprint, opened, recovered};
 use mi_schema::read_catalog;
 use mi_serving::{BUILT_IN, Failure};
 use std::alloc::Global;
