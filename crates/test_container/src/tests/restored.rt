@@ -236,7 +236,9 @@ fn a_row_that_does_not_fit_is_refused(rt: HostRuntime) {
     let alloc = rt.alloc();
     let mut image = image(&rt, alloc);
     let short = Record::new(alloc, &[ValueRef::Int(1)]).expect(&rt, "memory is there");
-    image.rows[2].1 = short;
+    if let Some(row) = image.rows.get_mut(2) {
+        row.1 = short;
+    }
     let got = held(&rt, alloc, image).map(|made| made.rows.size());
     assert_restored(&rt, got, Err(RestoreFault::Row(9)));
 }
