@@ -4,5 +4,6 @@ mod accounts;
 mod counting;
 mod library;
 mod look_ups;
+mod restored;
 mod serving;
 mod sessions;

@@ -6,6 +6,7 @@ mod change;
 mod container;
 mod fitting;
 mod journaled;
+mod memory;
 mod reference;
 mod restored;
 mod undoable;

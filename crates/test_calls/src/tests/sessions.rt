@@ -52,7 +52,7 @@ fn opened<D: Opens>(rt: &impl Abort, alloc: Global) -> D {
 }
 
 /// The table shows this account for an id.
-fn assert_shows<D: Sessions>(
+pub(super) fn assert_shows<D: Sessions>(
     rt: &impl Abort,
     database: &D,
     id: u64,
@@ -82,7 +82,7 @@ fn has_sums<D: Sessions>(database: &D) -> bool
 }
 
 /// Adds an account and wants this answer. One that is refused is handed back.
-fn add<D: Sessions>(
+pub(super) fn add<D: Sessions>(
     rt: &impl Abort,
     alloc: Global,
     database: &mut D,
@@ -119,18 +119,18 @@ fn replace<D: Sessions>(rt: &impl Abort, alloc: Global, database: &mut D, id: u6
     assert!(rt; database.replace(alloc, 0, id, row).is_ok());
 }
 
-fn erase<D: Sessions>(rt: &impl Abort, alloc: Global, database: &mut D, id: u64) {
+pub(super) fn erase<D: Sessions>(rt: &impl Abort, alloc: Global, database: &mut D, id: u64) {
     assert!(rt; database.catalog().table_count() == 1);
     assert!(rt; database.erase(alloc, 0, id).is_ok());
 }
 
 /// Opens the session of this number.
-fn start<D: Sessions>(rt: &impl Abort, alloc: Global, database: &mut D, want: u64) {
+pub(super) fn start<D: Sessions>(rt: &impl Abort, alloc: Global, database: &mut D, want: u64) {
     assert!(rt; database.start(alloc) == Ok(want));
 }
 
 /// Undoes the newest session and wants this answer.
-fn undo<D: Sessions>(rt: &impl Abort, database: &mut D, want: Result<u64, NoSession>) {
+pub(super) fn undo<D: Sessions>(rt: &impl Abort, database: &mut D, want: Result<u64, NoSession>) {
     assert!(rt; database.undo() == want);
 }
 
@@ -144,7 +144,7 @@ fn reserve<D: Sessions>(rt: &impl Abort, database: &mut D, changes: u64, session
 }
 
 /// As many sessions are open, and this is the revision.
-fn assert_open<D: Sessions>(rt: &impl Abort, database: &D, depth: u64, revision: u64) {
+pub(super) fn assert_open<D: Sessions>(rt: &impl Abort, database: &D, depth: u64, revision: u64) {
     assert!(rt; database.depth() == depth && database.revision() == revision);
 }
 

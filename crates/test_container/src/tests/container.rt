@@ -46,7 +46,7 @@ const K: usize = 0;
 const N: usize = 3;
 
 /// A record of that table.
-fn record(rt: &impl Abort, alloc: Global, k: i64, s: &str, f: bool, n: i64) -> Record {
+pub(super) fn record(rt: &impl Abort, alloc: Global, k: i64, s: &str, f: bool, n: i64) -> Record {
     let k = ValueRef::Int(k);
     let s = ValueRef::Text(s);
     Record::new(alloc, &[k, s, ValueRef::Flag(f), ValueRef::Int(n)]).expect(rt, "memory is there")
@@ -99,11 +99,11 @@ fn assert_flagged<C: Container>(rt: &impl Abort, undoable: &Undoable<C>, f: bool
 }
 
 /// What the list, the index by `n`, and of the index by `f` each key show.
-struct Views {
-    line: &'static [u64],
-    by_n: &'static [u64],
-    unset: &'static [u64],
-    set: &'static [u64],
+pub(super) struct Views {
+    pub(super) line: &'static [u64],
+    pub(super) by_n: &'static [u64],
+    pub(super) unset: &'static [u64],
+    pub(super) set: &'static [u64],
 }
 
 /// What is shown of the first four records.
@@ -114,7 +114,8 @@ const OF_FOUR: Views = Views {
     set: &[2, 3],
 };
 
-fn check_views<C: Container>(rt: &impl Abort, undoable: &Undoable<C>, want: &Views)
+/// The views of a container are these.
+pub(super) fn check_views<C: Container>(rt: &impl Abort, undoable: &Undoable<C>, want: &Views)
     requires { CanTakeBack undoable.now.schema (C.shape undoable.now.rows) (C.plain undoable.now.rows) undoable.now.inverses.items }
 {
     assert_ids(rt, undoable, LINE, want.line);
