@@ -2,10 +2,6 @@
 #![tactic(auto)]
 
 #[cfg(test)]
-mod folder;
-#[cfg(test)]
-mod segments;
-#[cfg(test)]
 mod telling;
 #[cfg(test)]
 mod tests;
