@@ -1,1 +1,2 @@
 mod RebaseLemmas
+mod ImageLemmas
