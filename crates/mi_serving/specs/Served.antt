@@ -1,5 +1,5 @@
 -- What a service was opened with, and served: of --journal shop.journal its base and its segments, and the tables that these have.
-use Rattle.std.specs.Prelude.{◌≡◌, ◌⊎◌, ⊥, ℕ, List, [], map, true, Option, Some, None, option_map, IfSome}
+use Rattle.std.specs.Prelude.{◌≡◌, ◌⊎◌, ℕ, List, [], map, true, Option, Some, None, option_map, IfSome}
 use Rattle.std.specs.String.{string_bytes}
 use Rattle.mi_catalog.specs.Shape.{CatalogShape}
 use Rattle.mi_model.specs.Database.{Database, opened_database}

@@ -322,7 +322,7 @@ fn check_task(
     places: &Places,
     journal: Option<&JournalWords>,
 ) -> Result<(), WordsFault>
-    ensures { OnOk result (is_task rebase (listens places.now) (is_some journal) ≡ true) }
+    ensures { OnOk result (is_task rebase (listens places.now) (is_some journal.entry) ≡ true) }
 {
     let is_task = if rebase {
         !places.some() && journal.is_some()
