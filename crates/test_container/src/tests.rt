@@ -5,6 +5,7 @@ mod beside;
 mod change;
 mod container;
 mod fitting;
+mod imaged;
 mod journaled;
 mod reference;
 mod restored;

@@ -43,7 +43,7 @@ const BY_S_N: usize = 6;
 /// The columns of numbers.
 const K: usize = 0;
 
-const N: usize = 3;
+pub(super) const N: usize = 3;
 
 /// A record of that table.
 fn record(rt: &impl Abort, alloc: Global, k: i64, s: &str, f: bool, n: i64) -> Record {
@@ -58,7 +58,7 @@ fn key_of(rt: &impl Abort, alloc: Global, value: &ValueRef<'static>) -> [Value; 
 }
 
 /// Whether a record is this one.
-fn is_row(row: &Record, k: i64, s: &str, f: bool, n: i64) -> bool {
+pub(super) fn is_row(row: &Record, k: i64, s: &str, f: bool, n: i64) -> bool {
     row.column_count() == 4
         && row.get(0) == Some(ValueRef::Int(k))
         && row.get(1) == Some(ValueRef::Text(s))
@@ -99,11 +99,11 @@ fn assert_flagged<C: Container>(rt: &impl Abort, undoable: &Undoable<C>, f: bool
 }
 
 /// What the list, the index by `n`, and of the index by `f` each key show.
-struct Views {
-    line: &'static [u64],
-    by_n: &'static [u64],
-    unset: &'static [u64],
-    set: &'static [u64],
+pub(super) struct Views {
+    pub(super) line: &'static [u64],
+    pub(super) by_n: &'static [u64],
+    pub(super) unset: &'static [u64],
+    pub(super) set: &'static [u64],
 }
 
 /// What is shown of the first four records.
@@ -114,7 +114,7 @@ const OF_FOUR: Views = Views {
     set: &[2, 3],
 };
 
-fn check_views<C: Container>(rt: &impl Abort, undoable: &Undoable<C>, want: &Views)
+pub(super) fn check_views<C: Container>(rt: &impl Abort, undoable: &Undoable<C>, want: &Views)
     requires { CanTakeBack undoable.now.schema (C.shape undoable.now.rows) (C.plain undoable.now.rows) undoable.now.inverses.items }
 {
     assert_ids(rt, undoable, LINE, want.line);
@@ -202,7 +202,7 @@ fn add<C: Container>(rt: &impl Abort, alloc: Global, undoable: &mut Undoable<C>,
 }
 
 /// Puts the four in.
-fn fill<C: Container>(rt: &impl Abort, alloc: Global, undoable: &mut Undoable<C>)
+pub(super) fn fill<C: Container>(rt: &impl Abort, alloc: Global, undoable: &mut Undoable<C>)
     requires { CanTakeBack undoable.old.schema (C.shape undoable.old.rows) (C.plain undoable.old.rows) undoable.old.inverses.items }
     ensures { CanTakeBack undoable.new.schema (C.shape undoable.new.rows) (C.plain undoable.new.rows) undoable.new.inverses.items }
 {
@@ -736,7 +736,7 @@ fn check_reuse<C: Container>(rt: &impl Abort, alloc: Global, undoable: &mut Undo
 }
 
 /// A container of a table without a record.
-fn opened<C: Container>(rt: &impl Abort, alloc: Global, schema: Schema) -> Undoable<C>
+pub(super) fn opened<C: Container>(rt: &impl Abort, alloc: Global, schema: Schema) -> Undoable<C>
     ensures { CanTakeBack result.schema (C.shape result.rows) (C.plain result.rows) result.inverses.items }
 {
     Undoable::open(alloc, schema).expect(rt, "memory is there")

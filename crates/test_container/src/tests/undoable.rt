@@ -10,7 +10,7 @@ use super::asking::{check, check_below};
 use super::change::{Answer, Rows, Way};
 use super::fitting::{fits_edits, kind_at};
 use mi_catalog::Schema;
-use mi_container::{Container, Inverse};
+use mi_container::{Container, Inverse, RestoreFault, TableImage};
 use mi_value::{Edit, Lower, Record, Refusal, Steps, Upper, Value};
 use std::alloc::{AllocError, Global};
 use std::collections::VecDeque;
@@ -30,6 +30,22 @@ impl<C: Container> Undoable<C> {
         ensures { IfOk result (λ u. CanTakeBack u.schema (C.shape u.rows) (C.plain u.rows) u.inverses.items) }
     {
         let rows = C::new(alloc, schema.copy(alloc)?, 1)?;
+        Ok(Undoable {
+            schema,
+            rows,
+            inverses: VecDeque::new(alloc),
+        })
+    }
+
+    /// The container that is restored from an image.
+    pub(super) fn restored(
+        alloc: Global,
+        schema: Schema,
+        image: TableImage,
+    ) -> Result<Undoable<C>, RestoreFault>
+        ensures { IfOk result (λ u. CanTakeBack u.schema (C.shape u.rows) (C.plain u.rows) u.inverses.items) }
+    {
+        let rows = C::restored(alloc, schema.copy(alloc)?, 1, image)?;
         Ok(Undoable {
             schema,
             rows,
