@@ -58,15 +58,7 @@ impl MultiIndex {
         self.schema.keeps_rules();
         let limit = self.size() as usize;
         let mut steps = Steps::new();
-        let lent = self.walk_range(
-            alloc,
-            0,
-            &Lower::All,
-            &Upper::All,
-            false,
-            limit,
-            &mut steps,
-        )?;
+        let lent = self.walk_range(alloc, 0, &Lower::All, &Upper::All, false, limit, &mut steps)?;
         copies(alloc, lent.as_slice())
     }
 

@@ -12,8 +12,7 @@ rows-init c = λ fit. fit
 
 pub returns-then-not-fits_record-clause-fault : goal.returns-then-not-fits_record-clause-fault
 returns-then-not-fits_record-clause-fault c =
-    let row : ℕ × List Value = c.rows-item.result in
-    (
+    let row : ℕ × List Value = c.rows-item.result in (
       row.0,
       refl,
       (c.rows.id-index, row.1, slice_get_read c.args.rows.now _ c.rows.id-index row refl c.rows-test.true c.rows-item.is, sym c.fits_record.ensures ∙ c.if-not-fits_record.true),
@@ -24,7 +23,7 @@ rows-preserved c =
     let row : ℕ × List Value = c.rows-item.result in
     λ rest. c.rows.invariant (subst (RowsFit c.args.schema.now)
     (sym (drop_more c.args.rows.now c.rows.id-index row c.rows-test.true
-        ∙ ap (λ (q : ℕ × List Value). q ∷ drop (c.rows.id-index + 1) c.args.rows.now) (sym c.rows-item.is)))
+    ∙ ap (λ (q : ℕ × List Value). q ∷ drop (c.rows.id-index + 1) c.args.rows.now) (sym c.rows-item.is)))
     (sym c.fits_record.ensures ∙ c.if-not-fits_record.false, rest))
 
 pub returns-clause-fit : goal.returns-clause-fit
