@@ -1,4 +1,5 @@
-"""A journal's segments, and its base: the tables behind a line of it. Read a second time, from their format; `mi_service` writes them.
+"""A journal's segments, and its base: the tables behind a line of it. Read a second time, from their format, which `mi_base` and
+`mi_recovery` have; no program writes them yet.
 
     shop.journal           segment 1: a header of format 1, and lines
     shop.journal.000002    a later segment: a header of format 2, and lines

@@ -1,6 +1,6 @@
 """Whether a service keeps what it has acknowledged, however it ends.
 
-    stress crash [--part rounds|power|synced|torn|deep|full|damaged|moved|rebase|tools] [--rounds N] [--short] [--seed N] [--program FILE] [--server FILE]
+    stress crash [--part rounds|power|synced|torn|deep|full|damaged|moved|tools] [--rounds N] [--short] [--seed N] [--program FILE] [--server FILE]
 
 Without --part all run, one behind another. Each lets clients come and go, with sessions held and lines sent ahead, ends the service, and
 compares what was sent, answered and kept by `journal_walk.py`: each acknowledged line is in the journal, in its order; what is there was
@@ -18,8 +18,6 @@ sent, or is the undo of a holder that went away; each reply is the reference's; 
              fails (needs a C compiler), it ends: status 4, `fault: journal` and the file
     damaged  a line is damaged, or the journal is another schema's or in use: status 3 and the line, and the file stays as it is
     moved    the journal is moved away in front of each call of the system that a start makes: none of its lines is lost (needs a C compiler)
-    rebase   the journal is rebased behind each of its rounds; each fifth rebase is killed in front of each call that it makes (needs a C compiler):
-             what it leaves starts with the same tables, and is rebased
     tools    `mi_server` (--server) that is asked a journal as its input has the same tables; so has the service behind `journal.py compact`
 
 --short takes some seconds: fewer rounds, and some of the bytes. Where something differs, the status is 1, and the journal is left below
@@ -35,7 +33,7 @@ import sys
 import tempfile
 import time
 
-from stress import based, parts
+from stress import parts
 import program
 from stress import service
 from stress.callers import TABLES, Load
@@ -461,8 +459,7 @@ def kept_free(kept, running, holder):
 
 OTHER = "journal: schema"
 """What is said of a journal of another schema or format."""
-PARTS = {"rounds": rounds, "power": power, "synced": synced, "torn": torn, "deep": deep, "full": full, "damaged": damaged, "moved": moved,
-         "rebase": based.rebase, "tools": tools}
+PARTS = {"rounds": rounds, "power": power, "synced": synced, "torn": torn, "deep": deep, "full": full, "damaged": damaged, "moved": moved, "tools": tools}
 
 
 def main(given=None):

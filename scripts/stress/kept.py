@@ -48,13 +48,9 @@ class Kept:
     def started(self, **how):
         return Service(self.path, self.schema, self.journal, **how)
 
-    def newest(self):
-        """The file that the journal's lines are appended to."""
-        return self.journal
-
     def whole(self):
         """The whole lines of the journal behind those that are known, without the header; what was known must still be there."""
-        with open(self.newest(), "rb") as file:
+        with open(self.journal, "rb") as file:
             found = file.read()
         if not found.startswith(self.known):
             raise Differs("the journal has changed where it was whole before")

@@ -1,11 +1,11 @@
 -- What the words of the command line ask for.
-use Rattle.std.specs.Prelude.{◌≡◌, ◌||◌, ◌&&◌, not, ℕ, List, Bool, true, false, if◌then◌else◌, Option, Some, None, is_some, option_map, codes, bytes_eq, pos}
+use Rattle.std.specs.Prelude.{◌≡◌, ◌||◌, ℕ, List, Bool, true, false, if◌then◌else◌, Option, Some, None, is_some, option_map, codes, bytes_eq, pos}
 use Rattle.std.specs.String.{string_bytes}
 use Rattle.clap.specs.Words.{App, Row, with_rule, new_app, first_of, one_of}
 use Rattle.clap.specs.declared.builder.value_parser.ValueParser.{ValueParser}
 use Rattle.clap.specs.declared.builder.value_parser.ValueParser.TheVariants as vp
 use Rattle.mi_clients.specs.declared.silence.Limits.{Limits}
-use Rattle.mi_program.specs.Words.{option_rule, flag_rule, number_rule, is_set, IsNumber}
+use Rattle.mi_program.specs.Words.{option_rule, number_rule, IsNumber}
 use Rattle.mi_serving.specs.declared.words.Options.{Options}
 use Rattle.mi_serving.specs.declared.words.Places.{Places}
 use Rattle.mi_serving.specs.declared.words.JournalWords.{JournalWords}
@@ -48,8 +48,8 @@ with_places app = with_rule (with_rule app (number_rule (codes "listen") port_pa
 
 -- the options that the service knows
 abbrev pub service_options : App
-service_options = with_limits (with_rule (with_rule (with_rule (with_places (with_rule (new_app (codes "mi_service")) (option_rule (codes "schema"))))
-    (option_rule (codes "journal"))) (option_rule (codes "sync"))) (flag_rule (codes "rebase")))
+service_options = with_limits (with_rule (with_rule (with_places (with_rule (new_app (codes "mi_service")) (option_rule (codes "schema"))))
+    (option_rule (codes "journal"))) (option_rule (codes "sync")))
 
 -- when lines are made to stay by this word: with no word once a turn
 abbrev pub sync_of : List ℕ → Option SyncMode
@@ -71,18 +71,11 @@ IsJournal (Some file) word (Some journal) = (string_bytes journal.file ≡ file)
 abbrev pub IsPort : Option (List ℕ) → Option ℕ → Type 0
 IsPort word port = IsNumber 0 65535 word port
 
--- `--listen` is the port, `--unix` the path
+-- `--listen` is the port, `--unix` the path, and one of them is there at least
 pub record ArePlaces (rows : List Row) (places : Places) : Type 0 where
   pub port : IsPort (one_of (codes "listen") rows) places.port
   pub unix : option_map string_bytes places.unix ≡ first_of (codes "unix") rows
-
--- whether there is a port or a path
-abbrev pub listens : Places → Bool
-listens places = is_some places.port || is_some places.unix
-
--- a rebase has a journal and listens nowhere; a service listens somewhere
-abbrev pub is_task : Bool → Bool → Bool → Bool
-is_task rebase listens journal = if rebase then not listens && journal else listens
+  pub some : (is_some places.port || is_some places.unix) ≡ true
 
 -- the seconds that a word says, or none without a word
 abbrev pub IsSeconds : Option (List ℕ) → Option ℕ → Type 0
@@ -99,5 +92,3 @@ pub record AreValues (options : Options) (rows : List Row) : Type 0 where
   pub places : ArePlaces rows options.places
   pub journal : IsJournal (first_of (codes "journal") rows) (first_of (codes "sync") rows) options.journal
   pub limits : AreLimits rows options.limits
-  pub rebase : options.rebase ≡ is_set (one_of (codes "rebase") rows)
-  pub task : is_task options.rebase (listens options.places) (is_some options.journal) ≡ true

@@ -11,7 +11,6 @@ mod program;
 mod report;
 mod service;
 mod source;
-mod start;
 mod words;
 
 pub use door::{Callers, Door};

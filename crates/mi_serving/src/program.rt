@@ -1,12 +1,14 @@
-//! What the program does, in its order: the words are judged, the schema is read, the port and the path are listened on, the base is read, the journal
-//! is asked again, and then connections are served. Or a journal is rebased.
-ghost use Rattle.std.specs.Prelude.{◌≡◌, [], None, Ok, true, false, is_some, option_map, IfOk, IfSome, OnOk, MatchOption};
+//! What the program does, in its order: the words are judged, the schema is read, the port and the path are listened on, the journal is asked again,
+//! and then connections are served.
+ghost use Rattle.std.specs.Prelude.{◌≡◌, [], Ok, true, false, is_some, option_map, IfOk, MatchOption};
+ghost use Rattle.std.specs.String.{string_bytes};
 ghost use Rattle.std.specs.Io.KnownBytes.{Keeps};
 ghost use Rattle.mi_log.specs.DeviceLog.{device_of};
 ghost use Rattle.mi_ledger.specs.Ledger.{hub_of, log_of};
 ghost use Rattle.mi_recovery.specs.Device.{is_staying, is_synced, told_of};
 ghost use Rattle.mi_serving.specs.Words.{asks_sync, asks_each};
-ghost use Rattle.mi_serving.specs.Served.{Begins, Serves, HasServed, HasRebased};
+ghost use Rattle.mi_recovery.specs.Fingerprint.{journal_header};
+ghost use Rattle.mi_serving.specs.Served.{empty_hub, Begins, HasServed};
 ghost use Rattle.mi_catalog.specs.Shape.{CatalogShape};
 ghost use Rattle.mi_program.specs.Source.{IsCatalog};
 
@@ -16,17 +18,19 @@ use crate::patience::Patience;
 use crate::report::{conclude, refuse};
 use crate::service::serve;
 use crate::source::{Source, catalog};
-use crate::start::{journal_schema, standing};
 use crate::words::{JournalWords, Options, SyncMode, read_words};
+use mi_catalog::Catalog;
 use mi_clients::SchemaLine;
+use mi_database::Linked;
 use mi_hub::Hub;
-use mi_rebase::rebased;
+use mi_log::header_line;
+use mi_multi::MultiIndex;
+use mi_program::drawn;
 use mi_recovery::{
-    JournalFiles, JournalLedger, JournalSchema, Keeping, Position, SystemFiles, log_error,
-    opened_behind, without,
+    JournalFiles, JournalLedger, Keeping, SystemFiles, fingerprint, log_error, opened, without,
 };
 use mi_sessions::Sessions;
-use std::alloc::Global;
+use std::alloc::{AllocError, Global};
 use std::convert::AsStr;
 use std::fs::File;
 use std::io;
@@ -35,6 +39,17 @@ use std::net::Net;
 use std::random::RandomSource;
 use std::rt::Files;
 use std::time::Clock;
+
+/// The database that is served.
+type Tables = Linked<MultiIndex>;
+
+/// The header of a catalog's journal.
+fn header_of(alloc: Global, catalog: &Catalog) -> Result<String, AllocError>
+    ensures { IfOk result (λ header. string_bytes header ≡ journal_header catalog.now) }
+{
+    let hash = fingerprint(alloc, catalog)?;
+    header_line(alloc, catalog.first_revision(), hash.as_str())
+}
 
 /// What is done of a sync that is asked for.
 fn keeping_by(sync: SyncMode) -> Keeping
@@ -46,33 +61,30 @@ fn keeping_by(sync: SyncMode) -> Keeping
     }
 }
 
-/// A hub that goes on with the journal that the words name, where they name one. It stands behind that position, or at the journal's start.
+/// A hub that goes on with the journal that the words name, where they name one.
 fn ledger_of<P: JournalFiles, D: Sessions + Drop>(
     alloc: Global,
     files: &P,
     hub: Hub<D>,
-    schema: &JournalSchema,
-    position: Option<&Position>,
+    header: &str,
     journal: Option<&JournalWords>,
 ) -> Result<JournalLedger<P::File, D>, Fault>
     requires { hub.attached ≡ [] }
-    ensures begins { IfOk result (λ ledger. Begins (λ file. P.File.is_locked file ≡ true) (P.is_seen files.now) (P.is_newest files.now) P.File.contents
-        schema.now (option_map (λ p. p.now) position.entry) hub (option_map (λ words. words.now) journal.entry) (hub_of ledger)
-        (told_of P.File.contents (device_of (log_of ledger)))) }
+    ensures begins { IfOk result (λ ledger. Begins P.File.is_locked (P.is_seen files.now) P.File.contents header.now hub
+        (option_map (λ words. words.now) journal.entry) (hub_of ledger) (told_of P.File.contents (device_of (log_of ledger)))) }
     ensures attached { IfOk result (λ ledger. (hub_of ledger).attached ≡ []) }
     ensures settled { IfOk result (λ ledger. Keeps (told_of P.File.contents (device_of (log_of ledger))) (told_of P.File.stays (device_of (log_of ledger)))) }
     ensures stays { IfOk result (λ ledger. MatchOption journal.entry (is_staying (device_of (log_of ledger)) ≡ false)
         (λ words. is_staying (device_of (log_of ledger)) ≡ asks_sync words.now.sync)) }
 {
     match journal {
-        Some(words) => Ok(opened_behind(
+        Some(words) => Ok(opened(
             alloc,
             files,
             hub,
             words.file.as_str(),
             keeping_by(words.sync),
-            schema,
-            position,
+            header,
         )?),
         None => Ok(without(hub)),
     }
@@ -117,21 +129,20 @@ fn serve_hub<P: JournalFiles, D: Sessions + Drop, C: Clock, W: Write>(
     alloc: Global,
     files: &P,
     hub: Hub<D>,
-    schema: &JournalSchema,
-    position: Option<&Position>,
+    header: &str,
     journal: Option<&JournalWords>,
     door: &mut Door,
     path: Option<&str>,
     patience: &mut Patience<'_, C>,
-    line: &SchemaLine,
+    schema: &SchemaLine,
     output: &mut W,
 ) -> Result<Fault, Fault>
     requires { hub.attached ≡ [] }
-    ensures { IfOk result (λ ended. Serves (λ file. P.File.is_locked file ≡ true) (P.is_seen files.now) (P.is_newest files.now) P.File.contents
-        schema.now (option_map (λ p. p.now) position.entry) hub (option_map (λ words. words.now) journal.entry) ended.failure) }
+    ensures { IfOk result (λ ended. HasServed P.File.is_locked (P.is_seen files.now) P.File.contents header.now hub
+        (option_map (λ words. words.now) journal.entry) ended.failure) }
 {
     let port = door.port()?;
-    let mut ledger = ledger_of(alloc, files, hub, schema, position, journal)?;
+    let mut ledger = ledger_of(alloc, files, hub, header, journal)?;
     announce(output, port, path)?;
     let failure = serve(
         alloc,
@@ -139,7 +150,7 @@ fn serve_hub<P: JournalFiles, D: Sessions + Drop, C: Clock, W: Write>(
         door,
         patience,
         syncs_each(journal),
-        line,
+        schema,
     );
     Ok(Fault {
         failure,
@@ -148,7 +159,20 @@ fn serve_hub<P: JournalFiles, D: Sessions + Drop, C: Clock, W: Write>(
     })
 }
 
-/// Serves as the options say, until something fails, which is the answer. An error comes before the first connection.
+/// The tables of a catalog, none of which has a row, under a hub with no connection. The failure is `Memory`.
+fn open_tables<R: AllocGlobal + RandomSource>(
+    rt: &R,
+    catalog: Catalog,
+) -> Result<Hub<Tables>, Failure>
+    ensures { IfOk result (λ hub. hub ≡ empty_hub catalog) }
+{
+    match Linked::new(rt.alloc(), catalog, drawn(rt)) {
+        Ok(tables) => Ok(Hub::new(rt.alloc(), tables)),
+        Err(_refused) => Err(Failure::Memory),
+    }
+}
+
+/// Does what the options say, until something fails, which is the answer. An error comes before the first connection.
 fn perform<R: Files + Net + AllocGlobal + RandomSource + Clock, P: JournalFiles, W: Write>(
     rt: &R,
     files: &P,
@@ -156,23 +180,22 @@ fn perform<R: Files + Net + AllocGlobal + RandomSource + Clock, P: JournalFiles,
     output: &mut W,
 ) -> Result<Fault, Fault>
     ensures { IfOk result (λ ended. (catalog : CatalogShape) × IsCatalog R.File.remaining (is_some options.now.schema) (Ok catalog)
-        × HasServed (λ file. P.File.is_locked file ≡ true) (P.is_seen files.now) (P.is_newest files.now) P.File.contents catalog options.now.journal
+        × HasServed P.File.is_locked (P.is_seen files.now) P.File.contents (journal_header catalog) (empty_hub catalog) options.now.journal
         ended.failure) }
 {
     let Source { catalog, line } = catalog(rt, options.schema.as_deref())?;
     let mut door = Door::open(rt, &options.places)?;
-    let Ok(schema) = journal_schema(rt.alloc(), &catalog) else {
+    let Ok(header) = header_of(rt.alloc(), &catalog) else {
         return Err(Fault::from(Failure::Memory));
     };
+    let hub = open_tables(rt, catalog)?;
     let journal = options.journal.as_ref();
-    let (hub, position) = standing(rt, files, journal, catalog, &schema)?;
     let mut patience = Patience::new(rt, options.limits);
     serve_hub(
         rt.alloc(),
         files,
         hub,
-        &schema,
-        position.as_ref(),
+        header.as_str(),
         journal,
         &mut door,
         options.places.unix.as_deref(),
@@ -182,50 +205,10 @@ fn perform<R: Files + Net + AllocGlobal + RandomSource + Clock, P: JournalFiles,
     )
 }
 
-/// Rebases a journal of the schema that the options name.
-fn rebase<R: Files + AllocGlobal + RandomSource, P: JournalFiles>(
-    rt: &R,
-    files: &P,
-    options: &Options,
-    journal: &JournalWords,
-) -> Result<(), Fault>
-    ensures { OnOk result ((catalog : CatalogShape) × IsCatalog R.File.remaining (is_some options.now.schema) (Ok catalog)
-        × HasRebased (λ file. P.File.is_locked file ≡ true) (P.is_seen files.now) (P.is_newest files.now) P.File.contents P.File.stays catalog journal.now) }
-{
-    let Source { catalog, .. } = catalog(rt, options.schema.as_deref())?;
-    let Ok(schema) = journal_schema(rt.alloc(), &catalog) else {
-        return Err(Fault::from(Failure::Memory));
-    };
-    let (hub, position) = standing(rt, files, Some(journal), catalog, &schema)?;
-    let path = journal.file.as_str();
-    Ok(rebased(rt.alloc(), files, hub, path, &schema, position.as_ref())?)
-}
-
-/// Does what the options say. The answer is why it ended, or none where a journal was rebased.
-fn done<R: Files + Net + AllocGlobal + RandomSource + Clock, P: JournalFiles, W: Write>(
-    rt: &R,
-    files: &P,
-    options: &Options,
-    output: &mut W,
-) -> Option<Fault>
-    ensures rebased { result ≡ None → (options.now.rebase ≡ true) × IfSome options.now.journal (λ words. (catalog : CatalogShape)
-        × IsCatalog R.File.remaining (is_some options.now.schema) (Ok catalog)
-        × HasRebased (λ file. P.File.is_locked file ≡ true) (P.is_seen files.now) (P.is_newest files.now) P.File.contents P.File.stays catalog words) }
-{
-    match (&options.journal, options.rebase) {
-        (Some(journal), true) => rebase(rt, files, options, journal).err(),
-        _ => {
-            let (Ok(fault) | Err(fault)) = perform(rt, files, options, output);
-            Some(fault)
-        }
-    }
-}
-
 /// Does what the service does with these words, the first of which is its name, and answers its exit status:
 ///
 /// | Status | When | On `errors` |
 /// |---|---|---|
-/// | 0 | the journal was rebased | nothing |
 /// | 2 | the words are refused, or ask for help | the parser's text, or the rule that they break |
 /// | 3 | the schema or the journal can't be read or is refused | `schema: ` or `journal: ` and a word |
 /// | 4 | the journal, the listener or memory failed | `fault: ` and a word |
@@ -239,10 +222,15 @@ pub fn run<
 >(rt: &R, words: &[S], output: W, errors: E) -> u8 {
     let (mut output, mut errors) = (output, errors);
     match read_words(rt.alloc(), words) {
-        Ok(options) => match done(rt, &SystemFiles::new(rt), &options, &mut output) {
-            Some(fault) => conclude(rt.alloc(), &fault, &options, &mut errors),
-            None => 0,
-        },
+        Ok(options) => {
+            let (Ok(fault) | Err(fault)) = perform(
+                rt,
+                &SystemFiles::new(rt),
+                &options,
+                &mut output,
+            );
+            conclude(rt.alloc(), &fault, &options, &mut errors)
+        }
         Err(fault) => refuse(&fault, &mut errors),
     }
 }

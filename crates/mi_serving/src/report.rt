@@ -115,7 +115,7 @@ pub(crate) fn refuse<E: Write>(fault: &WordsFault, errors: &mut E) -> u8
         WordsFault::Rules => {
             let _ = writeln!(
                 errors,
-                "usage: --listen or --unix is needed, or --rebase without them; --sync and --rebase go with --journal; --sync is always, turn or never"
+                "usage: --listen or --unix is needed; --sync goes with --journal and is always, turn or never"
             );
             2
         }

@@ -1,9 +1,7 @@
 -- The values are those of the matches.
-use Rattle.std.proofs.Common.{ap, codes, ◌∙◌}
+use Rattle.std.proofs.Common.{codes, ◌∙◌}
 use Rattle.clap.specs.Words.{found_of}
-use Rattle.clap.proofs.WalkLemmas.{first_value-rows, one_text-rows}
-use Rattle.mi_program.specs.Words.{is_set}
-use Rattle.mi_program.proofs.ValueLemmas.{flag_read}
+use Rattle.clap.proofs.WalkLemmas.{first_value-rows}
 use Rattle.mi_serving.proofs.WordsLemmas.{named_by}
 use Rattle.mi_serving.proofs.words.values.Goals as goal
 
@@ -16,7 +14,4 @@ returns c =
       journal = named_by _ _ _ _ c.in_ok-journal.journal (c.get_str-2.ensures ∙ first_value-rows m (codes "journal"))
           (c.get_str-3.ensures ∙ first_value-rows m (codes "sync")) c.in_ok-journal.ensures;
       limits = c.in_ok-limits.ensures;
-      rebase = c.unwrap_or-rebase.ensures ∙ flag_read _ _ c.get_one.result c.get_one.ensures.none c.get_one.ensures.value
-          ∙ ap is_set (one_text-rows m (codes "rebase"));
-      task = c.in_ok-check_task.ensures;
     }
