@@ -1,5 +1,5 @@
 -- What a change of one table leaves of a database.
--- Cited by `mi_database`, `mi_plain` and `mi_query`.
+-- Cited by `mi_database`, `mi_plain`, `mi_query` and `mi_rebase`.
 use Rattle.std.proofs.Common.{◌≡◌, ℕ, sym, subst, ap, refl, suc, ◌<◌, length, List, [], ◌∷◌, arith}
 use Rattle.std.specs.List.{AllZip}
 use Rattle.std.specs.declared.result.Result.{Result}

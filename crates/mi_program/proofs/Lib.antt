@@ -4,5 +4,5 @@ pub mod MatchedLemmas
 mod NumberLemmas
 mod ServingLemmas
 mod TextLemmas
-pub mod ValueLemmas
+mod ValueLemmas
 pub mod TurnLemmas

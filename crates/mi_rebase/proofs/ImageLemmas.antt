@@ -1,5 +1,5 @@
 -- What follows of an answer that is there.
--- Cited by `images::LinkedImaged::images`.
+-- Cited by `LinkedImaged::images`.
 use Rattle.std.specs.Prelude.{Result, Ok, Err, IfOk}
 
 pub followed : {A E : Type 0} (P Q : A → Type 0) (r : Result A E) → ((a : A) → P a → Q a) → IfOk r P → IfOk r Q
