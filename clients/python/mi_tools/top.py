@@ -310,7 +310,8 @@ def holding(it: Dict[str, Any]) -> str:
 
 def journal_shown(size: int, synced: Optional[int], is_full: Optional[bool], room: Optional[int]) -> str:
     """A journal's bytes, those that stay since its last sync and those that are free on its disk where they are known, and whether it lacks room."""
-    return amount(size) + ("" if synced is None else f", {amount(synced)} synced") + ("" if room is None else f", {amount(room)} free on its disk") + (FULL if is_full else "")
+    kept = amount(size) + ("" if synced is None else f", {amount(synced)} synced")
+    return kept + ("" if room is None else f", {amount(room)} free on its disk") + (FULL if is_full else "")
 
 
 def shown_status(told: Dict[str, Any], room: Optional[int]) -> str:

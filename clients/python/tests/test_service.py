@@ -110,7 +110,8 @@ class Services(unittest.TestCase):
             other.begin()
             told = service_lines.status(db)
             self.assertEqual([it["number"] for it in told["connections"] if it["holds"]], [told["holder"]])
-            self.assertEqual((len(told["connections"]), told["depth"], told["tables"]), (2, 1, [{"memory": told["tables"][0]["memory"], "name": "accounts", "size": 1}]))
+            accounts = {"memory": told["tables"][0]["memory"], "name": "accounts", "size": 1}
+            self.assertEqual((len(told["connections"]), told["depth"], told["tables"]), (2, 1, [accounts]))
             self.assertEqual({it["unsent"] for it in told["connections"]}, {0})
             self.assertEqual([it["since"] for it in told["connections"] if it["holds"]], [it["lines"] for it in told["connections"] if it["holds"]])
             self.assertEqual([it["since"] for it in told["connections"] if not it["holds"]], [None])
