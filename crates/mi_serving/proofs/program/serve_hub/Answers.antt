@@ -1,10 +1,7 @@
 -- What began was served.
-use Rattle.std.proofs.Common.{◌≡◌, ◌⊎◌, ap, subst, ◌∙◌}
 use Rattle.mi_log.specs.DeviceLog.{device_of}
 use Rattle.mi_ledger.specs.Ledger.{hub_of, log_of}
-use Rattle.mi_serving.specs.declared.failure.Failure.TheVariants.{Poll, Turns}
 use Rattle.mi_recovery.specs.Device.{told_of}
-use Rattle.mi_serving.specs.Turns.{ends_serving}
 use Rattle.mi_serving.proofs.program.serve_hub.Goals as goal
 
 pub serve-failure-requires-clause-settled : goal.serve-failure-requires-clause-settled
