@@ -45,7 +45,7 @@ help:
 	@echo '  make crash           the service killed under load, on bad disks, with damaged journals (ARGS=--short)'
 	@echo '  make replica-tests   FAILURES=$(FAILURES) failures of three members over etcd (needs etcd; PROGRAM=FILE)'
 	@echo '  make window-tests    `weltiyo web` in a browser: views, undo, foreign pages, a million rows (needs chromium, chromium-driver)'
-	@echo '  make rates           lines a second of the service beside the program, and the time of a replay'
+	@echo '  make rates           lines a second of the service beside the program, the time of a replay, and how long others wait'
 	@echo '  make bench           beside a Boost.MultiIndex container, SQLite and Redis, into docs/bench (ROWS=1000,10000; QUICK=1)'
 	@echo
 	@echo 'To install'
@@ -99,6 +99,7 @@ crash:
 
 rates:
 	@$(PYTHON) scripts/stress rates $(ARGS)
+	@$(PYTHON) scripts/stress waits $(ARGS)
 
 replica-tests:
 	@$(PYTHON) scripts/stress replicas --failures $(FAILURES) --seed $(SEED) $(if $(PROGRAM),--program '$(PROGRAM)') $(ARGS)

@@ -1,5 +1,4 @@
-"""A journal's segments, and its base: the tables behind a line of it. Read a second time, from their format, which `mi_base` and
-`mi_recovery` have; no program writes them yet.
+"""A journal's segments, and its base: the tables behind a line of it. Read a second time, from their format; `mi_service` writes them.
 
     shop.journal           segment 1: a header of format 1, and lines
     shop.journal.000002    a later segment: a header of format 2, and lines
@@ -66,9 +65,11 @@ class Lines:
         self.number += 1
         try:
             found = read(text)
-        except Refusal:
-            self.fail("no JSON")
-        if compact(found) != text:
+            again = compact(found)
+        except (Refusal, TypeError):
+            # (of a number that is no whole one of 64 bits nothing can be written)
+            self.fail("no JSON, or no whole number")
+        if again != text:
             self.fail("JSON that is written in another way")
         return found
 
@@ -100,6 +101,16 @@ def read_base(text, columns=None):
     if lines.members(("sha256",))["sha256"] != digest:
         lines.fail("another digest than that of the lines in front of it")
     return Base(heading["line"], heading["revision"], heading["schema"], heading["segment"], heading["sum"], tables)
+
+
+def text_of(base):
+    """The bytes of a base, which may be one that breaks rules."""
+    lines = [{"base": 1, "line": base.line, "revision": base.revision, "schema": base.schema, "segment": base.segment, "sum": base.sum}]
+    for it in base.tables:
+        lines.append({"arrivals": it.arrivals, "next": it.next, "rows": len(it.rows), "table": it.name})
+        lines += [[id, *row] for id, row in it.rows.items()] + it.lists
+    text = b"".join(compact(it) + b"\n" for it in lines)
+    return text + compact({"sha256": sum_of(text)}) + b"\n"
 
 
 def is_id(it):
@@ -184,6 +195,11 @@ def header_of(line):
     if not all(is_text(found[it]) and DIGITS.fullmatch(found[it]) for it in ("previous", "schema")):
         return None
     return found if is_count(found["revision"]) and is_count(found["segment"]) else None
+
+
+def segment_header(previous, number, schema, revision=0):
+    """The header of a segment behind the first, with its newline. `previous` is the sum of the segment before it."""
+    return compact({"journal": 2, "previous": previous, "revision": revision, "schema": schema, "segment": number}) + b"\n"
 
 
 def sum_of(data):

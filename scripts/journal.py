@@ -7,8 +7,8 @@
     journal.py compact FILE [--to NEW]                          a shorter journal of the same database, in a new file that is then renamed
     journal.py copy FILE NEW                                    its text up to the last newline, also of one that is in use
 
-A journal may have a base, FILE.base, which has the tables behind some line, and segments, FILE.000002 and on; no program makes them yet.
-check, stat and copy take them all, from the base on; compact takes a journal of one file.
+A journal may have a base, FILE.base, which has the tables behind some line, and segments, FILE.000002 and on: `mi_service --rebase` makes
+them. check, stat and copy take them all, from the base on; compact takes a journal of one file.
 
 A journal's first line is its header, {"journal":1,"revision":R,"schema":"HASH"}: the format, the first revision and the hash of the
 schema. That of a later segment has its number too, and the SHA-256 of the segment before it. It is no command, so `mi_server < FILE` refuses it and then does the other lines, as one connection. Of each holder that went
@@ -345,7 +345,7 @@ def may_be_kept(line):
 def check(path, replay, schema):
     with Chain(path, "checking") as chain:
         if replay and (chain.base or len(chain.segments) > 1):
-            raise ValueError(f"{path}: --replay is of a journal of one file, without a base")
+            raise ValueError(f"{path}: --replay is of a journal of one file, without a base: a start of mi_service asks the lines of this one")
         count = sum(1 for it in chain.lines() if may_be_kept(it))
     journal = chain.last
     if replay:
@@ -474,7 +474,7 @@ def claimed(path):
 def compact(path, new):
     """The new file has the old one's mode; it takes the old one's place, or the name that is asked for, once it is whole."""
     if os.path.exists(bases.base_path(path)) or len(bases.segments_of(path)) > 1:
-        raise ValueError(f"{path}: it has a base or later segments, and compact is of a journal of one file")
+        raise ValueError(f"{path}: it has a base or later segments: mi_service --rebase makes it shorter")
     # (of a link the file that it leads to, whose place is on another disk perhaps)
     new = os.path.realpath(path if new is None else new)
     folder = os.path.dirname(new)

@@ -10,9 +10,9 @@ _weltiyo_files() {
 _weltiyo_options() {
     local all='--connect --program --schema --timeout --help'
     case $1 in
-        dump) echo "$all --journal --table --order --hold --force --resume" ;;
+        dump) echo "$all --journal --table --order --hold --force --resume --ids" ;;
         export) echo "$all --journal --table --order --hold --force --format" ;;
-        load) echo "$all --table --keep-going --resume --renumber --references --dump --force" ;;
+        load) echo "$all --table --keep-going --resume --renumber --references --dump --force --ids --journal" ;;
         import) echo "$all --table --keep-going --resume --renumber --references --dump --force --format" ;;
         top) echo "$all --journal --force --pid --every --count" ;;
         metrics) echo "$all --journal --force --pid --every --count --file" ;;

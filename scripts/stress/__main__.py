@@ -20,6 +20,7 @@ COMMANDS = {
     "crowd": ("crowd", "a service with all its places taken"),
     "service-faults": ("service_faults", "each request and call of the system of a service refused once"),
     "rates": ("rates", "lines a second of a service, and the time of a replay"),
+    "waits": ("waits", "how long others wait while a long command runs, and through a restart"),
     "replicas": ("replica_test", "failures of members of a ledger and of etcd"),
     "replica-faults": ("replica_faults", "faults put into copies of the members' program"),
     "window": ("window_test", "the window of `weltiyo web` in a browser"),

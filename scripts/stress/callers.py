@@ -284,7 +284,7 @@ class Load:
                 while len(self.callers) < self.count:
                     self.come()
                 self.step()
-        except OSError:
+        except ConnectionError:
             # (nobody listens any more)
             return self.running.process.wait(WAIT)
         return self.running.process.poll()

@@ -1,11 +1,11 @@
 """Whether a service keeps what it has acknowledged, however it ends.
 
-    stress crash [--part rounds|power|synced|torn|deep|full|damaged|moved|tools] [--rounds N] [--short] [--seed N] [--program FILE] [--server FILE]
+    stress crash [--part PART] [--rounds N] [--short] [--seed N] [--program FILE] [--server FILE]
 
-Without --part all run, one behind another. Each lets clients come and go, with sessions held and lines sent ahead, ends the service, and
-compares what was sent, answered and kept by `journal_walk.py`: each acknowledged line is in the journal, in its order; what is there was
-sent, or is the undo of a holder that went away; each reply is the reference's; and the service that is started again has the tables of
-`reference.py` that was asked the journal, with no session held.
+PART is one of those below. Without --part all run, one behind another. Each lets clients come and go, with sessions held and lines sent
+ahead, ends the service, and compares what was sent, answered and kept by `journal_walk.py`: each acknowledged line is in the journal, in
+its order; what is there was sent, or is the undo of a holder that went away; each reply is the reference's; and the service that is
+started again has the tables of `reference.py` that was asked the journal, with no session held.
 
     rounds   the service is killed at random moments, now and then while it starts; one journal goes through ten rounds
     power    the same on a disk that forgets, at the kill, what wasn't synced, and keeps a random front of it (needs a C compiler)
@@ -18,6 +18,13 @@ sent, or is the undo of a holder that went away; each reply is the reference's; 
              fails (needs a C compiler), it ends: status 4, `fault: journal` and the file
     damaged  a line is damaged, or the journal is another schema's or in use: status 3 and the line, and the file stays as it is
     moved    the journal is moved away in front of each call of the system that a start makes: none of its lines is lost (needs a C compiler)
+    rebase   the journal is rebased behind each of 50 rounds: the base has the reference's tables, and all look-ups are answered as by it
+    rebase-killed   200 kills: in front of each call of a rebase, of the first start behind it, and of the start behind a killed one
+    rebase-forgets  what a disk may have that forgets what wasn't synced, names too, behind a stop at each change that these two make
+    rebase-full     a rebase under limits of files, on disks of few pages, and with each of its calls refused
+             What these three leave starts with the same tables, is rebased, and starts with them again (two of them need a C compiler)
+    bases    a base that is torn at each byte, or breaks a rule; segments that are missing, twice, damaged or another journal's: status 3 and the
+             word for that of a start and of a rebase, and all files stay as they are
     tools    `mi_server` (--server) that is asked a journal as its input has the same tables; so has the service behind `journal.py compact`
 
 --short takes some seconds: fewer rounds, and some of the bytes. Where something differs, the status is 1, and the journal is left below
@@ -33,7 +40,7 @@ import sys
 import tempfile
 import time
 
-from stress import parts
+from stress import base_damage, based, parts, rebase_stops
 import program
 from stress import service
 from stress.callers import TABLES, Load
@@ -459,7 +466,9 @@ def kept_free(kept, running, holder):
 
 OTHER = "journal: schema"
 """What is said of a journal of another schema or format."""
-PARTS = {"rounds": rounds, "power": power, "synced": synced, "torn": torn, "deep": deep, "full": full, "damaged": damaged, "moved": moved, "tools": tools}
+PARTS = {"rounds": rounds, "power": power, "synced": synced, "torn": torn, "deep": deep, "full": full, "damaged": damaged, "moved": moved,
+         "rebase": based.rebase, "rebase-killed": rebase_stops.rebase_killed, "rebase-forgets": rebase_stops.rebase_forgets,
+         "rebase-full": rebase_stops.rebase_full, "bases": base_damage.damaged, "tools": tools}
 
 
 def main(given=None):

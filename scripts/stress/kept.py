@@ -48,9 +48,13 @@ class Kept:
     def started(self, **how):
         return Service(self.path, self.schema, self.journal, **how)
 
+    def newest(self):
+        """The file that the journal's lines are appended to."""
+        return self.journal
+
     def whole(self):
         """The whole lines of the journal behind those that are known, without the header; what was known must still be there."""
-        with open(self.journal, "rb") as file:
+        with open(self.newest(), "rb") as file:
             found = file.read()
         if not found.startswith(self.known):
             raise Differs("the journal has changed where it was whole before")
@@ -96,7 +100,7 @@ class Kept:
         what it said."""
         with self.started(**start) as running:
             looked = self.look(running)
-            with load(running, self.journal, f"{self.seed}/{self.next}", self.next) as loaded:
+            with load(running, self.newest(), f"{self.seed}/{self.next}", self.next) as loaded:
                 ended = loaded.go_on(seconds, replies, LONGEST)
                 self.next = loaded.next
                 running.kill(how)

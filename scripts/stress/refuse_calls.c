@@ -8,13 +8,16 @@
    REFUSE_CALL    the name of the call that is refused
    REFUSE_NTH     which of its calls, from 1
    REFUSE_ERROR   the number of the error; with 0 a write takes half of its bytes, at least one
-   REFUSE_FROM    with REFUSE_TO: that call isn't refused; in front of it this file is moved there, as a backup does */
+   REFUSE_FROM    with REFUSE_TO: that call isn't refused; in front of it this file is moved there, as a backup does
+   REFUSE_KILL    that call isn't refused; in front of it the program is killed */
 #define _GNU_SOURCE
 #include <dlfcn.h>
 #include <errno.h>
 #include <fcntl.h>
 #include <link.h>
 #include <poll.h>
+#include <signal.h>
+#include <stdio.h>
 #include <stdarg.h>
 #include <stdint.h>
 #include <stdlib.h>
@@ -38,7 +41,7 @@ extern void *__libc_memalign(size_t, size_t);
 static struct counted { char name[24]; uint64_t calls; } own[MOST], *counts = own;
 static const char *refused_name, *moved_from, *moved_to;
 static uint64_t refused_at;
-static int refused_error;
+static int refused_error, is_killed;
 static uintptr_t text_start, text_end;
 
 static int find_text(struct dl_phdr_info *info, size_t size, void *data) {
@@ -67,6 +70,7 @@ __attribute__((constructor)) static void begin(void) {
     dl_iterate_phdr(find_text, NULL);
     moved_from = getenv("REFUSE_FROM");
     moved_to = getenv("REFUSE_TO");
+    is_killed = getenv("REFUSE_KILL") != NULL;
     refused_name = getenv("REFUSE_CALL");
 }
 
@@ -80,6 +84,8 @@ static int refuses(const char *name) {
     it->calls++;
     if (!refused_name || it->calls != refused_at || strcmp(refused_name, name))
         return 0;
+    if (is_killed)
+        syscall(SYS_kill, getpid(), SIGKILL);
     if (moved_from && moved_to)
         return syscall(SYS_renameat2, AT_FDCWD, moved_from, AT_FDCWD, moved_to, 0), 0;
     return 1;
@@ -127,6 +133,8 @@ CALL(int, fsync, (int file), file)
 CALL(int, fdatasync, (int file), file)
 CALL(int, ftruncate, (int file, off_t size), file, size)
 CALL(int, ftruncate64, (int file, off64_t size), file, size)
+CALL(int, rename, (const char *from, const char *to), from, to)
+CALL(int, unlink, (const char *named), named)
 CALL(off_t, lseek, (int file, off_t to, int from), file, to, from)
 CALL(off64_t, lseek64, (int file, off64_t to, int from), file, to, from)
 CALL(int, flock, (int file, int how), file, how)

@@ -81,9 +81,9 @@ def prepared(largest_file):
 class Service:
     """A service on a free port. It listens once it is made, else `Ended` is raised."""
 
-    def __init__(self, named, schema=None, journal=None, sync=None, largest_file=None, env=None, wait=WAIT, extra=()):
-        """`schema` and `journal` are files; no file may grow beyond `largest_file` bytes; `env` is put to the environment."""
-        words = [named, "--listen", "0", *extra]
+    def __init__(self, named, schema=None, journal=None, sync=None, largest_file=None, env=None, wait=WAIT, extra=(), port=0):
+        """`schema` and `journal` are files; `port` is one that is free, or 0 for any; no file may grow beyond `largest_file` bytes; `env` is put to the environment."""
+        words = [named, "--listen", str(port), *extra]
         for name, value in (("--schema", schema), ("--journal", journal), ("--sync", sync)):
             words += [name, value] if value is not None else []
         self.said = tempfile.TemporaryFile()

@@ -10,7 +10,10 @@ fault, which the scripts are to find:
     added    a line that nobody sent is in the journal at times   lacks     memory is lacking at times, though there is some
     dies     it ends by itself, a while after its connections     ends      a full disk ends it
     taken    a line that is refused for room is done and kept     stuck     look-ups are refused for room too
-    bound    undoing waits for room too                           unkept    lines that wait for room are done and aren't kept"""
+    bound    undoing waits for room too                           unkept    lines that wait for room are done and aren't kept
+    loose    a base takes its place before it stays               hasty     a rebase removes segments before its base is in place
+    uncounted  a base lacks which id comes next                   unordered a base has equals by their ids
+    trusting a torn base is taken, and one that breaks rules"""
 import argparse
 import fcntl
 import json
@@ -22,10 +25,12 @@ import sys
 import time
 
 TOP = os.path.dirname(os.path.dirname(os.path.dirname(os.path.realpath(__file__))))
-sys.path[:0] = [f"{TOP}/scripts", f"{TOP}/clients/python"]
+sys.path[:0] = [f"{TOP}/scripts", f"{TOP}/clients/python", f"{TOP}/scripts/tests"]
 
 import mi_client.schema  # noqa: E402
 from mi_tools.meaning import hash_of  # noqa: E402
+import bases  # noqa: E402
+import stand_in_base  # noqa: E402
 from reference import CHANGES, LONGEST_LINE, STEPS, Index, Reference, Refusal, Schema, form, is_foreign, read  # noqa: E402
 
 PLANT = os.environ.get("PLANT", "")
@@ -71,13 +76,17 @@ def is_kept(text, reply):
 class Journal:
     """The file: lines are written over the room behind those that are there, and made to stay."""
 
-    def __init__(self, path, reference, wanted, sync):
+    def __init__(self, path, reference, wanted, sync, is_rebased=False):
         self.path, self.sync, self.handle, self.waits = path, sync, None, False
         if not path:
             return
         try:
-            self.handle = os.open(path, os.O_RDWR | os.O_CREAT, 0o600)
+            self.handle = os.open(bases.segment_path(path, stand_in_base.newest_of(path)), os.O_RDWR | os.O_CREAT, 0o600)
             fcntl.flock(self.handle, fcntl.LOCK_EX | fcntl.LOCK_NB)
+            self.standing = stand_in_base.Standing(path, reference, wanted, lambda text: changed(reference.answer_ended(1, text)), PLANT)
+            wanted = self.standing.header
+        except stand_in_base.Refused as why:
+            stop(3, f"journal: {why}: {path}")
         except BlockingIOError:
             stop(3, f"journal: locked: {path}")
         except OSError as error:
@@ -87,11 +96,17 @@ class Journal:
         end = len(whole) if PLANT == "torn" else whole.rfind(b"\n") + 1
         lines = whole[:end].split(b"\n")[:-1] if PLANT != "torn" else [it for it in whole.split(b"\n") if it]
         if lines and lines[0] != wanted and not (PLANT == "foreign" and lines[0].startswith(b'{"journal"')):
-            stop(3, f"journal: schema: {path}" if lines[0].startswith(b'{"journal"') else f"journal: line 1: {path}")
-        for number, text in enumerate(lines[1:], 2):
+            is_later = self.standing.number > 1
+            why = f"segment {self.standing.number}" if is_later else "schema" if lines[0].startswith(b'{"journal"') else "line 1"
+            stop(3, f"journal: {why}: {path}")
+        try:
+            self.standing.check_skip(lines or [wanted])
+        except stand_in_base.Refused as why:
+            stop(3, f"journal: {why}: {path}")
+        for number, text in enumerate(lines[1 + self.standing.skip:], 2 + self.standing.skip):
             reply = reference.answer_ended(1, text)
             if not changed(reply) and PLANT != "torn":
-                stop(3, f"journal: line {number}: {path}")
+                stop(3, f"journal: {stand_in_base.place_of(self.standing.number, number)}: {path}")
         self.end = end
         if not lines:
             if len(whole) < self.room:
@@ -100,8 +115,21 @@ class Journal:
         elif PLANT != "torn":
             self.room = end
             os.ftruncate(self.handle, end)
+        if is_rebased:
+            self.rebase(reference)
         self.gone(reference, 1)
         self.stay()
+
+    def rebase(self, reference):
+        """The base is made anew, and this ends."""
+        os.fdatasync(self.handle)
+        if reference.old:
+            stop(3, f"journal: sessions: {self.path}")
+        try:
+            stand_in_base.rebase(self.path, self.standing, reference, os.pread(self.handle, self.end, 0), PLANT)
+        except OSError as error:
+            stop(4, f"fault: journal: {self.path}: {error.strerror} ({error.errno})")
+        os._exit(0)
 
     def append(self, text):
         if self.handle is None:
@@ -189,7 +217,7 @@ class Service:
             with open(options.schema, encoding="utf-8") as file:
                 self.text = file.read()
         wanted = f'{{"journal":1,"revision":{schema.first_revision},"schema":"{hash_of(schema)}"}}'.encode()
-        self.journal = Journal(options.journal, self.reference, wanted, options.sync)
+        self.journal = Journal(options.journal, self.reference, wanted, options.sync, options.rebase)
         self.listener = socket.create_server(("127.0.0.1", options.listen), backlog=128)
         self.listener.setblocking(False)
         self.selector, self.clients, self.next, self.asked = selectors.DefaultSelector(), {}, 2, 0
@@ -373,7 +401,8 @@ class Service:
 def main():
     parser = argparse.ArgumentParser()
     parser.add_argument("--schema")
-    parser.add_argument("--listen", type=int, required=True)
+    parser.add_argument("--listen", type=int, default=0)
+    parser.add_argument("--rebase", action="store_true")
     parser.add_argument("--journal")
     parser.add_argument("--sync", choices=["always", "turn", "never"], default="turn")
     service = Service(parser.parse_args())

@@ -178,7 +178,7 @@ class AgainstAStandIn(unittest.TestCase):
         return status, out.getvalue()
 
     def test_none_is_found(self):
-        of_crash = [("rounds", "--rounds", "2"), ("tools",), ("full",)]
+        of_crash = [("rounds", "--rounds", "2"), ("tools",), ("full",), ("rebase", "--rounds", "2"), ("bases",)]
         of_crowd = [("place",), ("comers", "--connections", "70"), ("full", "--connections", "70")]
         for script, words in [*((crash, it) for it in of_crash), *((crowd, it) for it in of_crowd)]:
             status, said = self.ran(script, "", "--part", *words)
@@ -209,6 +209,17 @@ class AgainstAStandIn(unittest.TestCase):
         self.is_found("unkept", crowd, "full", "the journal lacks it|fits nowhere|nobody sent|wanted .*, got ")
         self.is_found("beyond", crowd, "place", "connection 65 is served")
         self.is_found("crossed", crash, "rounds", r"lines and got \d+ replies|wanted .*, got |fits nowhere")
+
+    def test_faults_of_a_rebase_are_found(self):
+        self.is_found("unordered", crash, "rebase", "the base's table (kept|side) isn't the reference's")
+        self.is_found("uncounted", crash, "rebase", "the base's table (kept|side) isn't the reference's")
+        self.is_found("trusting", crash, "bases", "a base with .*'journal: base: .*it listens|cut at byte .*'journal: base: .*it listens")
+
+    @unittest.skipUnless(shutil.which(os.environ.get("CC", "cc")), "a C compiler is needed")
+    def test_a_disk_that_forgets_in_a_rebase(self):
+        self.assertEqual(self.ran(crash, "", "--part", "rebase-forgets", "--rounds", "1")[0], 0)
+        self.is_found("hasty", crash, "rebase-forgets", "a stop of rebasing behind change .*, remove .*")
+        self.is_found("loose", crash, "rebase-forgets", "a stop of rebasing behind change .*journal: base")
 
     @unittest.skipUnless(shutil.which(os.environ.get("CC", "cc")), "a C compiler is needed")
     def test_a_disk_that_forgets(self):

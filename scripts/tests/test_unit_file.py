@@ -1,5 +1,5 @@
-"""The unit file for systemd: its words are the service's, its journal lies in the folder that systemd makes for it, and systemd, where that is
-there, has nothing against it."""
+"""The unit files for systemd: their words are the service's, its journal lies in the folder that systemd makes for it, and systemd, where that is
+there, has nothing against them."""
 import configparser
 import os
 import shutil
@@ -15,7 +15,16 @@ sys.path.insert(0, f"{TOP}/scripts")
 from stress import service  # noqa: E402
 
 UNIT = f"{TOP}/examples/mi_service.service"
+REBASE = f"{TOP}/examples/mi_service-rebase"
 STAND_IN = f"{HERE}/stand_in.py"
+
+
+def read(path):
+    """A unit file's parts."""
+    found = configparser.ConfigParser(interpolation=None, strict=False)
+    found.optionxform = str
+    found.read(path)
+    return found
 
 
 class UnitFile(unittest.TestCase):
@@ -24,21 +33,36 @@ class UnitFile(unittest.TestCase):
         self.addCleanup(folder.cleanup)
         self.folder = folder.name
         self.program = service.path() if service.is_there() else STAND_IN
-        read = configparser.ConfigParser(interpolation=None, strict=False)
-        read.optionxform = str
-        read.read(UNIT)
-        self.said = read["Service"]
+        self.said = read(UNIT)["Service"]
+
+    def words(self, text):
+        """The words behind the program, with the folder of this test in the place of systemd's."""
+        return [it.replace("%S", self.folder) for it in text.split()[1:]]
 
     def test_its_words(self):
         _, *words = self.said["ExecStart"].split()
         self.assertTrue(words[words.index("--journal") + 1].startswith(f"%S/{self.said['StateDirectory']}/"))
         os.mkdir(f"{self.folder}/{self.said['StateDirectory']}")
-        words = [it.replace("%S", self.folder) for it in words]
+        words = self.words(self.said["ExecStart"])
         at = words.index("--listen")
         del words[at:at + 2]
         with service.Service(self.program, extra=words) as running, running.connect() as stream:
             self.assertEqual(service.asked(stream, b'{"cmd":"size"}\n'), b'{"ok":true,"size":0}\n')
         self.assertEqual(os.listdir(f"{self.folder}/{self.said['StateDirectory']}"), ["journal"])
+
+    def test_a_rebase_is_of_its_journal(self):
+        before, now = read(f"{REBASE}.conf")["Service"]["ExecStartPre"], self.words(self.said["ExecStart"])
+        self.assertEqual(before.split()[0], f"-{self.said['ExecStart'].split()[0]}")
+        self.assertIn(" ".join(now[now.index("--journal"):][:2]), " ".join(self.words(before)))
+        os.mkdir(f"{self.folder}/{self.said['StateDirectory']}")
+        for _ in range(2):
+            ran = subprocess.run([self.program, *self.words(before)], capture_output=True, text=True, timeout=60)
+            self.assertEqual((ran.returncode, ran.stderr), (0, ""))
+        self.assertEqual(sorted(os.listdir(f"{self.folder}/{self.said['StateDirectory']}")), ["journal.000003", "journal.base"])
+
+    def test_the_timer_restarts_the_service(self):
+        self.assertEqual(read(f"{REBASE}.service")["Service"]["ExecStart"].split()[1:], ["try-restart", os.path.basename(UNIT)])
+        self.assertIn("OnCalendar", read(f"{REBASE}.timer")["Timer"])
 
     def test_no_limit_of_files_kills_it(self):
         self.assertEqual(self.said["LimitFSIZE"], "infinity")
@@ -52,11 +76,16 @@ class UnitFile(unittest.TestCase):
         verify = shutil.which("systemd-analyze")
         if not verify:
             self.skipTest("systemd-analyze isn't there")
-        with open(UNIT, encoding="utf-8") as file:
-            text = file.read().replace("/usr/local/bin/mi_service", self.program)
-        with open(f"{self.folder}/mi_service.service", "w", encoding="utf-8") as file:
-            file.write(text)
-        ran = subprocess.run([verify, "verify", f"{self.folder}/mi_service.service"], capture_output=True, text=True, timeout=60)
+        os.mkdir(f"{self.folder}/mi_service.service.d")
+        names = {UNIT: "mi_service.service", f"{REBASE}.conf": "mi_service.service.d/rebase.conf"}
+        names.update((f"{REBASE}.{it}", f"mi_service-rebase.{it}") for it in ("service", "timer"))
+        for path, name in names.items():
+            with open(path, encoding="utf-8") as file:
+                text = file.read().replace("/usr/local/bin/mi_service", self.program).replace("/usr/bin/systemctl", shutil.which("true"))
+            with open(f"{self.folder}/{name}", "w", encoding="utf-8") as file:
+                file.write(text)
+        units = [f"{self.folder}/{it}" for it in names.values() if not it.endswith(".conf")]
+        ran = subprocess.run([verify, "verify", *units], capture_output=True, text=True, timeout=60)
         self.assertEqual((ran.returncode, ran.stderr), (0, ""))
 
 

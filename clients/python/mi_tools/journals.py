@@ -25,13 +25,13 @@ class OtherSchema(ValueError):
 
 
 class HasBase(ValueError):
-    """A journal has a base or later segments, which this tool doesn't read."""
+    """A journal has a base or later segments, which only the service reads."""
 
 
 def check_single(path: str) -> None:
     """Raises HasBase where the journal isn't one file: a server that is asked its lines wouldn't have its tables."""
     if os.path.exists(f"{path}.base") or os.path.exists(f"{path}.000002"):
-        raise HasBase(f"{path}: it has a base or later segments, which this tool doesn't read")
+        raise HasBase(f"{path}: it has a base or later segments, which mi_service reads: start that with it, and name it by --connect PORT")
 
 
 def header_of(line: bytes, path: str) -> Dict[str, Any]:

@@ -6,11 +6,12 @@ import argparse
 import contextlib
 import itertools
 import sys
-from typing import IO, Callable, Iterator, List, Optional, TypeVar
+from typing import IO, Callable, Iterator, List, Optional, Sequence, TypeVar
 
 from mi_client import Database, Ended, NeedsSchema, Refused, TooManyEqual
 from mi_client.calls import Bound, Row
 from mi_client.schema import Table
+from mi_tools import exact
 from mi_tools.loading import Loaded, Reference, References, Stopped, behind_loaded, check_ids, load_rows
 from mi_tools.opening import NO_COLUMNS, add_server, add_source, opened, source_words, status_of, why
 from mi_tools.progress import Progress
@@ -20,8 +21,8 @@ from mi_tools.whole_files import part_of
 T = TypeVar("T")
 KEEPS = """A load gives the rows back, and what follows from them. It keeps ids where they are those that the server counts; else it
 loads nothing, unless --renumber or --references is given. It can't keep the places of records among equals, nor the orders of
-sequenced indexes beside the one that was dumped by --order. For an exact copy keep the lines of the changes themselves, as a
-journal: sent again in their order they make the same tables."""
+sequenced indexes beside the one that was dumped by --order. --ids keeps all: a dump reads the base of a service's journal, which
+mi_service --rebase makes, and a load makes a new journal."""
 
 
 def rows_in_order(db: Database, table: Optional[str], index: str, lower: Optional[Bound] = None) -> Iterator[Row]:
@@ -202,12 +203,38 @@ def read(db: Database, options: argparse.Namespace) -> int:
     return 1 if done.refused else 0
 
 
+def exactly(name: str, parser: argparse.ArgumentParser, options: argparse.Namespace, work: Callable[[], Sequence[str]]) -> int:
+    """Does the work of --ids, which asks no server, tells what it says, and answers its status."""
+    given = [it for it in vars(options) if getattr(options, it) != parser.get_default(it)]
+    others = sorted({*given} - {"ids", "journal", "schema", "file", "wants_rows"})
+    if options.journal is None or others:
+        parser.error(f"--ids goes with --journal, --schema and a file, and asks no server{'; without it ' + ', '.join(others) if others else ''}")
+    try:
+        for it in work():
+            print(it, file=sys.stderr)
+        return 0
+    except BrokenPipeError:
+        raise  # (nobody reads what is written)
+    except (OSError, ValueError) as error:
+        print(f"weltiyo {name}: {error}", file=sys.stderr)
+        return status_of(error)
+
+
+def exact_load(options: argparse.Namespace) -> List[str]:
+    rows, passed_over = exact.load(options.file, options.schema, options.journal)
+    said = [f"the schema has no index {it}, whose order is left out" for it in passed_over]
+    return [*said, f"{rows} rows are in {options.journal}.base; start mi_service with --journal {options.journal}"]
+
+
 def main_dump(words: Optional[List[str]] = None) -> int:
     parser = writer_options("dump", "Writes the rows of all tables as JSON lines.")
+    parser.add_argument("--ids", action="store_true", help="all that the base of --journal has: ids, orders and counters too; asks no server")
     parser.add_argument("--resume", action="store_true",
                         help="goes on behind the last whole line of FILE.part, which a dump that broke off has left, else of the file")
     parser.add_argument("file", nargs="?", default="-", help="- is the standard output (as without)")
     options = source_words(parser, words)
+    if options.ids:
+        return exactly("dump", parser, options, lambda: [f"{exact.dump(options.journal, options.schema, options.file)} rows written"])
     if options.resume and options.order != "id":
         parser.error("--resume goes on by ids, so it can't go with --order")
     return ran("dump", argparse.Namespace(**vars(options), write=dump), written)
@@ -222,8 +249,13 @@ def main_export(words: Optional[List[str]] = None) -> int:
 
 def main_load(words: Optional[List[str]] = None) -> int:
     parser = reader_options("load", "Inserts the rows that dump has written.")
+    parser.add_argument("--ids", action="store_true", help="makes a new --journal, with its base, of what dump --ids has written; asks no server")
+    parser.add_argument("--journal", metavar="FILE", help="goes with --ids: no file of this name, and none of a journal's, is there yet")
     parser.add_argument("file", nargs="?", default="-", help="- is the standard input (as without)")
-    return ran("load", argparse.Namespace(**vars(parser.parse_args(words)), format="jsonl"), read)
+    options = parser.parse_args(words)
+    if options.ids or options.journal is not None:
+        return exactly("load", parser, options, lambda: exact_load(options))
+    return ran("load", argparse.Namespace(**vars(options), format="jsonl"), read)
 
 
 def main_import(words: Optional[List[str]] = None) -> int:

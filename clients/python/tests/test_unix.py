@@ -6,6 +6,7 @@ import socket
 import stat
 import subprocess
 import sys
+import time
 import unittest
 
 import kit
@@ -70,9 +71,17 @@ class Paths(unittest.TestCase):
         late = [Database.connect(where, 60) for where in (port, self.path)]
         for it in taken:
             it.close()
-        self.assertEqual([it.size() for it in late], [0, 0])
+        # (who came while no place was free has one now, or was turned away)
         for it in late:
+            try:
+                self.assertEqual(it.size(), 0)
+            except Ended as error:
+                self.assertIn("all its places are taken", str(error))
             it.close()
+        time.sleep(0.2)
+        for where in (port, self.path):
+            with Database.connect(where, 60) as db:
+                self.assertEqual(db.size(), 0)
 
     def test_the_file_of_one_that_was_killed(self):
         journal = f"{self.path}.journal"
@@ -126,7 +135,7 @@ class Paths(unittest.TestCase):
             self.assertEqual(stat.S_IMODE(os.stat(path).st_mode), rights)
 
     def test_neither_is_asked_for(self):
-        said = "usage: --listen or --unix is needed; --sync goes with --journal and is always, turn or never\n"
+        said = "usage: --listen or --unix; or --rebase, or --rebase-to with --new-schema; rebases and --sync need --journal; --sync is always, turn or never\n"
         for words in ([], ["--sync", "never"], ["--unix", self.path, "--sync", "never"]):
             self.assertEqual(self.ended(*words), (2, "", said))
         self.assertFalse(os.path.exists(self.path))

@@ -1,5 +1,5 @@
 -- Steps one behind another, and the steps that calls of a ledger are.
--- Cited by `asking::ask_line`, `asking::ask_lines`, `asking::part`, `asking::settle`, 11 more, `mi_recovery` and `mi_serving`.
+-- Cited by `asking::ask_line`, `asking::ask_lines`, `asking::part`, `asking::settle`, `asking::undo_all`, 10 more and `mi_serving`.
 use Rattle.std.proofs.Common.{◌≡◌, ℕ, List, [], ◌∷◌, ◌++◌, codes, Bool, true, false, not, ◌&&◌, cond, nat_eq, inl, inr, Option, Some, Result, Ok, refl, sym, ap, ◌∙◌, subst, append-nil, append_assoc}
 use Rattle.std.specs.Io.KnownBytes.{Appends, Keeps}
 use Rattle.std.proofs.KnownBytes.{Appends-nil, Appends-kept, Appends-trans, Keeps-refl}

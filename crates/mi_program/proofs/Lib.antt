@@ -4,5 +4,5 @@ pub mod MatchedLemmas
 mod NumberLemmas
 mod ServingLemmas
 mod TextLemmas
-mod ValueLemmas
+pub mod ValueLemmas
 pub mod TurnLemmas

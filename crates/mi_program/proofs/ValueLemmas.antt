@@ -1,5 +1,5 @@
 -- What the values that clap gives are read as.
--- Cited by `words::values`.
+-- Cited by `words::values` and `mi_serving`.
 use Rattle.std.proofs.Common.{◌≡◌, ℕ, Bool, true, false, List, Option, Some, None, refl, sym, ap, codes}
 use Rattle.std.specs.Prelude.{unwrap_or, bytes_eq}
 use Rattle.std.specs.Str.Parse.{ParsesBool}

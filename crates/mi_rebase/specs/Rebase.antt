@@ -1,5 +1,5 @@
--- A journal's base is made anew: behind segment 3, which is closed, stand the tables, and segment 4 begins.
-use Rattle.std.specs.Prelude.{◌≡◌, ◌+◌, ℕ, List, Option, Some, IfSome}
+-- A journal's base is made anew: behind segment 3, which is closed, stand the tables, and segment 4 begins. Or a journal begins with a base.
+use Rattle.std.specs.Prelude.{◌≡◌, ◌+◌, ◌∷◌, ◌++◌, [], true, ℕ, List, Option, Some, None, IfSome}
 use Rattle.std.specs.String.{string_bytes}
 use Rattle.std.specs.Io.KnownBytes.{Keeps}
 use Rattle.mi_model.specs.Table.{Table}
@@ -9,13 +9,16 @@ use Rattle.mi_base.specs.declared.heading.Heading.{Heading}
 use Rattle.mi_base.specs.Base.{base_text}
 use Rattle.mi_rebase.specs.Images.{AreImagesOf}
 use Rattle.mi_recovery.specs.declared.asking.Asked.{Asked}
+use Rattle.mi_recovery.specs.declared.device.JournalDevice.{JournalDevice}
+use Rattle.mi_recovery.specs.declared.device.Keeping.TheVariants.{Synced}
 use Rattle.mi_recovery.specs.declared.place.JournalSchema.{JournalSchema}
 use Rattle.mi_recovery.specs.declared.place.Place.{Place}
 use Rattle.mi_recovery.specs.declared.place.Position.{Position}
+use Rattle.mi_recovery.specs.Device.{told_of, is_staying}
 use Rattle.mi_recovery.specs.JournalFile.{text_of}
 use Rattle.mi_recovery.specs.Names.{new_base_name}
-use Rattle.mi_recovery.specs.Recovery.{kept_bytes}
-use Rattle.mi_recovery.specs.Segments.{IsAskedBehind, IsNext, hash_of}
+use Rattle.mi_recovery.specs.Recovery.{Has, kept_bytes}
+use Rattle.mi_recovery.specs.Segments.{IsAskedBehind, IsNext, IsStart, hash_of}
 
 -- what the first line of a base says that stands at a place, where the database has this revision
 pub record IsHeadingAt (schema : JournalSchema) (revision : ℕ) (place : Place) (heading : Heading) : Type 0 where
@@ -37,7 +40,7 @@ pub record IsWritten {F : Type 0} (is_seen : List ℕ → F → Type 0) (content
   pub stay : Keeps (contents after) (stays after)
 
 -- From old, which stands at a position of a journal, its base is made anew: the lines behind are asked, no session is open then, and the base of
--- what they leave stands in front of the segment behind the newest.
+-- what they leave was written to the file of a base that isn't whole yet. Its heading names the segment behind the newest. Where that file goes isn't said.
 pub record IsRebased {F : Type 0} (is_locked : F → Type 0) (is_seen : List ℕ → F → Type 0) (is_newest : ℕ → Type 0) (contents stays : F → Option (List ℕ))
     (path : List ℕ) (schema : JournalSchema) (position : Option Position) (old : HeldDatabase) : Type 0 where
   pub asked : Asked F
@@ -51,3 +54,24 @@ pub record IsRebased {F : Type 0} (is_locked : F → Type 0) (is_seen : List ℕ
       (text_of (kept_bytes (string_bytes asked.place.header) (text_of bytes) asked.found)) next)
   pub stands : IsHeadingAt schema new.database.revision next heading
   pub is : IsWritten is_seen contents stays path heading new.database
+
+-- A segment was made that stands at a place, and this process alone had its file. It has the place's header and a newline, and no more, which stays.
+pub record IsMade {F : Type 0} (is_locked : F → Type 0) (contents stays : F → Option (List ℕ)) (place : Place) : Type 0 where
+  pub file : F
+  pub device : JournalDevice F
+  pub locked : is_locked file
+  pub has : IfSome (contents file) (λ _. Has Synced (string_bytes place.header ++ 10 ∷ []) (told_of contents device))
+  pub stay : Keeps (told_of contents device) (told_of stays device)
+  pub synced : is_staying device ≡ true
+
+-- Where no segment was, a journal of this schema begins with the tables of a database. Its base was written to the file of a base that isn't whole yet,
+-- and stands in front of segment 1, which was made and has no line. Where that file goes, and the segment's path, aren't said.
+pub record IsBegun {F : Type 0} (is_locked : F → Type 0) (is_seen : List ℕ → F → Type 0) (is_newest : ℕ → Type 0) (contents stays : F → Option (List ℕ))
+    (path : List ℕ) (schema : JournalSchema) (d : Database) : Type 0 where
+  pub place : Place
+  pub heading : Heading
+  pub nothing : is_newest 0
+  pub is_first : IsStart schema None place
+  pub stands : IsHeadingAt schema d.revision place heading
+  pub is : IsWritten is_seen contents stays path heading d
+  pub segment : IsMade is_locked contents stays place

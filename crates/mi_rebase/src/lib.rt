@@ -1,11 +1,17 @@
-//! The base of a journal: read at a start, and made anew behind the journal's end. It opens files, and knows a database by the hub alone.
+//! The base of a journal: read at a start, made anew behind the journal's end, and written in front of a new journal. It opens files, and knows a
+//! database by the hub alone, or by what it gives images of.
 #![tactic(auto)]
 
 mod base;
+mod beginning;
 mod closing;
 mod images;
 mod rebasing;
+mod settling;
+mod writing;
 
 pub use base::{Base, base_of};
+pub use beginning::begun_with;
 pub use images::Imaged;
 pub use rebasing::rebased;
+pub use settling::settled;

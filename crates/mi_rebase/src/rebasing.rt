@@ -1,161 +1,25 @@
-//! A base, made anew: a journal is asked to its end, its tables are written, the next segment is begun, and what the base has is taken away. Ended
-//! at any point, the journal gives the same tables. It looks at no line.
-ghost use Rattle.std.specs.Prelude.{◌≡◌, ◌+◌, [], length, true, Some, option_map, map, List, OnOk, IfOk, IfSome};
-ghost use Rattle.std.specs.Io.KnownBytes.{Appends, Keeps};
-ghost use Rattle.mi_container.specs.Restore.{image_table};
-ghost use Rattle.mi_model.specs.Database.{depth};
-ghost use Rattle.mi_model.specs.Table.{Table};
-ghost use Rattle.mi_base.specs.Base.{base_text};
-ghost use Rattle.mi_rebase.specs.Images.{AreImagesOf};
+//! A base, made anew: a journal is asked to its end, its tables are written, the next segment is begun, and what the base has is taken away. The
+//! order of these steps is to let a start give the same tables wherever they end; no clause says so. It looks at no line.
+ghost use Rattle.std.specs.Prelude.{◌≡◌, ◌+◌, [], length, true, option_map, OnOk, IfOk, IfSome};
 ghost use Rattle.std.specs.String.{string_bytes};
 ghost use Rattle.mi_base.specs.declared.heading.Heading.{Heading};
 ghost use Rattle.mi_recovery.specs.JournalFile.{text_of};
-ghost use Rattle.mi_recovery.specs.Names.{new_base_name};
 ghost use Rattle.mi_recovery.specs.Recovery.{IsFound, kept_bytes};
 ghost use Rattle.mi_recovery.specs.Segments.{IsNext};
 ghost use Rattle.mi_rebase.specs.Rebase.{IsHeadingAt, IsWritten, IsRebased};
 
 use crate::closing::{closed, place_behind};
 use crate::images::Imaged;
-use mi_base::{Heading, WriteFault, write_base};
-use mi_catalog::Catalog;
-use mi_container::TableImage;
+use crate::settling::settled;
+use crate::writing::{heading_at, put_in_place, write_new};
 use mi_hub::Hub;
-use mi_log::{Device, DeviceLog};
+use mi_log::DeviceLog;
 use mi_recovery::{
-    Asked, FileWriter, JournalDevice, JournalFailure, JournalFault, JournalFile, JournalFiles,
-    JournalSchema, Place, Position, ask_journal, base_path, new_base_path, next_segment,
-    segment_path,
+    Asked, JournalDevice, JournalFailure, JournalFault, JournalFile, JournalFiles, JournalSchema,
+    Place, Position, next_segment, segment_path,
 };
 use mi_sessions::Sessions;
-use sha2::{Digest, Sha256};
-use std::alloc::{AllocError, Global};
-use std::io::{BufWriter, Write};
-
-/// What a base's first line says that stands at a place, behind no line of its segment.
-fn heading_at(
-    alloc: Global,
-    schema: &JournalSchema,
-    revision: u64,
-    place: &Place,
-) -> Result<Heading, AllocError>
-    ensures { IfOk result (λ heading. IsHeadingAt schema.now revision place.now heading) }
-{
-    Ok(Heading {
-        schema: String::from_str(alloc, schema.hash.as_str())?,
-        revision,
-        segment: place.number,
-        line: place.skip,
-        sum: hex::encode(alloc, Sha256::digest(place.header.as_bytes()))?,
-    })
-}
-
-/// A file at a path that has nothing: it is made, or emptied.
-fn emptied<P: JournalFiles>(files: &P, path: &str) -> Result<P::File, JournalFault>
-    ensures { IfOk result (λ file. (before : P.File) × P.is_seen files.now path.now before
-        × IfSome (P.File.contents before) (λ _. P.File.contents file ≡ Some [])) }
-{
-    let mut file = match files.open(path) {
-        Ok(file) => file,
-        Err(error) => return Err(JournalFault::of(JournalFailure::File, error)),
-    };
-    match file.cut_to(0) {
-        Ok(()) => Ok(file),
-        Err(error) => Err(JournalFault::of(JournalFailure::File, error)),
-    }
-}
-
-/// Writes the base of these images behind what a writer has, by writes of up to 64 KiB.
-fn write_behind<W: Write + Drop>(
-    alloc: Global,
-    catalog: &Catalog,
-    heading: &Heading,
-    images: &[TableImage],
-    writer: W,
-) -> Result<W, JournalFailure>
-    requires { length images.now ≡ length catalog.now.tables }
-    ensures { IfOk result (λ after. Appends (W.contents writer) (W.contents after) (base_text heading.now catalog.now (map image_table images.now))) }
-{
-    let Ok(mut out) = BufWriter::with_capacity(alloc, 65_536, writer) else {
-        return Err(JournalFailure::Memory);
-    };
-    match write_base(alloc, catalog, heading, images, &mut out) {
-        Ok(()) => {}
-        Err(WriteFault::Memory) => return Err(JournalFailure::Memory),
-        Err(WriteFault::Write) => return Err(JournalFailure::Write),
-    }
-    match out.into_inner() {
-        Ok(after) => Ok(after),
-        Err(_error) => Err(JournalFailure::Write),
-    }
-}
-
-/// Writes the base of a database behind what a file has.
-fn write_into<F: JournalFile + Drop, D: Imaged>(
-    alloc: Global,
-    database: &D,
-    heading: &Heading,
-    file: F,
-) -> Result<F, JournalFailure>
-    ensures { IfOk result (λ after. (images : List Table) × AreImagesOf (D.state database.now) images
-        × Appends (F.contents file) (F.contents after) (base_text heading.now (D.state database.now).catalog images)) }
-{
-    let Ok(images) = database.images(alloc) else {
-        return Err(JournalFailure::Memory);
-    };
-    let catalog = database.catalog();
-    let written = write_behind(
-        alloc,
-        catalog,
-        heading,
-        images.as_slice(),
-        FileWriter::new(file),
-    )?;
-    Ok(written.into_file())
-}
-
-/// Makes what a file has stay. `Write` where that fails.
-fn make_stay<F: JournalFile>(file: &mut F) -> Result<(), JournalFault>
-    ensures contents { Keeps (F.contents file.old) (F.contents file.new) }
-    ensures stays { OnOk result (Keeps (F.contents file.new) (F.stays file.new)) }
-{
-    match file.sync_data() {
-        Ok(()) => Ok(()),
-        Err(error) => Err(JournalFault::of(JournalFailure::Write, error)),
-    }
-}
-
-/// Writes the base of a database to the file of a base that isn't whole yet, and makes it stay.
-fn write_new<P: JournalFiles, D: Imaged>(
-    alloc: Global,
-    files: &P,
-    path: &str,
-    database: &D,
-    heading: &Heading,
-) -> Result<(), JournalFault>
-    ensures { OnOk result (IsWritten (P.is_seen files.now) P.File.contents P.File.stays path.now heading.now (D.state database.now)) }
-{
-    let Ok(name) = new_base_path(alloc, path) else {
-        return Err(JournalFault::from(JournalFailure::Memory));
-    };
-    let file = emptied(files, name.as_str())?;
-    let mut file = write_into(alloc, database, heading, file)?;
-    make_stay(&mut file)
-}
-
-/// The base that was written takes the place of the one before, and its name stays.
-fn put_in_place<P: JournalFiles>(alloc: Global, files: &P, path: &str) -> Result<(), JournalFault> {
-    let (Ok(from), Ok(to)) = (new_base_path(alloc, path), base_path(alloc, path)) else {
-        return Err(JournalFault::from(JournalFailure::Memory));
-    };
-    if let Err(error) = files.rename(from.as_str(), to.as_str()) {
-        return Err(JournalFault::of(JournalFailure::Write, error));
-    }
-    match files.keep_name(to.as_str()) {
-        Ok(()) => Ok(()),
-        Err(error) => Err(JournalFault::of(JournalFailure::Write, error)),
-    }
-}
+use std::alloc::Global;
 
 /// Whether the segment of this number is there.
 fn is_there<P: JournalFiles>(
@@ -204,7 +68,8 @@ fn first_there<P: JournalFiles>(
     Ok(1)
 }
 
-/// Takes away the segments up to this one, the oldest first: so those that are left stand without a gap, and a later rebase finds them.
+/// Takes away the segments up to this one, the oldest first: so those that are left stand without a gap, and a later rebase finds them. No clause
+/// says which files go.
 fn remove_up_to<P: JournalFiles>(
     alloc: Global,
     files: &P,
@@ -216,16 +81,6 @@ fn remove_up_to<P: JournalFiles>(
         remove(alloc, files, path, number)?;
     }
     remove(alloc, files, path, last)
-}
-
-/// No session is open. `Sessions` where one is.
-fn check_settled<D: Sessions + Drop>(hub: &Hub<D>) -> Result<(), JournalFailure>
-    ensures { OnOk result (depth hub.now.held.database ≡ 0) }
-{
-    if hub.database().depth() == 0 {
-        return Ok(());
-    }
-    Err(JournalFailure::Sessions)
 }
 
 /// The newest segment is closed, and the base of a hub whose journal was asked to its end is written. The answer is where the next segment begins,
@@ -271,8 +126,8 @@ fn replaced<P: JournalFiles>(
 /// Makes the base of a path's journal anew, behind all its lines. A hub that stands at the position of the base before, or at the start, is asked
 /// them. Then the base is written and stays, the next segment is begun, the base takes its place, and the segments that it has are taken away.
 ///
-/// The faults are those of `ask_journal`, `Sessions` where sessions are open at the end, and `Write` where a file isn't written, renamed or made to stay.
-/// `Locked` where a service has the journal. Whatever comes, a start gives the same tables as before.
+/// The faults are those of `settled`, and `Write` where a file isn't written, renamed or made to stay. The clause says what was asked and what was written. It doesn't say that the base took its place, that the
+/// next segment was begun, or what was taken away: no file's path and no removal has a clause.
 pub fn rebased<P: JournalFiles, D: Imaged + Drop>(
     alloc: Global,
     files: &P,
@@ -286,8 +141,7 @@ pub fn rebased<P: JournalFiles, D: Imaged + Drop>(
         P.File.stays path.now schema.now (option_map (λ p. p.now) position.entry) hub.held) }
 {
     let mut hub = hub;
-    let asked = ask_journal(alloc, files, &mut hub, path, schema, position)?;
-    check_settled(&hub)?;
+    let asked = settled(alloc, files, &mut hub, path, schema, position)?;
     let (next, _closed) = written(alloc, files, &hub, path, schema, asked)?;
     replaced(alloc, files, path, &next)
 }

@@ -1,19 +1,12 @@
 -- The first line of a journal, and what is done before the first connection comes.
--- Cited by `journal_text::text_size`, `opening::continued`, `opening::cut_off`, `opening::found`, `opening::opened` and 4 more.
+-- Cited by `journal_text::text_size`, `opening::continued`, `opening::cut_off`, `opening::read_heading`, `HashLemmas` and 1 more.
 use Rattle.std.proofs.Common.{◌≡◌, ◌≤◌, ℕ, List, [], ◌∷◌, ◌++◌, ◌<◌, zero, suc, take, get_or, nat_eq, length, Bool, true, false, cond, ◌==◌, Option, Some, None, option_map, Result, Ok, Err, drop, ◌-◌, ◌+◌, refl, sym, ap, ◌∙◌, subst, append-nil, length-append, arith}
 use Rattle.std.proofs.Math.Seq.{take-length}
 use Rattle.mi_recovery.specs.JournalFile.{text_of, from_byte, IsCutTo}
 use Rattle.std.specs.Prelude.{IfOk, IfSome}
-use Rattle.std.specs.Io.KnownBytes.{Consumes, IsAtEnd, Keeps}
-use Rattle.mi_hub.specs.Run.{HubState}
-use Rattle.mi_commands.specs.Holder.{HeldDatabase}
+use Rattle.std.specs.Io.KnownBytes.{Consumes, IsAtEnd}
 use Rattle.mi_hub.specs.Ended.{ended, if_none, after_newlines}
-use Rattle.mi_clients.specs.Steps.{Step, Makes, GivesNone}
-use Rattle.mi_clients.proofs.StepLemmas.{makes_kept}
-use Rattle.mi_recovery.specs.declared.device.Keeping.{Keeping}
-use Rattle.mi_recovery.specs.declared.opening.Journaled.{Journaled}
-use Rattle.mi_recovery.specs.declared.opening.Journaled.TheVariants.{Nothing, Journal}
-use Rattle.mi_recovery.specs.Recovery.{IsBeginning, IsFound, IsRecovered, IsResumed, IsOpened, Has, kept_bytes}
+use Rattle.mi_recovery.specs.Recovery.{IsBeginning}
 
 -- a reader that is at its end has given all that it had, and that is a beginning of the header
 pub heading_none : (old new : Option (List ℕ)) (line header : List ℕ) → Consumes old new line → IfSome old (λ bytes. new ≡ Some [])
@@ -22,15 +15,6 @@ heading_none None new line header c h p = tt
 heading_none (Some xs) new line header c h p =
     let given : xs ≡ line ++ [] = subst (λ o. Consumes (Some xs) o line) h c in
     subst (IsBeginning header) (sym (given ∙ append-nil line)) p
-
--- steps that were made of a hub and a log, which are these, behind which the log makes stay what it has
-pub resumed_makes : {L : Type 0} (appended : L → Option (List ℕ)) (steps : List Step) (hub first mid last : HubState) (log start undone kept : L)
-    → first ≡ hub → start ≡ log → Makes steps first mid (appended start) (appended undone) → last ≡ mid → Keeps (appended undone) (appended kept)
-    → Makes steps hub last (appended log) (appended kept)
-resumed_makes appended steps hub first mid last log start undone kept is same p stays more =
-    makes_kept steps hub mid last (appended log) (appended undone) (appended kept)
-    (subst (λ h. Makes steps h mid (appended log) (appended undone)) is
-    (subst (λ l. Makes steps first mid (appended l) (appended undone)) same p)) stays more
 
 -- what stands behind the last newline is no longer than all
 pub after_within : (bs : List ℕ) → length (after_newlines bs) ≤ length bs
@@ -113,12 +97,6 @@ read_text None text P p q = tt
 read_text (Some bytes) text P p q =
     subst P (text_front bytes text (omega (arith, p)) ∙ ap (λ n. take n (text_of bytes)) p ∙ take-length (text_of bytes)) q
 
-pub recovered_text : {E : Type 0} (o known : Option (List ℕ)) (text : ℕ) (r : Result Journaled E) (P : List ℕ → Journaled → Type 0)
-    → IfSome o (λ bytes. text ≡ length (text_of bytes)) → known ≡ option_map (λ bytes. take text bytes) o
-    → IfOk r (λ found. IfSome known (λ bytes. P bytes found)) → IfOk r (λ found. IfSome o (λ bytes. P (text_of bytes) found))
-recovered_text o known text (Ok found) P p same q = read_text o text (λ bytes. P bytes found) p (subst (λ k. IfSome k (λ bytes. P bytes found)) same q)
-recovered_text o known text (Err e) P p same q = tt
-
 pub weaker : {X E : Type 0} (P Q : X → Type 0) (r : Result X E) → IfOk r P → ((x : X) → P x → Q x) → IfOk r Q
 weaker P Q (Ok x) p f = f x p
 weaker P Q (Err e) p f = tt
@@ -156,37 +134,3 @@ far_stop (Some bytes) at n i piece far read lt none is =
     let one : length (text_of (drop at bytes)) ≡ i =
     ap (λ l. length (text_of l)) read ∙ text_stop i piece (drop (at + n) bytes) lt none is in
     omega (arith, far, one)
-
--- what is recovered was found
-found_of : (header bytes : List ℕ) (found : Journaled) (old new : HeldDatabase) → IsRecovered header bytes found old new → IsFound header bytes found
-found_of header bytes Nothing old new p = p.0
-found_of header bytes (Journal torn) old new p =
-    let within : torn ≤ length p.0 = rw p.2.1 (after_within p.0) in
-    rw (p.1, length-append) (omega (arith, within))
-
-pub found_after : (o : Option (List ℕ)) (header same : List ℕ) (found : Journaled) (old new : HeldDatabase) → header ≡ same
-    → IfSome o (λ bytes. IsRecovered header (text_of bytes) found old new) → IfSome o (λ bytes. IsFound same (text_of bytes) found)
-found_after None header same found old new is p = tt
-found_after (Some bytes) header same found old new is p =
-    subst (λ h. IsFound h (text_of bytes) found) is (found_of header (text_of bytes) found old new p)
-
--- what is recovered, kept and resumed is opened
-pub opened_by : (o : Option (List ℕ)) (first second header : List ℕ) (keeping : Keeping) (found : Journaled) (old mid new : HubState)
-    (from told : Option (List ℕ)) → first ≡ header → second ≡ header
-    → IfSome o (λ bytes. IsRecovered first (text_of bytes) found old.held mid.held)
-    → IfSome o (λ bytes. Has keeping (kept_bytes second (text_of bytes) found) from)
-    → ((steps : List Step) × GivesNone steps × Makes steps mid new from told) → IsResumed found mid.held new.held
-    → IfSome o (λ bytes. IsOpened header (text_of bytes) keeping old new told)
-opened_by None first second header keeping found old mid new from told a b p has makes resumed = tt
-opened_by (Some bytes) first second header keeping found old mid new from told a b p has makes resumed =
-    let kept : Has keeping (kept_bytes header (text_of bytes) found) from =
-    subst (λ h. Has keeping (kept_bytes h (text_of bytes) found) from) b has in
-    record {
-      found = found;
-      mid = mid;
-      recovered = subst (λ h. IsRecovered h (text_of bytes) found old.held mid.held) a p;
-      resumed = resumed;
-      steps = makes.0;
-      none = makes.1;
-      makes = subst (λ f. Makes makes.0 mid new f told) kept makes.2;
-    }

@@ -3,14 +3,11 @@ use Rattle.std.specs.Prelude.{◌≡◌, ◌≤◌, ◌-◌, ◌+◌, min, nat_l
 use Rattle.mi_commands.specs.Holder.{HeldDatabase, released}
 use Rattle.mi_hub.specs.Ended.{after_newlines}
 use Rattle.mi_hub.specs.Lines.{lines_of}
-use Rattle.mi_hub.specs.declared.connection.Connection.{Connection}
 use Rattle.mi_replay.specs.Replayed.{replayer, replayed}
 use Rattle.mi_ledger.specs.Ledger.{holder_conn}
-use Rattle.mi_hub.specs.Run.{HubState}
-use Rattle.mi_clients.specs.Steps.{Step, Makes, GivesNone, HoldsSome}
+use Rattle.mi_clients.specs.Steps.{HoldsSome}
 use Rattle.mi_recovery.specs.declared.device.Keeping.{Keeping}
 use Rattle.mi_recovery.specs.Device.{is_synced}
-use Rattle.mi_clients.specs.Row.{fresh}
 use Rattle.mi_ledger.specs.declared.replaying.ReplayFault.{ReplayFault}
 use Rattle.mi_ledger.specs.declared.replaying.ReplayFault.TheVariants as replay
 use Rattle.mi_recovery.specs.declared.fault.JournalFailure.{JournalFailure}
@@ -32,26 +29,10 @@ HasHeader header (Some bytes) (Some rest) = bytes ≡ header ++ 10 ∷ rest
 abbrev pub IsReplayed : List ℕ → ℕ → HeldDatabase → HeldDatabase → Type 0
 IsReplayed bytes torn old new = (new ≡ replayed (lines_of bytes) old) × (torn ≡ length (after_newlines bytes))
 
--- From old these bytes are recovered, and new is left. They are no journal yet; or the wanted header stands in front, and what is behind it
--- is replayed.
-abbrev pub IsRecovered : List ℕ → List ℕ → Journaled → HeldDatabase → HeldDatabase → Type 0
-IsRecovered header bytes Nothing old new = IsBeginning header bytes × (new ≡ old)
-IsRecovered header bytes (Journal torn) old new =
-    (rest : List ℕ) × (bytes ≡ header ++ 10 ∷ rest) × IsReplayed rest torn old new
-
--- the connection that replays is attached where there is a journal, and no other is
-abbrev pub IsWith : Journaled → List Connection → Type 0
-IsWith Nothing attached = attached ≡ []
-IsWith (Journal torn) attached = attached ≡ fresh replayer ∷ []
-
 -- A hub with this state goes on with its journal, and has that. Where there was a journal, the sessions are undone that the connection which
 -- replayed it holds, and no other, where whoever holds sessions holds one at least.
 abbrev pub IsUndone : HeldDatabase → HeldDatabase → Type 0
 IsUndone old new = (HoldsSome old.holder → new ≡ released replayer old) × (¬ (holder_conn old.holder ≡ Some replayer) → new ≡ old)
-
-abbrev pub IsResumed : Journaled → HeldDatabase → HeldDatabase → Type 0
-IsResumed Nothing old new = new ≡ old
-IsResumed (Journal torn) old new = IsUndone old new
 
 -- what was found in these bytes: a beginning of the header, or so many torn bytes at their end
 abbrev pub IsFound : List ℕ → List ℕ → Journaled → Type 0
@@ -69,17 +50,6 @@ told_by keeping bytes = if is_synced keeping then Some bytes else None
 
 abbrev pub Has : Keeping → List ℕ → Option (List ℕ) → Type 0
 Has keeping bytes told = told ≡ told_by keeping bytes
-
--- From old a journal with these bytes is opened, and new goes on with it. What the bytes have is recovered; the sessions that are held then
--- are undone in some steps; what the journal has behind that are the bytes that are kept, and what these steps append.
-pub record IsOpened (header bytes : List ℕ) (keeping : Keeping) (old new : HubState) (told : Option (List ℕ)) : Type 0 where
-  pub found : Journaled
-  pub mid : HubState
-  pub recovered : IsRecovered header bytes found old.held mid.held
-  pub resumed : IsResumed found mid.held new.held
-  pub steps : List Step
-  pub none : GivesNone steps
-  pub makes : Makes steps mid new (told_by keeping (kept_bytes header bytes found)) told
 
 -- whether a replay may end by this failure: what can't be read, isn't a journal of this schema, or lacks memory or turns
 abbrev pub ends_replay : JournalFailure → Bool

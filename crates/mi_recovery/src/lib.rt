@@ -31,7 +31,7 @@ pub use going_on::{log_of_newest, opened_behind};
 pub use journal_file::{JournalFile, JournalFiles};
 pub use journal_text::text_size;
 pub use names::{base_path, new_base_path, segment_number, segment_path};
-pub use opening::{FileLedger, JournalLedger, Journaled, log_error, opened, recovered, without};
+pub use opening::{JournalLedger, Journaled, log_error, without};
 pub use place::{JournalSchema, Place, Position, first_place, segment_header};
 pub use segments::next_place;
 pub use system_files::SystemFiles;

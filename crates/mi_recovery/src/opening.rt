@@ -1,37 +1,25 @@
-//! The journal at the start: what it has is asked again, a torn end of it is cut off, and it is opened to go on with, under a name that stays.
-ghost use Rattle.std.specs.Prelude.{◌≡◌, ◌⊎◌, ◌-◌, ◌++◌, ◌∷◌, List, [], ℕ, true, false, take, length, Some, Ok, OnOk, IfOk, IfErr, IfSome};
+//! A segment at a start: its header is read, a torn end of it is cut off, and it is gone on with, under a name that stays. It asks no line.
+ghost use Rattle.std.specs.Prelude.{◌≡◌, ◌-◌, ◌++◌, ◌∷◌, [], true, false, take, length, Some, Ok, OnOk, IfOk, IfErr, IfSome};
 ghost use Rattle.std.specs.Io.BufRead.{ends_with_byte};
 ghost use Rattle.std.specs.Io.KnownBytes.{Keeps, Appends};
 ghost use Rattle.mi_log.specs.LogLines.{reader_of};
-ghost use Rattle.mi_replay.specs.Replayed.{replayer};
 ghost use Rattle.mi_log.specs.DeviceLog.{device_of};
 ghost use Rattle.mi_recovery.specs.JournalFile.{text_of};
 ghost use Rattle.mi_ledger.specs.Ledger.{hub_of, log_of};
 ghost use Rattle.mi_recovery.specs.Device.{is_synced, is_staying, told_of};
-ghost use Rattle.mi_clients.specs.Row.{fresh};
-ghost use Rattle.mi_clients.specs.Steps.{Step, Makes, GivesNone};
-ghost use Rattle.mi_recovery.specs.Recovery.{HasHeader, IsBeginning, IsReplayed, IsRecovered, IsWith, IsResumed, IsFound, IsOpened, Has, kept_bytes, ends_replay};
+ghost use Rattle.mi_recovery.specs.Recovery.{HasHeader, IsBeginning, IsFound, Has, kept_bytes, ends_replay};
 
-use crate::claim::{check_name, claimed};
 use crate::device::{JournalDevice, Keeping};
 use crate::fault::{JournalFailure, JournalFault};
-use crate::file_reader::FileReader;
 use crate::journal_file::{JournalFile, JournalFiles};
-use crate::journal_text::text_size;
-use mi_clients::part;
 use mi_hub::Hub;
-use mi_ledger::{HeldReplies, Ledger, REPLAYER, replay};
-use mi_log::{Device, DeviceLog, Heading, Log, LogLines, RoomFile, judge_heading};
+use mi_ledger::Ledger;
+use mi_log::{Device, DeviceLog, Heading, Log, LogLines, judge_heading};
 use mi_sessions::Sessions;
-use std::alloc::Global;
-use std::fs::File;
-use std::io::{BufRead, BufReader, Error, Read};
+use std::io::{BufRead, Error};
 
 /// A ledger over a journal in a file, or over none.
 pub type JournalLedger<F, D> = Ledger<D, DeviceLog<JournalDevice<F>>>;
-
-/// The same over a file of the system.
-pub type FileLedger<D> = JournalLedger<RoomFile<File>, D>;
 
 /// Makes the name of a journal's file stay, where what is appended to it is made to stay.
 pub(crate) fn named<P: JournalFiles>(
@@ -107,81 +95,6 @@ pub(crate) fn read_heading<R: BufRead>(
         }
         Err(_error) => Err(JournalFailure::File),
     }
-}
-
-/// Asks a hub the lines of a journal behind its header again, as connection 1, and answers how many bytes of a torn line follow.
-fn replay_all<D: Sessions + Drop, R: BufRead>(
-    alloc: Global,
-    hub: &mut Hub<D>,
-    lines: &mut LogLines<R>,
-) -> Result<usize, JournalFailure>
-    requires { hub.old.attached ≡ [] }
-    ensures held { IfOk result (λ torn. IfSome (R.remaining (reader_of lines.old)) (λ bytes. IsReplayed bytes torn hub.old.held hub.new.held)) }
-    ensures attached { OnOk result (hub.new.attached ≡ fresh replayer ∷ []) }
-    ensures fails { IfErr result (λ failure. ends_replay failure ≡ true) }
-{
-    if hub.attach(REPLAYER).is_err() {
-        return Err(JournalFailure::Memory);
-    }
-    match replay(alloc, hub, lines) {
-        Ok(()) => Ok(lines.line().len()),
-        Err(fault) => Err(JournalFailure::of_replay(fault)),
-    }
-}
-
-/// Asks a hub the lines of a journal with this header again, as connection 1, which is attached where there is a journal.
-pub fn recovered<D: Sessions + Drop, R: BufRead + Drop>(
-    alloc: Global,
-    hub: &mut Hub<D>,
-    reader: R,
-    header: &[u8],
-) -> Result<Journaled, JournalFailure>
-    requires { hub.old.attached ≡ [] }
-    ensures journal { IfOk result (λ found. IfSome (R.remaining reader) (λ bytes. IsRecovered header.now bytes found hub.old.held hub.new.held)) }
-    ensures attached { IfOk result (λ found. IsWith found hub.new.attached) }
-    ensures fails { IfErr result (λ failure. ends_replay failure ≡ true) }
-{
-    let mut lines = LogLines::new(alloc, reader);
-    if !read_heading(&mut lines, header)? {
-        return Ok(Journaled::Nothing);
-    }
-    let torn = replay_all(alloc, hub, &mut lines)?;
-    Ok(Journaled::Journal(torn as u64))
-}
-
-/// What a reader has, by reads of up to 64 KiB.
-fn read_whole<R: Read + Drop, D: Sessions + Drop>(
-    alloc: Global,
-    hub: &mut Hub<D>,
-    reader: R,
-    header: &[u8],
-) -> Result<Journaled, JournalFailure>
-    requires { hub.old.attached ≡ [] }
-    ensures journal { IfOk result (λ found. IfSome (R.remaining reader) (λ bytes. IsRecovered header.now bytes found hub.old.held hub.new.held)) }
-    ensures attached { IfOk result (λ found. IsWith found hub.new.attached) }
-    ensures fails { IfErr result (λ failure. ends_replay failure ≡ true) }
-{
-    match BufReader::with_capacity(alloc, 65_536, reader) {
-        Ok(reader) => recovered(alloc, hub, reader, header),
-        Err(_error) => Err(JournalFailure::Memory),
-    }
-}
-
-/// What a file has, whose text has so many bytes: it is read from its start to the text's end.
-fn found<F: JournalFile, D: Sessions + Drop>(
-    alloc: Global,
-    hub: &mut Hub<D>,
-    file: &F,
-    text: u64,
-    header: &[u8],
-) -> Result<Journaled, JournalFailure>
-    requires fresh { hub.old.attached ≡ [] }
-    requires text { IfSome (F.contents file.now) (λ bytes. text ≡ length (text_of bytes)) }
-    ensures journal { IfOk result (λ found. IfSome (F.contents file.now) (λ bytes. IsRecovered header.now (text_of bytes) found hub.old.held hub.new.held)) }
-    ensures attached { IfOk result (λ found. IsWith found hub.new.attached) }
-    ensures fails { IfErr result (λ failure. ends_replay failure ≡ true) }
-{
-    read_whole(alloc, hub, FileReader::new(file).take(text), header)
 }
 
 /// What a log's device has said, where it has failed.
@@ -289,32 +202,6 @@ pub(crate) fn continued<F: JournalFile + Drop>(
     }
 }
 
-/// A hub goes on with its log: the sessions that the connection which replayed holds are undone, by lines that are appended, and all that
-/// is appended stays.
-fn resumed<D: Sessions + Drop, L: Log + Drop>(
-    alloc: Global,
-    hub: Hub<D>,
-    log: L,
-    found: Journaled,
-) -> Result<Ledger<D, L>, JournalFailure>
-    requires { IsWith found hub.attached }
-    ensures makes { IfOk result (λ ledger. (steps : List Step) × GivesNone steps
-        × Makes steps hub (hub_of ledger) (L.appended log) (L.appended (log_of ledger))) }
-    ensures held { IfOk result (λ ledger. IsResumed found hub.held (hub_of ledger).held) }
-    ensures stay { IfOk result (λ ledger. Keeps (L.appended (log_of ledger)) (L.synced (log_of ledger))) }
-    ensures attached { IfOk result (λ ledger. (hub_of ledger).attached ≡ []) }
-    ensures makes_stay { IfOk result (λ ledger. L.makes_stay (log_of ledger) ≡ L.makes_stay log) }
-    ensures fails { IfErr result (λ failure. (failure ≡ JournalFailure.Memory) ⊎ (failure ≡ JournalFailure.Write)) }
-{
-    let mut ledger = Ledger::new(hub, log);
-    match found {
-        Journaled::Nothing => {}
-        Journaled::Journal(_torn) => part(alloc, &mut ledger, REPLAYER)?,
-    }
-    ledger.release(HeldReplies::new(alloc))?;
-    Ok(ledger)
-}
-
 /// A hub with no journal.
 pub fn without<F: JournalFile + Drop, D: Sessions + Drop>(hub: Hub<D>) -> JournalLedger<F, D>
     ensures hub { hub_of result ≡ hub }
@@ -325,37 +212,4 @@ pub fn without<F: JournalFile + Drop, D: Sessions + Drop>(hub: Hub<D>) -> Journa
         hub,
         DeviceLog::new(JournalDevice::new(None, Keeping::Unsynced)),
     )
-}
-
-/// A hub that the lines of a path's journal were asked of again, and that goes on with it. The file is locked, and read up to its first zero
-/// byte. Behind that it is seen under its path. Then what stands behind its whole lines is cut off, or the header is appended where it has none.
-/// The sessions that were held at its end are undone, by lines that are appended, and what it has stays, its name too.
-///
-/// `Locked` where another process has the file. `File` where it can't be opened, read or cut, was moved meanwhile, or has a zero
-/// byte behind a header's beginning. `Schema` and `Line` where it is no journal of this header. `Write` where it can't be
-/// appended to or made to stay. The file is as it was then, but that it may lack what stands behind its whole lines or have the header's begin.
-pub fn opened<P: JournalFiles, D: Sessions + Drop>(
-    alloc: Global,
-    files: &P,
-    hub: Hub<D>,
-    path: &str,
-    keeping: Keeping,
-    header: &str,
-) -> Result<JournalLedger<P::File, D>, JournalFault>
-    requires { hub.attached ≡ [] }
-    ensures opened { IfOk result (λ ledger. (file : P.File) × (P.File.is_locked file ≡ true) × P.is_seen files.now path.now file
-        × IfSome (P.File.contents file) (λ bytes.
-        IsOpened header.now (text_of bytes) keeping hub (hub_of ledger) (told_of P.File.contents (device_of (log_of ledger))))) }
-    ensures attached { IfOk result (λ ledger. (hub_of ledger).attached ≡ []) }
-    ensures settled { IfOk result (λ ledger. Keeps (told_of P.File.contents (device_of (log_of ledger))) (told_of P.File.stays (device_of (log_of ledger)))) }
-    ensures stays { IfOk result (λ ledger. is_staying (device_of (log_of ledger)) ≡ is_synced keeping) }
-{
-    let mut hub = hub;
-    let file = claimed(files, path, true)?;
-    named(files, path, keeping)?;
-    let text = text_size(&file)?;
-    let found = found(alloc, &mut hub, &file, text, header.as_bytes())?;
-    check_name(files, path, &file)?;
-    let log = continued(file, text, keeping, found, header.as_bytes())?;
-    Ok(resumed(alloc, hub, log, found)?)
 }

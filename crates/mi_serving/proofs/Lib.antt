@@ -3,3 +3,4 @@ mod OverflowLemmas
 mod WordsLemmas
 mod ServedLemmas
 mod EventLemmas
+mod MovedLemmas

@@ -1,8 +1,9 @@
 -- The numbers and the journal that the words name.
--- Cited by `words::port`, `words::seconds` and `words::values`.
+-- Cited by `move_words::move_words`, `words::port`, `words::seconds` and `words::values`.
 use Rattle.std.proofs.Common.{◌≡◌, ◌≤◌, ℕ, List, false, Option, Some, None, refl, sym, subst, ◌∙◌}
 use Rattle.mi_serving.specs.declared.words.JournalWords.{JournalWords}
-use Rattle.mi_serving.specs.Words.{IsJournal}
+use Rattle.mi_serving.specs.declared.move_words.MoveWords.{MoveWords}
+use Rattle.mi_serving.specs.Words.{IsJournal, IsMove}
 use Rattle.mi_program.specs.Words.{IsNumber}
 use Rattle.std.specs.Prelude.{Result, is_some, option_and_then}
 use Rattle.std.specs.Str.Parse.{ParsesUnsigned, ExplainsUnsignedError, HasUnsignedDigitsIfOk}
@@ -19,6 +20,12 @@ pub named_by : (file file2 sync sync2 : Option (List ℕ)) (journal : Option Jou
     → IsJournal file2 sync2 journal
 named_by file file2 sync sync2 journal a b p =
     subst (λ f. IsJournal f sync2 journal) a (subst (λ w. IsJournal file w journal) b p)
+
+-- where a journal is put by the same words
+pub moved_by : (file file2 schema schema2 : Option (List ℕ)) (words : Option MoveWords) → file ≡ file2 → schema ≡ schema2 → IsMove file schema words
+    → IsMove file2 schema2 words
+moved_by file file2 schema schema2 words a b p =
+    subst (λ f. IsMove f schema2 words) a (subst (λ s. IsMove file s words) b p)
 
 -- a number that was read stands in the words
 pub number_read : (bits low high : ℕ) (value word : Option (List ℕ)) (count : ℕ) → value ≡ word → low ≤ count → count ≤ high

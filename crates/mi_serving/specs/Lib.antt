@@ -7,3 +7,4 @@ pub mod Words
 pub mod Status
 pub mod SchemaSource
 pub mod Served
+pub mod Moved

@@ -22,6 +22,10 @@ use Rattle.mi_serving.specs.declared.failure.Failure.TheVariants.{
   JournalBase,
   JournalSessions,
   JournalLocked,
+  MovedType,
+  MovedUnique,
+  MovedFull,
+  MovedTable,
   Journal,
   Output,
   Listen,
@@ -78,5 +82,9 @@ ends_serving (JournalSegmentLine segment line) = false
 ends_serving JournalBase = false
 ends_serving JournalSessions = false
 ends_serving JournalLocked = false
+ends_serving MovedType = false
+ends_serving (MovedUnique first second) = false
+ends_serving MovedFull = false
+ends_serving MovedTable = false
 ends_serving Output = false
 ends_serving Listen = false

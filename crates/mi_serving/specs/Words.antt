@@ -1,11 +1,14 @@
 -- What the words of the command line ask for.
-use Rattle.std.specs.Prelude.{◌≡◌, ◌||◌, ℕ, List, Bool, true, false, if◌then◌else◌, Option, Some, None, is_some, option_map, codes, bytes_eq, pos}
+use Rattle.std.specs.Prelude.{◌≡◌, ◌||◌, ◌&&◌, not, ℕ, List, Bool, true, false, if◌then◌else◌, Option, Some, None, is_some, option_map, codes, bytes_eq, pos}
 use Rattle.std.specs.String.{string_bytes}
 use Rattle.clap.specs.Words.{App, Row, with_rule, new_app, first_of, one_of}
 use Rattle.clap.specs.declared.builder.value_parser.ValueParser.{ValueParser}
 use Rattle.clap.specs.declared.builder.value_parser.ValueParser.TheVariants as vp
 use Rattle.mi_clients.specs.declared.silence.Limits.{Limits}
-use Rattle.mi_program.specs.Words.{option_rule, number_rule, IsNumber}
+use Rattle.mi_recovery.specs.declared.device.Keeping.{Keeping}
+use Rattle.mi_recovery.specs.declared.device.Keeping.TheVariants.{Synced, Unsynced}
+use Rattle.mi_program.specs.Words.{option_rule, flag_rule, number_rule, is_set, IsNumber}
+use Rattle.mi_serving.specs.declared.move_words.MoveWords.{MoveWords}
 use Rattle.mi_serving.specs.declared.words.Options.{Options}
 use Rattle.mi_serving.specs.declared.words.Places.{Places}
 use Rattle.mi_serving.specs.declared.words.JournalWords.{JournalWords}
@@ -13,11 +16,11 @@ use Rattle.mi_serving.specs.declared.words.SyncMode.{SyncMode}
 use Rattle.mi_serving.specs.declared.words.TheConstants.{MOST_SECONDS}
 use Rattle.mi_serving.specs.declared.words.SyncMode.TheVariants.{Always, Turn, Never}
 
--- whether a journal is to be made to stay
-abbrev pub asks_sync : SyncMode → Bool
-asks_sync Always = true
-asks_sync Turn = true
-asks_sync Never = false
+-- what is done of a sync of a journal
+abbrev pub keeping_by : SyncMode → Keeping
+keeping_by Always = Synced
+keeping_by Turn = Synced
+keeping_by Never = Unsynced
 
 -- whether each line is to be synced by itself
 abbrev pub syncs_each : SyncMode → Bool
@@ -46,10 +49,15 @@ with_limits app = with_rule (with_rule app (number_rule (codes "hold-seconds") s
 abbrev pub with_places : App → App
 with_places app = with_rule (with_rule app (number_rule (codes "listen") port_parser)) (option_rule (codes "unix"))
 
+-- options, and those that put a journal under another schema
+abbrev pub with_moving : App → App
+with_moving app = with_rule (with_rule app (option_rule (codes "rebase-to"))) (option_rule (codes "new-schema"))
+
 -- the options that the service knows
 abbrev pub service_options : App
-service_options = with_limits (with_rule (with_rule (with_places (with_rule (new_app (codes "mi_service")) (option_rule (codes "schema"))))
-    (option_rule (codes "journal"))) (option_rule (codes "sync")))
+service_options =
+    with_limits (with_moving (with_rule (with_rule (with_rule (with_places (with_rule (new_app (codes "mi_service")) (option_rule (codes "schema"))))
+    (option_rule (codes "journal"))) (option_rule (codes "sync"))) (flag_rule (codes "rebase"))))
 
 -- when lines are made to stay by this word: with no word once a turn
 abbrev pub sync_of : List ℕ → Option SyncMode
@@ -67,15 +75,30 @@ IsJournal None (Some word) journal = ⊥
 IsJournal (Some file) word None = ⊥
 IsJournal (Some file) word (Some journal) = (string_bytes journal.file ≡ file) × (sync_by word ≡ Some journal.sync)
 
+-- where these words of `--rebase-to` and `--new-schema` put a journal, or none
+abbrev pub IsMove : Option (List ℕ) → Option (List ℕ) → Option MoveWords → Type 0
+IsMove None None words = words ≡ None
+IsMove None (Some schema) words = ⊥
+IsMove (Some file) None words = ⊥
+IsMove (Some file) (Some schema) None = ⊥
+IsMove (Some file) (Some schema) (Some words) = (string_bytes words.file ≡ file) × (string_bytes words.schema ≡ schema)
+
 -- the port that a word says, or none without a word
 abbrev pub IsPort : Option (List ℕ) → Option ℕ → Type 0
 IsPort word port = IsNumber 0 65535 word port
 
--- `--listen` is the port, `--unix` the path, and one of them is there at least
+-- `--listen` is the port, `--unix` the path
 pub record ArePlaces (rows : List Row) (places : Places) : Type 0 where
   pub port : IsPort (one_of (codes "listen") rows) places.port
   pub unix : option_map string_bytes places.unix ≡ first_of (codes "unix") rows
-  pub some : (is_some places.port || is_some places.unix) ≡ true
+
+-- whether there is a port or a path
+abbrev pub listens : Places → Bool
+listens places = is_some places.port || is_some places.unix
+
+-- a rebase, and one to a new journal, has a journal and listens nowhere; a service listens somewhere; only one of them is asked for
+abbrev pub is_task : Bool → Bool → Bool → Bool → Bool
+is_task rebase moves listens journal = if rebase || moves then not (rebase && moves) && not listens && journal else listens
 
 -- the seconds that a word says, or none without a word
 abbrev pub IsSeconds : Option (List ℕ) → Option ℕ → Type 0
@@ -92,3 +115,6 @@ pub record AreValues (options : Options) (rows : List Row) : Type 0 where
   pub places : ArePlaces rows options.places
   pub journal : IsJournal (first_of (codes "journal") rows) (first_of (codes "sync") rows) options.journal
   pub limits : AreLimits rows options.limits
+  pub rebase : options.rebase ≡ is_set (one_of (codes "rebase") rows)
+  pub moving : IsMove (first_of (codes "rebase-to") rows) (first_of (codes "new-schema") rows) options.moving
+  pub task : is_task options.rebase (is_some options.moving) (listens options.places) (is_some options.journal) ≡ true

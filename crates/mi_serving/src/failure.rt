@@ -1,12 +1,16 @@
 //! Why the service ends: the line on standard error and the exit status.
-ghost use Rattle.std.specs.Prelude.{◌≡◌, ◌⊎◌, true, false};
+ghost use Rattle.std.specs.Prelude.{◌≡◌, ◌⊎◌, Some, true, false, option_map};
+ghost use Rattle.std.specs.String.{string_bytes};
+ghost use Rattle.mi_serving.specs.Moved.{failure_of_table};
 ghost use Rattle.mi_serving.specs.Status.{status_of, failure_of};
 ghost use Rattle.mi_ledger.specs.declared.fault.LedgerFault.TheVariants as ledger_fault;
 ghost use Rattle.mi_serving.specs.declared.failure.Failure.TheVariants as told;
 
+use mi_container::RestoreFault;
 use mi_ledger::LedgerFault;
 use mi_recovery::{JournalFailure, JournalFault};
 use mi_schema::SchemaFault;
+use std::alloc::Global;
 use std::{fmt, io};
 
 /// Why the service ends. The text is how its line on standard error begins.
@@ -32,6 +36,14 @@ pub enum Failure {
     JournalSessions,
     /// Another process has the journal.
     JournalLocked,
+    /// A column has another type in the old schema.
+    MovedType,
+    /// In a unique index of the new schema the rows of these two ids have one key.
+    MovedUnique(u64, u64),
+    /// A table has more rows than its new schema allows.
+    MovedFull,
+    /// A table breaks another rule of its new schema.
+    MovedTable,
     /// The journal can't be appended to, or can't be made to stay.
     Journal,
     /// Standard output can't be written to.
@@ -78,6 +90,22 @@ impl Failure {
         }
     }
 
+    /// What is said of a table that breaks a rule of its new schema.
+    pub(crate) fn of_table(fault: RestoreFault) -> Failure
+        ensures { result ≡ failure_of_table fault }
+    {
+        match fault {
+            RestoreFault::Full => Failure::MovedFull,
+            RestoreFault::Unique { first, second, .. } => Failure::MovedUnique(first, second),
+            RestoreFault::Memory => Failure::Memory,
+            RestoreFault::Counters
+            | RestoreFault::Lists
+            | RestoreFault::Id(_)
+            | RestoreFault::Row(_)
+            | RestoreFault::List(_) => Failure::MovedTable,
+        }
+    }
+
     /// The exit status: 3 where the schema or the journal is at fault, else 4.
     pub fn status(&self) -> u8
         ensures { result ≡ status_of self.now }
@@ -92,7 +120,11 @@ impl Failure {
             | Failure::JournalSegmentLine(_, _)
             | Failure::JournalBase
             | Failure::JournalSessions
-            | Failure::JournalLocked => 3,
+            | Failure::JournalLocked
+            | Failure::MovedType
+            | Failure::MovedUnique(_, _)
+            | Failure::MovedFull
+            | Failure::MovedTable => 3,
             Failure::Journal
             | Failure::Output
             | Failure::Listen
@@ -122,6 +154,13 @@ impl fmt::Display for Failure {
             Failure::JournalBase => f.write_str("journal: base"),
             Failure::JournalSessions => f.write_str("journal: sessions"),
             Failure::JournalLocked => f.write_str("journal: locked"),
+            Failure::MovedType => f.write_str("moved: another type"),
+            Failure::MovedUnique(first, second) => write!(
+                f,
+                "moved: rows {first} and {second} have one key"
+            ),
+            Failure::MovedFull => f.write_str("moved: too many rows"),
+            Failure::MovedTable => f.write_str("moved: refused"),
             Failure::Journal => f.write_str("fault: journal"),
             Failure::Output => f.write_str("fault: write"),
             Failure::Listen => f.write_str("fault: listen"),
@@ -150,6 +189,8 @@ pub struct Fault {
     pub error: Option<io::Error>,
     /// Whether it is the path that can't be listened on.
     pub is_of_path: bool,
+    /// What it is about, where the failure doesn't tell: a file, or a part of a schema.
+    pub place: Option<String>,
 }
 
 impl Fault {
@@ -162,6 +203,22 @@ impl Fault {
             failure,
             error: Some(error),
             is_of_path: false,
+            place: None,
+        }
+    }
+
+    /// The same, told to be about this. It is `Memory` where no memory is there for the text.
+    pub(crate) fn about(self, alloc: Global, place: &str) -> Fault
+        ensures { (result.failure ≡ Failure.Memory) ⊎ ((result.failure ≡ self.failure) × (option_map string_bytes result.place ≡ Some place.now)) }
+    {
+        match String::from_str(alloc, place) {
+            Ok(place) => Fault {
+                failure: self.failure,
+                error: self.error,
+                is_of_path: self.is_of_path,
+                place: Some(place),
+            },
+            Err(_refused) => Fault::from(Failure::Memory),
         }
     }
 
@@ -174,6 +231,7 @@ impl Fault {
             failure: Failure::Listen,
             error: Some(error),
             is_of_path: true,
+            place: None,
         }
     }
 }
@@ -186,6 +244,7 @@ impl From<Failure> for Fault {
             failure,
             error: None,
             is_of_path: false,
+            place: None,
         }
     }
 }
@@ -198,6 +257,7 @@ impl From<JournalFault> for Fault {
             failure: Failure::of_journal(fault.failure),
             error: fault.error,
             is_of_path: false,
+            place: None,
         }
     }
 }

@@ -5,18 +5,22 @@
 mod door;
 mod failure;
 mod link;
+mod move_words;
+mod moving;
 mod overflow;
 mod patience;
 mod program;
 mod report;
 mod service;
 mod source;
+mod start;
 mod words;
 
 pub use door::{Callers, Door};
 pub use failure::{Failure, Fault};
 pub use link::Link;
 pub use mi_program::WordsFault;
+pub use move_words::MoveWords;
 pub use overflow::Overflow;
 pub use patience::Patience;
 pub use program::run;

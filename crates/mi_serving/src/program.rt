@@ -1,36 +1,36 @@
-//! What the program does, in its order: the words are judged, the schema is read, the port and the path are listened on, the journal is asked again,
-//! and then connections are served.
-ghost use Rattle.std.specs.Prelude.{◌≡◌, [], Ok, true, false, is_some, option_map, IfOk, MatchOption};
-ghost use Rattle.std.specs.String.{string_bytes};
+//! What the program does, in its order: the words are judged, the schema is read, the port and the path are listened on, the base is read, the journal
+//! is asked again, and then connections are served. Or a journal is rebased, or put under another schema.
+ghost use Rattle.std.specs.Prelude.{◌≡◌, [], None, Ok, true, false, is_some, option_map, IfOk, IfSome, OnOk, MatchOption};
 ghost use Rattle.std.specs.Io.KnownBytes.{Keeps};
 ghost use Rattle.mi_log.specs.DeviceLog.{device_of};
 ghost use Rattle.mi_ledger.specs.Ledger.{hub_of, log_of};
 ghost use Rattle.mi_recovery.specs.Device.{is_staying, is_synced, told_of};
-ghost use Rattle.mi_serving.specs.Words.{asks_sync, asks_each};
-ghost use Rattle.mi_recovery.specs.Fingerprint.{journal_header};
-ghost use Rattle.mi_serving.specs.Served.{empty_hub, Begins, HasServed};
+ghost use Rattle.mi_serving.specs.Words as spec;
+ghost use Rattle.mi_serving.specs.Words.{asks_each};
+ghost use Rattle.mi_serving.specs.Moved.{HasMoved};
+ghost use Rattle.mi_serving.specs.Served.{Begins, Serves, HasServed, HasRebased};
+ghost use Rattle.std.specs.String.{string_bytes};
 ghost use Rattle.mi_catalog.specs.Shape.{CatalogShape};
 ghost use Rattle.mi_program.specs.Source.{IsCatalog};
 
 use crate::door::Door;
 use crate::failure::{Failure, Fault};
+use crate::moving::move_journal;
 use crate::patience::Patience;
 use crate::report::{conclude, refuse};
 use crate::service::serve;
 use crate::source::{Source, catalog};
+use crate::start::{journal_schema, standing};
 use crate::words::{JournalWords, Options, SyncMode, read_words};
-use mi_catalog::Catalog;
 use mi_clients::SchemaLine;
-use mi_database::Linked;
 use mi_hub::Hub;
-use mi_log::header_line;
-use mi_multi::MultiIndex;
-use mi_program::drawn;
+use mi_rebase::rebased;
 use mi_recovery::{
-    JournalFiles, JournalLedger, Keeping, SystemFiles, fingerprint, log_error, opened, without,
+    JournalFiles, JournalLedger, JournalSchema, Keeping, Position, SystemFiles, log_error,
+    opened_behind, without,
 };
 use mi_sessions::Sessions;
-use std::alloc::{AllocError, Global};
+use std::alloc::Global;
 use std::convert::AsStr;
 use std::fs::File;
 use std::io;
@@ -40,20 +40,9 @@ use std::random::RandomSource;
 use std::rt::Files;
 use std::time::Clock;
 
-/// The database that is served.
-type Tables = Linked<MultiIndex>;
-
-/// The header of a catalog's journal.
-fn header_of(alloc: Global, catalog: &Catalog) -> Result<String, AllocError>
-    ensures { IfOk result (λ header. string_bytes header ≡ journal_header catalog.now) }
-{
-    let hash = fingerprint(alloc, catalog)?;
-    header_line(alloc, catalog.first_revision(), hash.as_str())
-}
-
 /// What is done of a sync that is asked for.
 fn keeping_by(sync: SyncMode) -> Keeping
-    ensures { is_synced result ≡ asks_sync sync }
+    ensures { result ≡ spec.keeping_by sync }
 {
     match sync {
         SyncMode::Always | SyncMode::Turn => Keeping::Synced,
@@ -61,30 +50,33 @@ fn keeping_by(sync: SyncMode) -> Keeping
     }
 }
 
-/// A hub that goes on with the journal that the words name, where they name one.
+/// A hub that goes on with the journal that the words name, where they name one. It stands behind that position, or at the journal's start.
 fn ledger_of<P: JournalFiles, D: Sessions + Drop>(
     alloc: Global,
     files: &P,
     hub: Hub<D>,
-    header: &str,
+    schema: &JournalSchema,
+    position: Option<&Position>,
     journal: Option<&JournalWords>,
 ) -> Result<JournalLedger<P::File, D>, Fault>
     requires { hub.attached ≡ [] }
-    ensures begins { IfOk result (λ ledger. Begins P.File.is_locked (P.is_seen files.now) P.File.contents header.now hub
-        (option_map (λ words. words.now) journal.entry) (hub_of ledger) (told_of P.File.contents (device_of (log_of ledger)))) }
+    ensures begins { IfOk result (λ ledger. Begins (λ file. P.File.is_locked file ≡ true) (P.is_seen files.now) (P.is_newest files.now) P.File.contents
+        schema.now (option_map (λ p. p.now) position.entry) hub (option_map (λ words. words.now) journal.entry) (hub_of ledger)
+        (told_of P.File.contents (device_of (log_of ledger)))) }
     ensures attached { IfOk result (λ ledger. (hub_of ledger).attached ≡ []) }
     ensures settled { IfOk result (λ ledger. Keeps (told_of P.File.contents (device_of (log_of ledger))) (told_of P.File.stays (device_of (log_of ledger)))) }
     ensures stays { IfOk result (λ ledger. MatchOption journal.entry (is_staying (device_of (log_of ledger)) ≡ false)
-        (λ words. is_staying (device_of (log_of ledger)) ≡ asks_sync words.now.sync)) }
+        (λ words. is_staying (device_of (log_of ledger)) ≡ is_synced (spec.keeping_by words.now.sync))) }
 {
     match journal {
-        Some(words) => Ok(opened(
+        Some(words) => Ok(opened_behind(
             alloc,
             files,
             hub,
             words.file.as_str(),
             keeping_by(words.sync),
-            header,
+            schema,
+            position,
         )?),
         None => Ok(without(hub)),
     }
@@ -129,20 +121,21 @@ fn serve_hub<P: JournalFiles, D: Sessions + Drop, C: Clock, W: Write>(
     alloc: Global,
     files: &P,
     hub: Hub<D>,
-    header: &str,
+    schema: &JournalSchema,
+    position: Option<&Position>,
     journal: Option<&JournalWords>,
     door: &mut Door,
     path: Option<&str>,
     patience: &mut Patience<'_, C>,
-    schema: &SchemaLine,
+    line: &SchemaLine,
     output: &mut W,
 ) -> Result<Fault, Fault>
     requires { hub.attached ≡ [] }
-    ensures { IfOk result (λ ended. HasServed P.File.is_locked (P.is_seen files.now) P.File.contents header.now hub
-        (option_map (λ words. words.now) journal.entry) ended.failure) }
+    ensures { IfOk result (λ ended. Serves (λ file. P.File.is_locked file ≡ true) (P.is_seen files.now) (P.is_newest files.now) P.File.contents
+        schema.now (option_map (λ p. p.now) position.entry) hub (option_map (λ words. words.now) journal.entry) ended.failure) }
 {
     let port = door.port()?;
-    let mut ledger = ledger_of(alloc, files, hub, header, journal)?;
+    let mut ledger = ledger_of(alloc, files, hub, schema, position, journal)?;
     announce(output, port, path)?;
     let failure = serve(
         alloc,
@@ -150,29 +143,17 @@ fn serve_hub<P: JournalFiles, D: Sessions + Drop, C: Clock, W: Write>(
         door,
         patience,
         syncs_each(journal),
-        schema,
+        line,
     );
     Ok(Fault {
         failure,
         error: log_error(ledger.log()),
         is_of_path: false,
+        place: None,
     })
 }
 
-/// The tables of a catalog, none of which has a row, under a hub with no connection. The failure is `Memory`.
-fn open_tables<R: AllocGlobal + RandomSource>(
-    rt: &R,
-    catalog: Catalog,
-) -> Result<Hub<Tables>, Failure>
-    ensures { IfOk result (λ hub. hub ≡ empty_hub catalog) }
-{
-    match Linked::new(rt.alloc(), catalog, drawn(rt)) {
-        Ok(tables) => Ok(Hub::new(rt.alloc(), tables)),
-        Err(_refused) => Err(Failure::Memory),
-    }
-}
-
-/// Does what the options say, until something fails, which is the answer. An error comes before the first connection.
+/// Serves as the options say, until something fails, which is the answer. An error comes before the first connection.
 fn perform<R: Files + Net + AllocGlobal + RandomSource + Clock, P: JournalFiles, W: Write>(
     rt: &R,
     files: &P,
@@ -180,22 +161,23 @@ fn perform<R: Files + Net + AllocGlobal + RandomSource + Clock, P: JournalFiles,
     output: &mut W,
 ) -> Result<Fault, Fault>
     ensures { IfOk result (λ ended. (catalog : CatalogShape) × IsCatalog R.File.remaining (is_some options.now.schema) (Ok catalog)
-        × HasServed P.File.is_locked (P.is_seen files.now) P.File.contents (journal_header catalog) (empty_hub catalog) options.now.journal
+        × HasServed (λ file. P.File.is_locked file ≡ true) (P.is_seen files.now) (P.is_newest files.now) P.File.contents catalog options.now.journal
         ended.failure) }
 {
     let Source { catalog, line } = catalog(rt, options.schema.as_deref())?;
     let mut door = Door::open(rt, &options.places)?;
-    let Ok(header) = header_of(rt.alloc(), &catalog) else {
+    let Ok(schema) = journal_schema(rt.alloc(), &catalog) else {
         return Err(Fault::from(Failure::Memory));
     };
-    let hub = open_tables(rt, catalog)?;
     let journal = options.journal.as_ref();
+    let (hub, position) = standing(rt, files, journal, catalog, &schema)?;
     let mut patience = Patience::new(rt, options.limits);
     serve_hub(
         rt.alloc(),
         files,
         hub,
-        header.as_str(),
+        &schema,
+        position.as_ref(),
         journal,
         &mut door,
         options.places.unix.as_deref(),
@@ -205,15 +187,63 @@ fn perform<R: Files + Net + AllocGlobal + RandomSource + Clock, P: JournalFiles,
     )
 }
 
+/// Rebases a journal of the schema that the options name.
+fn rebase<R: Files + AllocGlobal + RandomSource, P: JournalFiles>(
+    rt: &R,
+    files: &P,
+    options: &Options,
+    journal: &JournalWords,
+) -> Result<(), Fault>
+    ensures { OnOk result ((catalog : CatalogShape) × IsCatalog R.File.remaining (is_some options.now.schema) (Ok catalog)
+        × HasRebased (λ file. P.File.is_locked file ≡ true) (P.is_seen files.now) (P.is_newest files.now) P.File.contents P.File.stays catalog journal.now) }
+{
+    let Source { catalog, .. } = catalog(rt, options.schema.as_deref())?;
+    let Ok(schema) = journal_schema(rt.alloc(), &catalog) else {
+        return Err(Fault::from(Failure::Memory));
+    };
+    let (hub, position) = standing(rt, files, Some(journal), catalog, &schema)?;
+    let path = journal.file.as_str();
+    Ok(rebased(rt.alloc(), files, hub, path, &schema, position.as_ref())?)
+}
+
+/// Does what the options say. The answer is why it ended, or none where a journal was rebased or put under another schema.
+fn done<R: Files + Net + AllocGlobal + RandomSource + Clock, P: JournalFiles, W: Write>(
+    rt: &R,
+    files: &P,
+    options: &Options,
+    output: &mut W,
+) -> Option<Fault>
+    ensures rebased { result ≡ None → options.now.moving ≡ None → (options.now.rebase ≡ true) × IfSome options.now.journal (λ words.
+        (catalog : CatalogShape) × IsCatalog R.File.remaining (is_some options.now.schema) (Ok catalog)
+        × HasRebased (λ file. P.File.is_locked file ≡ true) (P.is_seen files.now) (P.is_newest files.now) P.File.contents P.File.stays catalog words) }
+    ensures moved { result ≡ None → IfSome options.now.moving (λ move. IfSome options.now.journal (λ words.
+        (from : CatalogShape) × IsCatalog R.File.remaining (is_some options.now.schema) (Ok from)
+        × (to : CatalogShape) × IsCatalog R.File.remaining true (Ok to)
+        × HasMoved (λ file. P.File.is_locked file ≡ true) (P.is_seen files.now) (P.is_newest files.now) P.File.contents P.File.stays from to words
+        (string_bytes move.file))) }
+{
+    match (&options.journal, options.rebase, &options.moving) {
+        (Some(journal), _, Some(words)) => move_journal(
+            rt, files, options, journal, words, output,
+        ).err(),
+        (Some(journal), true, None) => rebase(rt, files, options, journal).err(),
+        _ => {
+            let (Ok(fault) | Err(fault)) = perform(rt, files, options, output);
+            Some(fault)
+        }
+    }
+}
+
 /// Does what the service does with these words, the first of which is its name, and answers its exit status:
 ///
 /// | Status | When | On `errors` |
 /// |---|---|---|
+/// | 0 | the journal was rebased, or put under another schema | nothing |
 /// | 2 | the words are refused, or ask for help | the parser's text, or the rule that they break |
-/// | 3 | the schema or the journal can't be read or is refused | `schema: ` or `journal: ` and a word |
+/// | 3 | the schema or the journal can't be read or is refused | `schema: `, `journal: ` or `moved: ` and a word |
 /// | 4 | the journal, the listener or memory failed | `fault: ` and a word |
 ///
-/// Behind the word stand the file, the port or the path, and what the system said, where it said something.
+/// Behind the word stand the file, the port, the path or the part of the schema, and what the system said, where it said something.
 pub fn run<
     R: Files<File = File> + Net + AllocGlobal + RandomSource + Clock,
     S: AsStr,
@@ -222,15 +252,10 @@ pub fn run<
 >(rt: &R, words: &[S], output: W, errors: E) -> u8 {
     let (mut output, mut errors) = (output, errors);
     match read_words(rt.alloc(), words) {
-        Ok(options) => {
-            let (Ok(fault) | Err(fault)) = perform(
-                rt,
-                &SystemFiles::new(rt),
-                &options,
-                &mut output,
-            );
-            conclude(rt.alloc(), &fault, &options, &mut errors)
-        }
+        Ok(options) => match done(rt, &SystemFiles::new(rt), &options, &mut output) {
+            Some(fault) => conclude(rt.alloc(), &fault, &options, &mut errors),
+            None => 0,
+        },
         Err(fault) => refuse(&fault, &mut errors),
     }
 }

@@ -10,7 +10,7 @@ use std::alloc::Global;
 use std::io::Write;
 use std::{fmt, io};
 
-/// What a failure is about: a file, as that of a socket, or a port of 127.0.0.1.
+/// What a failure is about: a file, as that of a socket, or a port of 127.0.0.1. Or a part of a schema by its name.
 #[derive(Clone, Copy, Drop)]
 enum Place<'a> {
     File(&'a str),
@@ -37,8 +37,16 @@ fn listened_place<'a>(is_of_path: bool, places: &'a Places) -> Option<Place<'a>>
     }
 }
 
+/// What a failure is about: what the fault tells, or else what the words name.
+fn place_of<'a>(fault: &'a Fault, options: &'a Options) -> Option<Place<'a>> {
+    match fault.place.as_deref() {
+        Some(place) => Some(Place::File(place)),
+        None => named_place(fault, options),
+    }
+}
+
 /// What a failure is about, where the words name it.
-fn place_of<'a>(fault: &Fault, options: &'a Options) -> Option<Place<'a>> {
+fn named_place<'a>(fault: &Fault, options: &'a Options) -> Option<Place<'a>> {
     match &fault.failure {
         Failure::SchemaFile | Failure::Schema(_) => {
             let path = options.schema.as_deref()?;
@@ -57,7 +65,14 @@ fn place_of<'a>(fault: &Fault, options: &'a Options) -> Option<Place<'a>> {
             Some(Place::File(journal.file.as_str()))
         }
         Failure::Listen => listened_place(fault.is_of_path, &options.places),
-        Failure::Output | Failure::Poll | Failure::Memory | Failure::Turns => None,
+        Failure::MovedType
+        | Failure::MovedUnique(_, _)
+        | Failure::MovedFull
+        | Failure::MovedTable
+        | Failure::Output
+        | Failure::Poll
+        | Failure::Memory
+        | Failure::Turns => None,
     }
 }
 
@@ -115,7 +130,7 @@ pub(crate) fn refuse<E: Write>(fault: &WordsFault, errors: &mut E) -> u8
         WordsFault::Rules => {
             let _ = writeln!(
                 errors,
-                "usage: --listen or --unix is needed; --sync goes with --journal and is always, turn or never"
+                "usage: --listen or --unix; or --rebase, or --rebase-to with --new-schema; rebases and --sync need --journal; --sync is always, turn or never"
             );
             2
         }

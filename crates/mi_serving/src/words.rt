@@ -1,12 +1,13 @@
 //! The words that the service is called with: which options it has, and what the words say by them.
-ghost use Rattle.std.specs.Prelude.{◌≡◌, false, true, map, option_map, codes, IfOk};
+ghost use Rattle.std.specs.Prelude.{◌≡◌, false, true, map, option_map, is_some, codes, IfOk, OnOk};
 ghost use Rattle.std.specs.String.{string_bytes};
 ghost use Rattle.clap.specs.Words.{App, app_of, rule_of, rows_of, found_of, matches_of, one_of, is_simple_and_free};
 ghost use Rattle.clap.specs.Built.{IsPlainArg};
-ghost use Rattle.mi_program.specs.Words.{option_rule, number_rule, HasOptions};
+ghost use Rattle.mi_program.specs.Words.{option_rule, flag_rule, number_rule, is_set, HasOptions};
 ghost use Rattle.mi_serving.specs.Words as spec;
-ghost use Rattle.mi_serving.specs.Words.{service_options, with_limits, with_places, sync_by, IsJournal, IsPort, IsSeconds, AreLimits, ArePlaces, AreValues};
+ghost use Rattle.mi_serving.specs.Words.{service_options, with_limits, with_places, sync_by, listens, is_task, IsJournal, IsPort, IsSeconds, AreLimits, ArePlaces, AreValues};
 
+use crate::move_words::{MoveWords, movable, move_words};
 use clap::builder::ValueParser;
 use clap::error::ErrorKind;
 use clap::{Arg, ArgAction, ArgMatches, Command};
@@ -38,7 +39,7 @@ pub struct JournalWords {
     pub sync: SyncMode,
 }
 
-/// Where the service listens: on a port, at a path, or both.
+/// Where the service listens: on a port, at a path, or both; a rebase listens nowhere.
 #[derive(Drop)]
 pub struct Places {
     /// The port of 127.0.0.1, where one is asked for; 0 for any that is free.
@@ -58,10 +59,23 @@ pub struct Options {
     pub journal: Option<JournalWords>,
     /// How long connections may be silent.
     pub limits: Limits,
+    /// Whether the journal is rebased, in place of serving.
+    pub rebase: bool,
+    /// Where the journal is put under another schema, in place of serving.
+    pub moving: Option<MoveWords>,
+}
+
+impl Places {
+    /// Whether there is a port or a path.
+    fn some(&self) -> bool
+        ensures { result ≡ listens self.now }
+    {
+        self.port.is_some() || self.unix.is_some()
+    }
 }
 
 /// An option `--name VALUE`, whose help calls the value by `value`.
-fn option<'a>(alloc: Global, name: &'a str, value: &'a str, help: &'a str) -> Arg<'a>
+pub(crate) fn option<'a>(alloc: Global, name: &'a str, value: &'a str, help: &'a str) -> Arg<'a>
     ensures rule { rule_of result ≡ option_rule name.entry.now }
     ensures local { result.global ≡ false }
     ensures plain { IsPlainArg result }
@@ -86,6 +100,18 @@ fn number<'a>(
     ensures plain { IsPlainArg result }
 {
     option(alloc, name, value, help).value_parser(parser)
+}
+
+/// An option `--name` that is there or not.
+fn flag<'a>(alloc: Global, name: &'a str, help: &'a str) -> Arg<'a>
+    ensures rule { rule_of result ≡ flag_rule name.entry.now }
+    ensures local { result.global ≡ false }
+    ensures plain { IsPlainArg result }
+{
+    Arg::new(alloc, name)
+        .long(name)
+        .action(ArgAction::SetTrue)
+        .help(help)
 }
 
 /// Ports are 0 to 65535.
@@ -166,7 +192,13 @@ fn command<'a>(alloc: Global) -> Result<Command<'a>, AllocError>
         "WHEN",
         "Makes the journal stay before replies go out: always (line by line), turn (the default), never",
     ))?;
-    let with_limits = limited(alloc, with_sync)?;
+    let with_rebase = with_sync.arg(flag(
+        alloc,
+        "rebase",
+        "Writes the tables of the journal to its base, FILE.base, begins a new segment, and ends; nobody may serve it meanwhile",
+    ))?;
+    let with_moving = movable(alloc, with_rebase)?;
+    let with_limits = limited(alloc, with_moving)?;
     Ok(with_limits)
 }
 
@@ -198,7 +230,7 @@ fn parse<'a, S: AsStr>(alloc: Global, words: &'a [S]) -> Result<ArgMatches<'a>, 
 }
 
 /// A copy of a text.
-fn owned(alloc: Global, text: Option<&str>) -> Result<Option<String>, AllocError>
+pub(crate) fn owned(alloc: Global, text: Option<&str>) -> Result<Option<String>, AllocError>
     ensures { IfOk result (λ copy. option_map string_bytes copy ≡ option_map (λ t. t.now) text.entry) }
 {
     match text {
@@ -259,15 +291,12 @@ fn port(matches: &ArgMatches<'_>) -> Result<Option<u16>, WordsFault>
     }
 }
 
-/// Where the service listens, by the options that were matched. The fault is `Memory`, or `Rules` where it listens nowhere.
+/// Where the service listens, by the options that were matched. The fault is `Memory` or `Rules`.
 fn places_of(alloc: Global, matches: &ArgMatches<'_>) -> Result<Places, WordsFault>
     ensures { IfOk result (ArePlaces (rows_of (found_of matches.now))) }
 {
     let port = port(matches)?;
     let unix = owned(alloc, matches.get_str("unix"))?;
-    if port.is_none() && unix.is_none() {
-        return Err(WordsFault::Rules);
-    }
     Ok(Places { port, unix })
 }
 
@@ -291,6 +320,28 @@ fn limits(matches: &ArgMatches<'_>) -> Result<Limits, WordsFault>
     Ok(Limits { hold, idle })
 }
 
+/// Whether there is one thing to do: a rebase, also one to a new journal, is of a journal and listens nowhere, a service listens somewhere. The fault
+/// is `Rules`.
+fn check_task(
+    rebase: bool,
+    moves: bool,
+    places: &Places,
+    journal: Option<&JournalWords>,
+) -> Result<(), WordsFault>
+    ensures { OnOk result (is_task rebase moves (listens places.now) (is_some journal.entry) ≡ true) }
+{
+    let is_task = if rebase || moves {
+        !(rebase && moves) && !places.some() && journal.is_some()
+    } else {
+        places.some()
+    };
+    if is_task {
+        Ok(())
+    } else {
+        Err(WordsFault::Rules)
+    }
+}
+
 /// The options that were matched. The fault is `Rules` or `Memory`.
 fn values(alloc: Global, matches: &ArgMatches<'_>) -> Result<Options, WordsFault>
     ensures { IfOk result (λ options. AreValues options (rows_of (found_of matches.now))) }
@@ -299,18 +350,24 @@ fn values(alloc: Global, matches: &ArgMatches<'_>) -> Result<Options, WordsFault
     let places = places_of(alloc, matches)?;
     let journal = journal_words(alloc, matches.get_str("journal"), matches.get_str("sync"))?;
     let limits = limits(matches)?;
+    let rebase = matches.get_one::<bool>("rebase").unwrap_or(false);
+    let moving = move_words(alloc, matches)?;
+    check_task(rebase, moving.is_some(), &places, journal.as_ref())?;
     Ok(Options {
         schema,
         places,
         journal,
         limits,
+        rebase,
+        moving,
     })
 }
 
 /// The options that words say, the first of which is the program's name.
 ///
-/// `Parse` where they are refused or ask for help, `Rules` where both `--listen` and `--unix` are missing, or `--sync` stands without
-/// `--journal` or names no way, `Memory` where a growth was refused.
+/// `Parse` where they are refused or ask for help, `Memory` where a growth was refused. `Rules` where both `--listen` and `--unix` are missing, or one
+/// of them stands with `--rebase` or `--rebase-to`. `Rules` too where `--sync`, `--rebase` or `--rebase-to` stands without `--journal`, or both rebases
+/// stand. So it is where one of `--rebase-to` and `--new-schema` is missing, and where `--sync` names no way.
 pub fn read_words<S: AsStr>(alloc: Global, words: &[S]) -> Result<Options, WordsFault>
     ensures { IfOk result (λ options. AreValues options (matches_of service_options (map S.text words.now))) }
 {

@@ -1,4 +1,4 @@
-//! A journal that is asked again: torn lines at each byte, a reserve, a damaged line, another header, and none. Its file is taken by another
+//! A journal that is opened again: torn lines at each byte, a reserve, a damaged line, another header, and none. Its file is taken by another
 //! process, moved while it is read, or longer than what was read of it.
 ghost use Rattle.std.specs.Prelude.{◌≡◌, [], IfOk};
 
@@ -6,14 +6,15 @@ use mi_catalog::{Catalog, built_in};
 use mi_hub::Hub;
 use mi_log::Device;
 use mi_plain::Plain;
-use mi_recovery::{JournalFile, JournalFiles, Journaled, Keeping, fingerprint, opened, recovered};
+use mi_recovery::{JournalFile, JournalFiles, JournalSchema, Keeping, fingerprint, opened_behind};
 use mi_schema::read_catalog;
 use mi_serving::{BUILT_IN, Failure};
-use std::alloc::Global;
+use std::alloc::{AllocGlobal, Global};
 use std::cell::Cell;
 use std::fs::TryLockError;
 use std::io;
 use std::io::{Error, ErrorKind};
+use std::process::Abort;
 use std::test::Fail;
 
 /// A hub over the table `accounts`, with no connection.
@@ -22,15 +23,6 @@ pub(crate) fn hub(alloc: Global) -> Result<Hub<Plain>, Fail>
 {
     let catalog = Catalog::of(alloc, built_in(alloc)?)?;
     Ok(Hub::new(alloc, Plain::new(alloc, catalog)?))
-}
-
-/// How many bytes of this journal are torn, or none where it is none.
-fn torn_of(alloc: Global, bytes: &[u8]) -> Result<Option<u64>, Fail> {
-    let mut hub = hub(alloc)?;
-    match recovered(alloc, &mut hub, bytes, b"head") {
-        Ok(Journaled::Journal(torn)) => Ok(Some(torn)),
-        _ => Ok(None),
-    }
 }
 
 /// The text that tells the built-in schema is read as that schema.
@@ -46,28 +38,6 @@ fn the_built_in_text_is_that_schema(rt: HostRuntime) -> Result<(), Fail> {
             assert!(rt; one.as_str() == other.as_str());
         }
         Err(_fault) => assert!(rt; false),
-    }
-    Ok(())
-}
-
-#[test]
-fn journals_are_recovered(rt: HostRuntime) -> Result<(), Fail> {
-    let whole: &[u8] = b"head\n{\"cmd\":\"start\"}\n{\"cmd\":\"undo\"}\n";
-    for torn in 0..15usize {
-        let (front, _) = whole.split_at(whole.len() - 15 + torn);
-        assert_eq!(rt; torn_of(rt.alloc(), front)?, Some(torn as u64));
-    }
-    assert_eq!(rt; torn_of(rt.alloc(), whole)?, Some(0));
-    let former: &[u8] = b"head\n{\"cmd\":\"reserve\",\"changes\":1,\"sessions\":1}\n";
-    assert_eq!(rt; torn_of(rt.alloc(), former)?, Some(0));
-    for other in [
-        b"head\n{\"cmd\":\"size\"}\n".as_slice(),
-        b"head\nstart\n",
-        b"foot\n{\"cmd\":\"start\"}\n",
-        b"he",
-        b"",
-    ] {
-        assert_eq!(rt; torn_of(rt.alloc(), other)?, None);
     }
     Ok(())
 }
@@ -216,49 +186,103 @@ fn left_of(
         is_taken,
         named: Cell::new(named),
     };
-    match opened(alloc, &files, hub(alloc)?, "j", Keeping::Synced, "head") {
+    let schema = JournalSchema {
+        revision: 0,
+        hash: String::from_str(alloc, "head")?,
+    };
+    match opened_behind(
+        alloc,
+        &files,
+        hub(alloc)?,
+        "j",
+        Keeping::Synced,
+        &schema,
+        None,
+    ) {
         Ok(ledger) => bytes_of(alloc, ledger.log().device().file()),
         Err(fault) => Ok(Err(Failure::of_journal(fault.failure).to_string(alloc)?)),
     }
 }
 
+/// The header of these journals, without its newline.
+const HEADER: &str = "{\"journal\":1,\"revision\":0,\"schema\":\"head\"}";
+
+/// Behind a start a file with these bytes has the header, and these lines.
+fn goes_on(rt: &(impl Abort + AllocGlobal), bytes: &[u8], lines: &str) -> Result<(), Fail> {
+    match left_of(rt.alloc(), bytes, false, 2)? {
+        Ok(left) => {
+            let want = format!(in rt.alloc(); "{HEADER}\n{lines}")?;
+            assert!(rt; left.as_str() == want.as_str());
+        }
+        Err(_word) => assert!(rt; false),
+    }
+    Ok(())
+}
+
+#[test]
+fn beginnings_go_on(rt: HostRuntime) -> Result<(), Fail> {
+    for count in 0..=HEADER.len() {
+        let (front, _) = HEADER.as_bytes().split_at(count);
+        goes_on(&rt, front, "")?;
+    }
+    Ok(())
+}
+
 #[test]
 fn files_go_on(rt: HostRuntime) -> Result<(), Fail> {
-    for (bytes, want) in [
-        ("", "head\n"),
-        ("he", "head\n"),
-        ("head", "head\n"),
-        ("head\n", "head\n"),
-        ("head\n{\"cmd\":\"st", "head\n"),
+    let whole = "{\"cmd\":\"start\"}\n{\"cmd\":\"undo\"}\n";
+    for (lines, want) in [
+        ("", ""),
+        ("{\"cmd\":\"st", ""),
+        ("\0\0\0", ""),
+        ("{\"cmd\":\"start\"}\n{\"c", whole),
         (
-            "head\n{\"cmd\":\"start\"}\n{\"c",
-            "head\n{\"cmd\":\"start\"}\n{\"cmd\":\"undo\"}\n",
+            "{\"cmd\":\"start\"}\n{\"c\0\0\0md\":\"undo\"}\n{\"cmd\":\"push\"}\n",
+            whole,
         ),
-        ("head\n\0\0\0", "head\n"),
         (
-            "head\n{\"cmd\":\"start\"}\n{\"c\0\0\0md\":\"undo\"}\n{\"cmd\":\"push\"}\n",
-            "head\n{\"cmd\":\"start\"}\n{\"cmd\":\"undo\"}\n",
+            "{\"cmd\":\"reserve\",\"changes\":1,\"sessions\":1}\n",
+            "{\"cmd\":\"reserve\",\"changes\":1,\"sessions\":1}\n",
         ),
     ] {
-        match left_of(rt.alloc(), bytes.as_bytes(), false, 2)? {
-            Ok(left) => assert!(rt; left.as_str() == want),
-            Err(_word) => assert!(rt; false),
-        }
+        let text = format!(in rt.alloc(); "{HEADER}\n{lines}")?;
+        goes_on(&rt, text.as_bytes(), want)?;
+    }
+    let text = format!(in rt.alloc(); "{HEADER}\n{whole}")?;
+    for torn in 0..=15usize {
+        let (front, _) = text.as_bytes().split_at(text.len() - torn);
+        goes_on(&rt, front, whole)?;
     }
     Ok(())
 }
 
 #[test]
 fn files_are_refused(rt: HostRuntime) -> Result<(), Fail> {
-    for (bytes, is_taken, named, want) in [
-        ("heads", false, 2, "journal: line 1"),
-        ("he\0\0", false, 2, "journal: file"),
-        ("\0", false, 2, "journal: file"),
-        ("head\n", true, 2, "journal: locked"),
-        ("head\n", false, 0, "journal: locked"),
-        ("head\n", false, 1, "journal: file"),
+    for (header, lines, is_taken, named, want) in [
+        ("heads", "", false, 2, "journal: line 1"),
+        ("{\"jour\0\0", "", false, 2, "journal: file"),
+        ("\0", "", false, 2, "journal: file"),
+        (
+            "{\"journal\":1,\"revision\":0,\"schema\":\"foot\"}",
+            "\n",
+            false,
+            2,
+            "journal: schema",
+        ),
+        (
+            HEADER,
+            "\n{\"cmd\":\"size\"}\n",
+            false,
+            2,
+            "journal: line 2",
+        ),
+        (HEADER, "\nstart\n", false, 2, "journal: line 2"),
+        (HEADER, "\n", true, 2, "journal: locked"),
+        (HEADER, "\n", false, 0, "journal: locked"),
+        (HEADER, "\n", false, 1, "journal: file"),
     ] {
-        match left_of(rt.alloc(), bytes.as_bytes(), is_taken, named)? {
+        let text = format!(in rt.alloc(); "{header}{lines}")?;
+        match left_of(rt.alloc(), text.as_bytes(), is_taken, named)? {
             Ok(_left) => assert!(rt; false),
             Err(word) => assert!(rt; word.as_str() == want),
         }

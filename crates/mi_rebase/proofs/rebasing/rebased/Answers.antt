@@ -8,18 +8,18 @@ written-requires-clause-found g c =
     let asked = c.in_ok-asked.asked in
     let behind = c.in_ok-asked.ensures.asked in
     asked_after (g.P.File.Device.contents asked.file) (string_bytes asked.place.header) asked.place.skip asked.found behind.mid
-    c.ask_journal.new.hub.held behind.newest
+    c.settled.new.hub.held behind.newest
 
 pub returns : goal.returns
 returns g c =
     let written = c.in_ok-next.ensures.written in
     on_ok _ c.replaced.result (record {
       asked = c.in_ok-asked.asked;
-      new = c.ask_journal.new.hub.held;
+      new = c.settled.new.hub.held;
       next = c.in_ok-next.next;
       heading = written.0;
       behind = c.in_ok-asked.ensures.asked;
-      settled = c.in_ok-check_settled.ensures;
+      settled = c.in_ok-asked.ensures.depth;
       number = c.in_ok-next.ensures.number;
       closes = c.in_ok-next.ensures.closes;
       stands = written.1;

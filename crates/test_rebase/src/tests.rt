@@ -1,0 +1,438 @@
+//! A rebase that ends at any of its calls, and journals and bases that are refused. What is replied is worked out by hand.
+use crate::folder::{Folder, FolderFiles, Names};
+use crate::journal::{Known, asked, rebase};
+use mi_catalog::{Catalog, built_in};
+use mi_schema::read_catalog;
+use std::alloc::{AllocError, Global};
+use std::cell::RefCell;
+use std::process::Abort;
+use std::test::Fail;
+
+/// The names of the segments and of the base.
+const ONE: &str = "j";
+
+const TWO: &str = "j.000002";
+
+const BASE: &str = "j.base";
+
+/// More calls than a rebase makes.
+const MOST_CALLS: u64 = 100;
+
+/// Fewer calls than any rebase makes.
+const FEWEST_CALLS: u64 = 10;
+
+/// In the order of balances 0 stands behind 1 and 2; the list is 4, 0, 3, 1; no record has the id 2.
+const FIRST: &[u8] = b"{\"cmd\":\"insert\",\"row\":{\"owner\":\"ann\",\"balance\":50,\"vip\":false}}
+{\"cmd\":\"insert\",\"row\":{\"owner\":\"bob\",\"balance\":50,\"vip\":true}}
+{\"cmd\":\"insert\",\"row\":{\"owner\":\"cid\",\"balance\":50,\"vip\":false}}
+{\"cmd\":\"modify\",\"id\":0,\"set\":{\"balance\":7}}
+{\"cmd\":\"modify\",\"id\":0,\"set\":{\"balance\":50}}
+{\"cmd\":\"insert\",\"row\":{\"owner\":\"dan\",\"balance\":50,\"vip\":true},\"before\":{\"index\":\"line\",\"id\":1}}
+{\"cmd\":\"erase\",\"id\":2}
+{\"cmd\":\"insert\",\"row\":{\"owner\":\"eve\",\"balance\":9,\"vip\":true}}
+{\"cmd\":\"relocate\",\"index\":\"line\",\"id\":4,\"before\":0}
+";
+
+const FIRST_REPLIES: &[u8] = b"{\"id\":0,\"ok\":true}
+{\"id\":1,\"ok\":true}
+{\"id\":2,\"ok\":true}
+{\"ok\":true}
+{\"ok\":true}
+{\"id\":3,\"ok\":true}
+{\"ok\":true}
+{\"id\":4,\"ok\":true}
+{\"ok\":true}
+";
+
+/// Behind these the list is 4, 3, 1, 5, 0. Of those with `vip` 1 stands behind 3 and 4. The next id is 7.
+const SECOND: &[u8] = b"{\"cmd\":\"start\"}
+{\"cmd\":\"insert\",\"row\":{\"owner\":\"fay\",\"balance\":50,\"vip\":false}}
+{\"cmd\":\"relocate\",\"index\":\"line\",\"id\":0,\"before\":null}
+{\"cmd\":\"modify\",\"id\":1,\"set\":{\"vip\":false}}
+{\"cmd\":\"modify\",\"id\":1,\"set\":{\"vip\":true}}
+{\"cmd\":\"commit\",\"revision\":1}
+{\"cmd\":\"start\"}
+{\"cmd\":\"insert\",\"row\":{\"owner\":\"gus\",\"balance\":9,\"vip\":false}}
+{\"cmd\":\"undo\"}
+{\"cmd\":\"insert\",\"row\":{\"owner\":\"hal\",\"balance\":9,\"vip\":false}}
+{\"cmd\":\"erase\",\"id\":6}
+";
+
+const SECOND_REPLIES: &[u8] = b"{\"ok\":true,\"revision\":1}
+{\"id\":5,\"ok\":true}
+{\"ok\":true}
+{\"ok\":true}
+{\"ok\":true}
+{\"committed\":1,\"ok\":true}
+{\"ok\":true,\"revision\":2}
+{\"id\":6,\"ok\":true}
+{\"ok\":true,\"revision\":1}
+{\"id\":6,\"ok\":true}
+{\"ok\":true}
+";
+
+/// Each index is looked up, and the counters; what is changed is undone.
+const LOOK_UPS: &[u8] = b"{\"cmd\":\"size\"}
+{\"cmd\":\"revision\"}
+{\"cmd\":\"range\",\"index\":\"id\"}
+{\"cmd\":\"range\",\"index\":\"by_balance\"}
+{\"cmd\":\"range\",\"index\":\"by_class\"}
+{\"cmd\":\"list\",\"index\":\"line\"}
+{\"cmd\":\"find\",\"index\":\"by_owner\",\"key\":[\"bob\"]}
+{\"cmd\":\"find\",\"index\":\"by_vip\",\"key\":[true]}
+{\"cmd\":\"count\",\"index\":\"by_vip\",\"key\":[true]}
+{\"cmd\":\"rank\",\"index\":\"by_balance\",\"id\":3}
+{\"cmd\":\"start\"}
+{\"cmd\":\"insert\",\"row\":{\"owner\":\"ida\",\"balance\":1,\"vip\":true}}
+{\"cmd\":\"undo\"}
+";
+
+const FOUND: &[u8] = b"{\"ok\":true,\"size\":5}
+{\"depth\":0,\"held\":0,\"ok\":true,\"revision\":1}
+{\"more\":false,\"ok\":true,\"rows\":[{\"balance\":50,\"id\":0,\"owner\":\"ann\",\"vip\":false},{\"balance\":50,\"id\":1,\"owner\":\"bob\",\"vip\":true},\
+{\"balance\":50,\"id\":3,\"owner\":\"dan\",\"vip\":true},{\"balance\":9,\"id\":4,\"owner\":\"eve\",\"vip\":true},\
+{\"balance\":50,\"id\":5,\"owner\":\"fay\",\"vip\":false}]}
+{\"more\":false,\"ok\":true,\"rows\":[{\"balance\":9,\"id\":4,\"owner\":\"eve\",\"vip\":true},{\"balance\":50,\"id\":1,\"owner\":\"bob\",\"vip\":true},\
+{\"balance\":50,\"id\":0,\"owner\":\"ann\",\"vip\":false},{\"balance\":50,\"id\":3,\"owner\":\"dan\",\"vip\":true},\
+{\"balance\":50,\"id\":5,\"owner\":\"fay\",\"vip\":false}]}
+{\"more\":false,\"ok\":true,\"rows\":[{\"balance\":9,\"id\":4,\"owner\":\"eve\",\"vip\":true},{\"balance\":50,\"id\":3,\"owner\":\"dan\",\"vip\":true},\
+{\"balance\":50,\"id\":1,\"owner\":\"bob\",\"vip\":true},{\"balance\":50,\"id\":0,\"owner\":\"ann\",\"vip\":false},\
+{\"balance\":50,\"id\":5,\"owner\":\"fay\",\"vip\":false}]}
+{\"more\":false,\"ok\":true,\"rows\":[{\"balance\":9,\"id\":4,\"owner\":\"eve\",\"vip\":true},{\"balance\":50,\"id\":3,\"owner\":\"dan\",\"vip\":true},\
+{\"balance\":50,\"id\":1,\"owner\":\"bob\",\"vip\":true},{\"balance\":50,\"id\":5,\"owner\":\"fay\",\"vip\":false},\
+{\"balance\":50,\"id\":0,\"owner\":\"ann\",\"vip\":false}]}
+{\"ok\":true,\"row\":{\"balance\":50,\"id\":1,\"owner\":\"bob\",\"vip\":true}}
+{\"ok\":true,\"row\":{\"balance\":50,\"id\":3,\"owner\":\"dan\",\"vip\":true}}
+{\"count\":3,\"ok\":true}
+{\"ok\":true,\"rank\":3}
+{\"ok\":true,\"revision\":2}
+{\"id\":7,\"ok\":true}
+{\"ok\":true,\"revision\":1}
+";
+
+/// Stops unless it holds.
+fn check(rt: &impl Abort, holds: bool, what: &str) {
+    assert!(rt; holds, "{what}");
+}
+
+/// Asks a folder's journal lines, and asserts what is replied.
+fn check_replies(
+    rt: &impl Abort,
+    alloc: Global,
+    known: &Known,
+    folder: &RefCell<Folder>,
+    lines: &[u8],
+    want: &[u8],
+) -> Result<(), Fail> {
+    let replies = asked(alloc, &FolderFiles { folder }, known, lines)?;
+    check(rt, replies.as_slice() == want, "the replies are these");
+    Ok(())
+}
+
+/// Asserts that a folder has a base and one segment alone, which isn't the first.
+fn check_rebased(rt: &impl Abort, folder: &Folder) {
+    check(rt, folder.has(BASE), "a base is there");
+    check(rt, !folder.has(ONE), "the first segment is gone");
+    check(rt, folder.len() == 2, "there is one segment");
+}
+
+/// A folder that is found behind a stop: a start gives the tables, and so does one behind another rebase.
+fn check_found(rt: &impl Abort, alloc: Global, known: &Known, found: Folder) -> Result<(), Fail> {
+    let started = RefCell::new(found.copy()?);
+    check_replies(rt, alloc, known, &started, LOOK_UPS, FOUND)?;
+    let folder = RefCell::new(found);
+    rebase(alloc, &FolderFiles { folder: &folder }, known)?;
+    check_replies(rt, alloc, known, &folder, LOOK_UPS, FOUND)?;
+    check_rebased(rt, &folder.into_inner());
+    Ok(())
+}
+
+/// What is found where the process stops, and where the machine does: whether it is all that was written, and under which names.
+const STOPS: [(bool, Names); 4] = [
+    (true, Names::All),
+    (false, Names::All),
+    (false, Names::Synced),
+    (false, Names::Removed),
+];
+
+/// What a stopped rebase leaves gives the tables behind each kind of stop.
+fn check_stopped(rt: &impl Abort, alloc: Global, known: &Known, left: &Folder) -> Result<(), Fail> {
+    for (keeps_bytes, names) in STOPS {
+        let found = left.found(keeps_bytes, names, u64::MAX)?;
+        check_found(rt, alloc, known, found)?;
+    }
+    Ok(())
+}
+
+/// What a rebase of a copy of a journal leaves, of which so many calls may change something, and whether it came to its end.
+fn stopped(
+    alloc: Global,
+    known: &Known,
+    journal: &Folder,
+    calls: u64,
+) -> Result<(Folder, bool), AllocError> {
+    let folder = RefCell::new(journal.found(true, Names::All, calls)?);
+    let ended = rebase(alloc, &FolderFiles { folder: &folder }, known).is_ok();
+    Ok((folder.into_inner(), ended))
+}
+
+/// A rebase of a journal is stopped at each of its calls.
+fn check_each_call(
+    rt: &impl Abort,
+    alloc: Global,
+    known: &Known,
+    journal: &Folder,
+) -> Result<(), Fail> {
+    for calls in 0..MOST_CALLS {
+        let (left, ended) = stopped(alloc, known, journal, calls)?;
+        check_stopped(rt, alloc, known, &left)?;
+        if ended {
+            check(rt, calls >= FEWEST_CALLS, "a rebase makes more calls");
+            check_rebased(rt, &left);
+            return Ok(());
+        }
+    }
+    Err(Fail::from("no rebase comes to its end"))
+}
+
+/// The built-in schema.
+fn accounts(alloc: Global) -> Result<Known, AllocError> {
+    Known::of(alloc, Catalog::of(alloc, built_in(alloc)?)?)
+}
+
+/// How a journal is rebased between its first lines and its second ones.
+#[derive(Clone, Copy)]
+enum Between {
+    /// It isn't: it has one segment.
+    Never,
+    /// Up to where the next segment is begun: it has two, and no base.
+    Begun,
+    /// To its end: it has a base, and a segment behind that.
+    Whole,
+}
+
+/// What a rebase leaves that is stopped once the next segment is begun.
+fn with_next(alloc: Global, known: &Known, journal: &Folder) -> Result<Folder, Fail> {
+    for calls in 0..MOST_CALLS {
+        let (left, _ended) = stopped(alloc, known, journal, calls)?;
+        if left.has(TWO) {
+            return Ok(left.copy()?);
+        }
+    }
+    Err(Fail::from("no rebase begins a segment"))
+}
+
+/// What is done to a journal between its lines.
+fn between_lines(
+    alloc: Global,
+    known: &Known,
+    journal: Folder,
+    between: Between,
+) -> Result<Folder, Fail> {
+    match between {
+        Between::Never => Ok(journal),
+        Between::Begun => with_next(alloc, known, &journal),
+        Between::Whole => Ok(stopped(alloc, known, &journal, u64::MAX)?.0),
+    }
+}
+
+/// A journal of these lines, its second ones behind a rebase.
+fn journal(
+    rt: &impl Abort,
+    alloc: Global,
+    known: &Known,
+    between: Between,
+) -> Result<Folder, Fail> {
+    let first = RefCell::new(Folder::new(alloc));
+    check_replies(rt, alloc, known, &first, FIRST, FIRST_REPLIES)?;
+    let folder = RefCell::new(between_lines(alloc, known, first.into_inner(), between)?);
+    check_replies(rt, alloc, known, &folder, SECOND, SECOND_REPLIES)?;
+    Ok(folder.into_inner())
+}
+
+#[test]
+fn a_first_rebase_may_stop_anywhere(rt: HostRuntime) -> Result<(), Fail> {
+    let known = accounts(rt.alloc())?;
+    let journal = journal(&rt, rt.alloc(), &known, Between::Never)?;
+    check_each_call(&rt, rt.alloc(), &known, &journal)
+}
+
+#[test]
+fn a_later_rebase_may_stop_anywhere(rt: HostRuntime) -> Result<(), Fail> {
+    let known = accounts(rt.alloc())?;
+    let journal = journal(&rt, rt.alloc(), &known, Between::Whole)?;
+    check_each_call(&rt, rt.alloc(), &known, &journal)
+}
+
+#[test]
+fn a_rebase_of_two_segments_may_stop_anywhere(rt: HostRuntime) -> Result<(), Fail> {
+    let known = accounts(rt.alloc())?;
+    let journal = journal(&rt, rt.alloc(), &known, Between::Begun)?;
+    check_each_call(&rt, rt.alloc(), &known, &journal)
+}
+
+/// A torn line at its end is cut off first.
+#[test]
+fn a_rebase_of_a_torn_line_may_stop_anywhere(rt: HostRuntime) -> Result<(), Fail> {
+    let known = accounts(rt.alloc())?;
+    let whole = journal(&rt, rt.alloc(), &known, Between::Never)?;
+    let torn = joined(rt.alloc(), whole.text(ONE), b"{\"cmd\":\"sta")?;
+    let journal = with(&whole, ONE, torn.as_slice())?;
+    check_each_call(&rt, rt.alloc(), &known, &journal)
+}
+
+/// The same tables, of which there are fewer rows at most: a base of the built-in schema can be read as one of this.
+const OTHER: &str = r#"table = "accounts"
+max_rows = 100
+column = [{name = "owner", type = "text"}, {name = "balance", type = "int"}, {name = "vip", type = "flag"}]
+index = [
+    {name = "by_owner", kind = "hashed", unique = true, key = ["owner"]},
+    {name = "by_balance", kind = "ranked", key = ["balance"]},
+    {name = "by_vip", kind = "hashed", key = ["vip"]},
+    {name = "by_class", kind = "ordered", key = ["-vip", "balance"]},
+    {name = "line", kind = "sequenced"},
+]
+"#;
+
+fn other(alloc: Global) -> Result<Known, Fail> {
+    Ok(Known::of(alloc, read_catalog(alloc, OTHER.as_bytes())?)?)
+}
+
+/// A copy of a folder, in which the file of a name has these bytes.
+fn with(folder: &Folder, name: &str, bytes: &[u8]) -> Result<Folder, AllocError> {
+    let mut copy = folder.copy()?;
+    copy.put(name, bytes)?;
+    Ok(copy)
+}
+
+/// A copy of a folder that lacks a name.
+fn without(folder: &Folder, name: &str) -> Result<Folder, Fail> {
+    let mut copy = folder.copy()?;
+    copy.remove(name)?;
+    Ok(copy)
+}
+
+/// Bytes, and others behind them.
+fn joined(alloc: Global, bytes: &[u8], more: &[u8]) -> Result<Vec<u8>, AllocError> {
+    let mut all = bytes.to_vec(alloc)?;
+    all.extend_from_slice(more)?;
+    Ok(all)
+}
+
+/// Asserts that a start and a rebase of a folder's journal end so.
+fn check_refused(
+    rt: &impl Abort,
+    alloc: Global,
+    known: &Known,
+    folder: Folder,
+    word: &str,
+    segment: u64,
+    line: u64,
+) {
+    let folder = RefCell::new(folder);
+    let files = FolderFiles { folder: &folder };
+    match asked(alloc, &files, known, LOOK_UPS) {
+        Ok(_replies) => check(rt, false, "a start is refused"),
+        Err(refused) => check(rt, refused.is(word, segment, line), word),
+    }
+    match rebase(alloc, &files, known) {
+        Ok(()) => check(rt, false, "a rebase is refused"),
+        Err(refused) => check(rt, refused.is(word, segment, line), word),
+    }
+}
+
+/// Asserts what a start and a rebase say of a journal whose file of a name has these bytes in place of its own.
+fn check_changed(
+    rt: &impl Abort,
+    alloc: Global,
+    known: &Known,
+    journal: &Folder,
+    name: &str,
+    bytes: &[u8],
+    want: (&str, u64, u64),
+) -> Result<(), Fail> {
+    let (word, segment, line) = want;
+    let changed = with(journal, name, bytes)?;
+    check_refused(rt, alloc, known, changed, word, segment, line);
+    Ok(())
+}
+
+/// What a rebase leaves of a journal that has no line.
+fn of_no_line(alloc: Global, known: &Known) -> Result<Folder, AllocError> {
+    Ok(stopped(alloc, known, &Folder::new(alloc), u64::MAX)?.0)
+}
+
+/// Bases that are cut.
+#[test]
+fn cut_bases_are_refused(rt: HostRuntime) -> Result<(), Fail> {
+    let alloc = rt.alloc();
+    let known = accounts(alloc)?;
+    let journal = journal(&rt, alloc, &known, Between::Whole)?;
+    let base = journal.text(BASE);
+    for left in [0, 1, base.len() / 2, base.len().saturating_sub(1)] {
+        let (front, _) = base.split_at(base.len().min(left));
+        check_changed(&rt, alloc, &known, &journal, BASE, front, ("base", 0, 0))?;
+    }
+    Ok(())
+}
+
+/// A base of another schema, one of another journal, and one whose segment isn't there.
+#[test]
+fn other_bases_are_refused(rt: HostRuntime) -> Result<(), Fail> {
+    let alloc = rt.alloc();
+    let known = accounts(alloc)?;
+    let journal = journal(&rt, alloc, &known, Between::Whole)?;
+    check_refused(&rt, alloc, &other(alloc)?, journal.copy()?, "base", 0, 0);
+    let others = of_no_line(alloc, &known)?;
+    let base = others.text(BASE);
+    check_changed(&rt, alloc, &known, &journal, BASE, base, ("base", 0, 0))?;
+    let alone = without(&journal, TWO)?;
+    check_refused(&rt, alloc, &known, alone, "segment", 2, 0);
+    Ok(())
+}
+
+/// Of two segments one isn't there, the first is torn or longer, or the second is the first again, or one of another journal.
+#[test]
+fn segments_are_refused(rt: HostRuntime) -> Result<(), Fail> {
+    let alloc = rt.alloc();
+    let known = accounts(alloc)?;
+    let journal = journal(&rt, alloc, &known, Between::Begun)?;
+    let lacking = without(&journal, ONE)?;
+    check_refused(&rt, alloc, &known, lacking, "segment", 1, 0);
+    let first = journal.text(ONE);
+    let (torn, _) = first.split_at(first.len().saturating_sub(1));
+    check_changed(&rt, alloc, &known, &journal, ONE, torn, ("segment", 1, 0))?;
+    let longer = joined(alloc, first, b"{\"cmd\":\"erase\",\"id\":4}\n")?;
+    check_changed(
+        &rt,
+        alloc,
+        &known,
+        &journal,
+        ONE,
+        longer.as_slice(),
+        ("segment", 2, 0),
+    )?;
+    check_changed(&rt, alloc, &known, &journal, TWO, first, ("segment", 2, 0))?;
+    let others = of_no_line(alloc, &known)?;
+    let second = others.text(TWO);
+    check_changed(&rt, alloc, &known, &journal, TWO, second, ("segment", 2, 0))
+}
+
+/// Segments of another schema, and a line of the second that changes nothing, behind its header and eleven others.
+#[test]
+fn schemas_and_lines_are_refused(rt: HostRuntime) -> Result<(), Fail> {
+    let alloc = rt.alloc();
+    let known = accounts(alloc)?;
+    let journal = journal(&rt, alloc, &known, Between::Begun)?;
+    check_refused(&rt, alloc, &other(alloc)?, journal.copy()?, "schema", 0, 0);
+    let longer = joined(alloc, journal.text(TWO), b"{\"cmd\":\"size\"}\n")?;
+    check_changed(
+        &rt,
+        alloc,
+        &known,
+        &journal,
+        TWO,
+        longer.as_slice(),
+        ("line", 2, 13),
+    )
+}
