@@ -19,7 +19,7 @@ use Rattle.mi_node.proofs.NeighbourLemmas.{linked_held, tag-joined, tag-with_lin
 use Rattle.mi_node.proofs.RefLemmas.{out_left, out_right, out_both, apart_left, apart_right, apart_remove, apart_across, are_out_tail, are_out_flip, last_push}
 use Rattle.mi_chain.specs.Keying.{Keying, IsLawful, same_nodes, hash_node, stamp_at}
 use Rattle.mi_chain.specs.Groups.{members, unalike, first_in, last_in, key_count, AreFull, ArePassed, IsChained, IsChain, IsGrouped}
-use Rattle.mi_chain.specs.Places.{Found, IsFound, IsGap, IsEnd, AreNotBelow, IsBelowIf, is_named}
+use Rattle.mi_chain.specs.Places.{Found, IsFound, IsCut, IsGap, IsEnd, AreNotBelow, IsBelowIf, is_named}
 use Rattle.mi_chain.specs.Places.{is_empty, other_than, end_at, end_beside, ends_with, back_of, forth_of}
 use Rattle.mi_chain.specs.Heads.{heads_joined}
 use Rattle.mi_chain.specs.Chained.{AreAfter, AreBefore, IsRising, in_bucket, IsPlaced, FitsBetween, AreTagged, AreBuckets, AreChained, AreNew}
@@ -29,7 +29,7 @@ use Rattle.mi_chain.proofs.KeyingLemmas.{alike, same_hash, same_kept, hash_kept}
 use Rattle.mi_chain.proofs.CutLemmas.{left_of, right_of, some_last as last_some, back_between, forth_between}
 use Rattle.mi_chain.proofs.CutLemmas.{members-append, chained_left, chained_right, last_held, first_held, last_in_held}
 use Rattle.mi_chain.proofs.SearchLemmas.{Walked, begins, full_right, first_is_held, after_last}
-use Rattle.mi_chain.proofs.StandingLemmas.{chain_of, none_found, group_found, class_in, held_at, buckets_kept, rising_before, rising_after}
+use Rattle.mi_chain.proofs.StandingLemmas.{chain_of, none_found, group_found, class_below, class_above, class_in, held_at, buckets_kept, rising_before, rising_after}
 use Rattle.mi_chain.proofs.ChangeLemmas.{put_new, put_old, spot_held, gap_spot, take_old, ends_held, link_back}
 use Rattle.mi_chain.proofs.ChangeLemmas.{next_says, none_says, prev_says, back_is_held, some_found, end_found}
 use Rattle.mi_chain.proofs.CountLemmas.{count_new, count_old, count_least, count_some}
@@ -167,6 +167,20 @@ module _ {T H : Type 0} (c : Chains H) (k : Keying T) (w : IsLawful k) (m : Pool
       → ArePassed (same_nodes k m r) (groups_at (xs ++ ys) h (hash_node k m r)) → filter (same_nodes k m r) (xs ++ ys) ≡ []
   none_left xs r ys h p = none_found (same_nodes k m) (alike k m w) (stamp_at m s) (hash_node k m)
       (same_hash k m w) m s heads n (xs ++ ys) h.buckets r (here (xs ++ ys) (hash_node k m r) h) p
+
+  -- in the group of a node's key those with a lower stamp stand first
+  pub cut_at : (xs : List Ref) (r : Ref) (ys : List Ref) (t : ℕ) (h : AreChained c k m (xs ++ ys)) → IsPlaced k m s r t xs ys
+      → (bef : Option Ref) (first : Ref) (f : Found (same_nodes k m r) (groups_at (xs ++ ys) h (hash_node k m r)) bef first)
+      → IsCut (stamp_at m s) t f.group
+  cut_at xs r ys t h p bef first f =
+      let all = group_found (same_nodes k m) (alike k m w) (stamp_at m s) (hash_node k m)
+      (same_hash k m w) m s heads n (xs ++ ys) h.buckets r (here (xs ++ ys) (hash_node k m r) h) bef first f in record {
+        us = filter (same_nodes k m r) xs;
+        vs = filter (same_nodes k m r) ys;
+        parts = sym all ∙ filter-append (same_nodes k m r) xs ys;
+        below = class_below (same_nodes k m) (stamp_at m s) r t xs p.before;
+        above = class_above (same_nodes k m) (stamp_at m s) r t ys p.after;
+      }
 
   -- chains in a pool with the same values, where a list stands with some stamps
   arrive : (c2 : Chains H) (m2 : Pooled T) (stamp : Ref → ℕ) (rs : List Ref) → c2.slot ≡ s → vec_len c2.buckets ≡ n

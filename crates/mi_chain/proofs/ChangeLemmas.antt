@@ -198,7 +198,7 @@ module _ (R : Ref → Ref → Bool) (A : IsAlike R) (stamp hash : Ref → ℕ) (
           let b = h.each mine lt in let us = filter (R r) xs in let vs = filter (R r) ys in let X = f.xs in let Y = f.ys in
           let all = group_found R A stamp hash H m s heads n (xs ++ ys) h r lt bef first f in
           let cut = same_cut stamp (stamp r) us vs gap.us gap.vs (sym (filter-append (R r) xs ys) ∙ all ∙ gap.parts)
-          (class_below R stamp r xs before) (class_above R stamp r ys after)
+          (class_below R stamp r (stamp r) xs before) (class_above R stamp r (stamp r) ys after)
           (subst (IsBelowIf stamp (stamp r)) gap.prev_is gap.below) gap.above in
           let is : f.group ≡ us ++ vs = sym all ∙ filter-append (R r) xs ys in
           let linked = subst (λ z. IsChained m s z None) (f.parts ∙ ap (λ z. X ++ z ∷ Y) is) b.chained in

@@ -13,7 +13,7 @@ use Rattle.mi_node.proofs.KeepingLemmas.{node_count-least}
 use Rattle.mi_node.proofs.NeighbourLemmas.{linked_left, linked_right, linked_held}
 use Rattle.mi_node.proofs.RefLemmas.{out_left, apart_across, last_push, are_out_tail, are_out_flip}
 use Rattle.mi_chain.specs.Groups.{members, first_in, last_in, AreFull, ArePassed, IsChained, IsChain}
-use Rattle.mi_chain.specs.Places.{is_named, Found, AreNotBelow, IsGap, forth_of, back_of, prev_in_group}
+use Rattle.mi_chain.specs.Places.{is_named, Found, AreBelow, AreNotBelow, IsCut, IsGap, forth_of, back_of, prev_in_group}
 use Rattle.mi_chain.specs.Moves.{hops, next_group}
 use Rattle.mi_chain.proofs.CutLemmas.{list_of, chained_right, chained_held, last_held, some_last, last_out, first_in_out, out_of_ys}
 
@@ -37,6 +37,20 @@ pub record Gapped (stamp : Ref → ℕ) (n : ℕ) (g : List Ref) (at next : Opti
   pub at_is : at ≡ last_of None us
   pub next_is : next ≡ first_of vs None
   pub above : AreNotBelow stamp n vs
+
+-- a stamp that is not above the first one's goes to the front
+gap_at_front : (stamp : Ref → ℕ) (n : ℕ) (first : Ref) (g us vs : List Ref) → g ≡ us ++ vs → AreBelow stamp n us → AreNotBelow stamp n vs
+    → first_of g None ≡ Some first → n ≤ stamp first → IsGap stamp n g None (Some first)
+gap_at_front stamp n first g [] vs q below above e le =
+    record { us = []; vs = vs; parts = q; prev_is = refl; next_is = sym e ∙ ap (λ l. first_of l None) q; below = tt; above = above }
+gap_at_front stamp n first g (u ∷ us) vs q below above e le =
+    let here : Some u ≡ Some first = sym (ap (λ l. first_of l None) q) ∙ e in
+    let same : u ≡ first = some_is u first here in
+    let less = subst (λ r. stamp r < n) same below.0 in absurd (omega (arith, less, le))
+
+pub gap_front : (stamp : Ref → ℕ) (n : ℕ) (first : Ref) (g : List Ref) → IsCut stamp n g → first_of g None ≡ Some first → n ≤ stamp first
+    → IsGap stamp n g None (Some first)
+gap_front stamp n first g cut e le = gap_at_front stamp n first g cut.us cut.vs cut.parts cut.below cut.above e le
 
 -- a list that has a last
 unpush : (us : List Ref) (z : Ref) → last_of None us ≡ Some z → (ws : List Ref) × (us ≡ ws ++ z ∷ [])

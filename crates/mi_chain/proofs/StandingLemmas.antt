@@ -13,7 +13,7 @@ use Rattle.mi_node.proofs.EntryLemmas.{same_refl}
 use Rattle.mi_node.proofs.KeepingLemmas.{held_kept}
 use Rattle.mi_node.proofs.RefLemmas.{apart_insert, apart_remove, are_out_cons}
 use Rattle.mi_chain.specs.Groups.{members, unalike, first_in, ArePassed, IsChained, IsChain, IsGrouped}
-use Rattle.mi_chain.specs.Places.{Found, IsFirst, AreNotBelow, IsBelowIf}
+use Rattle.mi_chain.specs.Places.{Found, IsFirst, AreBelow, AreNotBelow, IsBelowIf}
 use Rattle.mi_chain.specs.Heads.{heads_joined}
 use Rattle.mi_chain.specs.Chained.{AreAfter, AreBefore, IsRising, in_bucket, IsBucket, AreBuckets}
 use Rattle.mi_chain.proofs.GroupLemmas.{IsAlike, IsOfKey, not_both, no_is_false, filter_both, filter_swap, filter_with, filter_without, out_filter}
@@ -260,10 +260,6 @@ below_next : (stamp : Ref → ℕ) (n : ℕ) (u : Ref) (us : List Ref) → IsBel
 below_next stamp n u [] b = tt
 below_next stamp n u (w ∷ us) b = b
 
-abbrev pub AreBelow : (Ref → ℕ) → ℕ → List Ref → Type 0
-AreBelow stamp n [] = Unit {0}
-AreBelow stamp n (r ∷ rs) = (stamp r < n) × AreBelow stamp n rs
-
 pub same_cut : (stamp : Ref → ℕ) (n : ℕ) (cs bs us vs : List Ref) → cs ++ bs ≡ us ++ vs → AreBelow stamp n cs
     → AreNotBelow stamp n bs → IsBelowIf stamp n (last_of None us) → AreNotBelow stamp n vs → (cs ≡ us) × (bs ≡ vs)
 same_cut stamp n [] bs [] vs e a b u v = (refl, e)
@@ -273,18 +269,18 @@ same_cut stamp n (q ∷ cs) bs (w ∷ us) vs e a b u v =
     let here : q ≡ w = cc in let rest : cs ++ bs ≡ us ++ vs = cc in
     let on = same_cut stamp n cs bs us vs rest a.1 b (below_next stamp n w us u) v in (λ i. here i ∷ on.0 i, on.1)
 
-pub class_below : (R : Ref → Ref → Bool) (stamp : Ref → ℕ) (r : Ref) (xs : List Ref)
-    → AreBefore R stamp r (stamp r) xs → AreBelow stamp (stamp r) (filter (R r) xs)
-class_below R stamp r [] h = tt
-class_below R stamp r (x ∷ xs) h = (elim (R r x) as (λ b. R r x ≡ b → AreBelow stamp (stamp r) (cond b (x ∷ filter (R r) xs) (filter (R r) xs))) [
-  | true ↦ λ e. (h.0 e, class_below R stamp r xs h.1)
-  | false ↦ λ e. class_below R stamp r xs h.1
+pub class_below : (R : Ref → Ref → Bool) (stamp : Ref → ℕ) (r : Ref) (t : ℕ) (xs : List Ref)
+    → AreBefore R stamp r t xs → AreBelow stamp t (filter (R r) xs)
+class_below R stamp r t [] h = tt
+class_below R stamp r t (x ∷ xs) h = (elim (R r x) as (λ b. R r x ≡ b → AreBelow stamp t (cond b (x ∷ filter (R r) xs) (filter (R r) xs))) [
+  | true ↦ λ e. (h.0 e, class_below R stamp r t xs h.1)
+  | false ↦ λ e. class_below R stamp r t xs h.1
 ]) refl
 
-pub class_above : (R : Ref → Ref → Bool) (stamp : Ref → ℕ) (r : Ref) (xs : List Ref)
-    → AreAfter R stamp r (stamp r) xs → AreNotBelow stamp (stamp r) (filter (R r) xs)
-class_above R stamp r [] h = tt
-class_above R stamp r (x ∷ xs) h = (elim (R r x) as (λ b. R r x ≡ b → AreNotBelow stamp (stamp r) (cond b (x ∷ filter (R r) xs) (filter (R r) xs))) [
-  | true ↦ λ e. let lt = h.0 e in (omega arith, class_above R stamp r xs h.1)
-  | false ↦ λ e. class_above R stamp r xs h.1
+pub class_above : (R : Ref → Ref → Bool) (stamp : Ref → ℕ) (r : Ref) (t : ℕ) (xs : List Ref)
+    → AreAfter R stamp r t xs → AreNotBelow stamp t (filter (R r) xs)
+class_above R stamp r t [] h = tt
+class_above R stamp r t (x ∷ xs) h = (elim (R r x) as (λ b. R r x ≡ b → AreNotBelow stamp t (cond b (x ∷ filter (R r) xs) (filter (R r) xs))) [
+  | true ↦ λ e. let lt = h.0 e in (omega arith, class_above R stamp r t xs h.1)
+  | false ↦ λ e. class_above R stamp r t xs h.1
 ]) refl

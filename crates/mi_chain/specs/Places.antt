@@ -1,6 +1,7 @@
 -- Places in a chain, as searches tell them.
 --     IsFound, IsFirst      the first group of a key, or that there is none
 --     IsGap      the neighbours of a stamp in a group
+--     IsCut      the nodes of a group with a lower stamp stand first
 --     ends_with      a group by its last node
 use Rattle.std.specs.Prelude.{◌≡◌, ℕ, ◌⊎◌, ◌==◌, ◌<◌, ◌≤◌, Bool, true, false, cond, List, [], ◌∷◌, ◌++◌, Option, Some, None}
 use Rattle.mi_node.specs.Pool.{Pooled, link_of}
@@ -53,6 +54,19 @@ IsFirst K gs first = (before : Option Ref) × IsFound K gs before first
 abbrev pub AreNotBelow : (Ref → ℕ) → ℕ → List Ref → Type 0
 AreNotBelow stamp n [] = Unit {0}
 AreNotBelow stamp n (r ∷ rs) = (n ≤ stamp r) × AreNotBelow stamp n rs
+
+-- each stamp is below n
+abbrev pub AreBelow : (Ref → ℕ) → ℕ → List Ref → Type 0
+AreBelow stamp n [] = Unit {0}
+AreBelow stamp n (r ∷ rs) = (stamp r < n) × AreBelow stamp n rs
+
+-- those with a stamp below n stand before the others
+pub record IsCut (stamp : Ref → ℕ) (n : ℕ) (g : List Ref) : Type 0 where
+  pub us : List Ref
+  pub vs : List Ref
+  pub parts : g ≡ us ++ vs
+  pub below : AreBelow stamp n us
+  pub above : AreNotBelow stamp n vs
 
 abbrev pub IsBelowIf : (Ref → ℕ) → ℕ → Option Ref → Type 0
 IsBelowIf stamp n None = Unit {0}

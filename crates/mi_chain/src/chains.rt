@@ -141,8 +141,8 @@ impl<H> Chains<H> {
     }
 
     /// Puts the node into the list of its key, by this stamp, which its link then has with its hash as the tag; the
-    /// other nodes' tags stay. Takes no memory. Costs a step for each group of the bucket and for each node of its key
-    /// that has a greater stamp.
+    /// other nodes' tags stay. Takes no memory. Costs a step for each group of the bucket, and for each node of its key
+    /// that has a greater stamp, unless all have: a lowest stamp goes to the front at once.
     pub fn insert<T>(&mut self, p: &mut Pool<T>, node: NodeRef, stamp: u64)
     where
         H: KeyHash<T>,

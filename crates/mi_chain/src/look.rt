@@ -9,7 +9,7 @@ ghost use Rattle.mi_node.specs.Refs.{Ref};
 ghost use Rattle.mi_chain.specs.Keying.{same_nodes, hash_node, has_key, stamp_at};
 ghost use Rattle.mi_chain.specs.Groups.{IsChain, members};
 ghost use Rattle.mi_chain.specs.Chained.{AreTagged};
-ghost use Rattle.mi_chain.specs.Places.{forth_of, is_named, ends_with, other_than};
+ghost use Rattle.mi_chain.specs.Places.{forth_of, is_named, ends_with, other_than, IsCut};
 
 use crate::keys::KeyHash;
 use mi_node::{NodeRef, Pool};
@@ -188,15 +188,23 @@ pub(crate) fn group_ending<T>(
     }
 }
 
-/// Where the stamp belongs in the group. Costs a step for each node with a newer stamp.
+/// Where the stamp belongs in the group, in which those with an older one stand first. Costs a step at either end of it, and else one
+/// for each node with a newer stamp.
 pub(crate) fn gap_for<T>(p: &Pool<T>, slot: usize, first: NodeRef, stamp: u64) -> Gap
     requires slot { slot < p.now.slots }
     requires group { (g : Seq Ref) × (f : _) × IsLinked p.now slot (last_of None g) g f × IsApart g × (first_of g None ≡ Some first) }
     ensures { (g : Seq Ref) (f : _) → IsLinked p.now slot (last_of None g) g f → IsApart g → first_of g None ≡ Some first
-        → IsGap (stamp_at p.now slot) stamp g result.prev result.next }
+        → IsCut (stamp_at p.now slot) stamp g → IsGap (stamp_at p.now slot) stamp g result.prev result.next }
 {
+    let begin = p.link(first, slot);
+    if stamp <= begin.tag.stamp {
+        return Gap {
+            prev: None,
+            next: Some(first),
+        };
+    }
     let mut next = None;
-    let mut at = p.link(first, slot).back;
+    let mut at = begin.back;
     while let Some(prev) = at {
         let link = p.link(prev, slot);
         if link.tag.stamp < stamp {

@@ -2,7 +2,7 @@
 -- after another stand in it in their order. Nothing else changes.
 -- Cited by `mi_multi`.
 use Rattle.std.proofs.Common.{◌≡◌, ◌≢◌, ℕ, ◌+◌, ◌<◌, ◌≤◌, zero, suc, true, false, cond, ◌⊎◌, inl, inr, List}
-use Rattle.std.proofs.Common.{[], ◌∷◌, ◌++◌, map, length, get_or, take, reverse, refl, ap, sym, ◌∙◌, subst, arith}
+use Rattle.std.proofs.Common.{[], ◌∷◌, ◌++◌, map, length, get_or, take, drop, reverse, refl, ap, sym, ◌∙◌, subst, arith}
 use Rattle.std.specs.Prelude.{◌==◌}
 use Rattle.std.specs.List.{AllByRecursion}
 use Rattle.std.specs.Ordering.{on, nat_cmp}
@@ -16,7 +16,7 @@ use Rattle.std.specs.Map.{lookup}
 use Rattle.std.proofs.lemmas.Cmp.{nat_cmp_total}
 use Rattle.std.proofs.lemmas.Bool.{false≢true}
 use Rattle.std.proofs.lemmas.Bool.Decides.{eqb_tells, nat_tests}
-use Rattle.std.proofs.lemmas.List.{length-set, get_or-set_same, get_or-set_other, length-take-le, take_more, append-nil, append_assoc, reverse-append}
+use Rattle.std.proofs.lemmas.List.{length-set, get_or-set_same, get_or-set_other, take_more, append-nil, append_assoc, reverse-append}
 use Rattle.std.specs.declared.cmp.Ordering.TheVariants.{Less}
 use Rattle.std.specs.declared.option.Option.TheVariants.{None, Some}
 use Rattle.mi_catalog.specs.declared.index.Index.{Index}
@@ -120,6 +120,22 @@ list_beside x d n same y ne l =
 abbrev pub Long : ℕ → Data → Type 0
 Long x d = (b : ℕ) → IsThere d.rows b → x < length (content_of d.rows b).stamps
 
+-- each has the next number, from a on
+abbrev Numbered : (ℕ → ℕ) → ℕ → List ℕ → Type 0
+Numbered f a [] = Unit {0}
+Numbered f a (e ∷ ids) = (f e ≡ a) × Numbered f (suc a) ids
+
+numbered_above : (f : ℕ → ℕ) (e a k : ℕ) (ids : List ℕ) → f e ≡ a → a < k → Numbered f k ids → AllByRecursion (λ b. on f nat_cmp e b ≡ Less) ids
+numbered_above f e a k [] is l given = tt
+numbered_above f e a k (b ∷ ids) is l given = (
+  (let at = given.0 in less_is (f e) (f b) (omega (arith, is, at, l))),
+  numbered_above f e a (suc k) ids is (omega (arith, l)) given.1,
+)
+
+numbered_rise : (f : ℕ → ℕ) (a : ℕ) (ids : List ℕ) → Numbered f a ids → Rises (on f nat_cmp) ids
+numbered_rise f a [] given = tt
+numbered_rise f a (e ∷ ids) given = (numbered_above f e a (suc a) ids given.0 (omega arith) given.1, numbered_rise f (suc a) ids given.1)
+
 module _ (x : ℕ) where
   same_one : (e a : ℕ) (d : Data) → IsThere d.rows e → SameBut x d (restamped_in x e a d)
   same_one e a d there = record {
@@ -143,79 +159,76 @@ module _ (x : ℕ) where
             (long b (there_was x e a d there b here))
       ]
 
-  there_on : (e a : ℕ) (d : Data) (ids : List ℕ) → AllByRecursion (IsThere d.rows) ids → AllByRecursion (IsThere (restamped_in x e a d).rows) ids
-  there_on e a d ids all = all_map {P = IsThere d.rows} {Q = IsThere (restamped_in x e a d).rows} (λ b h. there_still x e a d b h) ids all
+  -- rows that are there stay
+  there_all : (ids : List ℕ) (a : ℕ) (d : Data) (b : ℕ) → IsThere d.rows b → IsThere (restamped_all x ids a d).rows b
+  there_all [] a d b there = there
+  there_all (e ∷ ids) a d b there = there_still x e a (restamped_all x ids (suc a) d) b (there_all ids (suc a) d b there)
 
   pub same_all : (ids : List ℕ) (a : ℕ) (d : Data) → AllByRecursion (IsThere d.rows) ids → SameBut x d (restamped_all x ids a d)
   same_all [] a d all = same_itself x d
   same_all (e ∷ ids) a d all =
-      same_both x d (restamped_in x e a d) (restamped_all x ids (suc a) (restamped_in x e a d)) (same_one e a d all.0)
-      (same_all ids (suc a) (restamped_in x e a d) (there_on e a d ids all.1))
+      same_both x d (restamped_all x ids (suc a) d) (restamped_all x (e ∷ ids) a d) (same_all ids (suc a) d all.1)
+      (same_one e a (restamped_all x ids (suc a) d) (there_all ids (suc a) d e all.0))
 
-  -- other rows keep their stamps
-  beside_all : (ids : List ℕ) (a : ℕ) (d : Data) (b : ℕ) → Lacks b ids → stamp_of (restamped_all x ids a d).rows x b ≡ stamp_of d.rows x b
-  beside_all [] a d b lacks = refl
-  beside_all (e ∷ ids) a d b lacks = beside_all ids (suc a) (restamped_in x e a d) b lacks.1 ∙ stamp_beside x e a d x b (λ same. lacks.0 (sym same))
+  long_all : (ids : List ℕ) (a : ℕ) (d : Data) → AllByRecursion (IsThere d.rows) ids → Long x d → Long x (restamped_all x ids a d)
+  long_all [] a d all long = long
+  long_all (e ∷ ids) a d all long =
+      long_one e a (restamped_all x ids (suc a) d) (there_all ids (suc a) d e all.0) (long_all ids (suc a) d all.1 long)
 
-  head_all : (e : ℕ) (ids : List ℕ) (a : ℕ) (d : Data) → Lacks e ids → IsThere d.rows e → Long x d
+  head_all : (e : ℕ) (ids : List ℕ) (a : ℕ) (d : Data) → AllByRecursion (IsThere d.rows) (e ∷ ids) → Long x d
       → stamp_of (restamped_all x (e ∷ ids) a d).rows x e ≡ a
-  head_all e ids a d lacks there long = beside_all ids (suc a) (restamped_in x e a d) e lacks ∙ stamp_here x e a d there (long e there)
+  head_all e ids a d all long =
+      let there = there_all ids (suc a) d e all.0 in
+      stamp_here x e a (restamped_all x ids (suc a) d) there (long_all ids (suc a) d all.1 long e there)
 
-  at_least : (ids : List ℕ) (a : ℕ) (d : Data) → Once ids → AllByRecursion (IsThere d.rows) ids → Long x d
-      → AllByRecursion (λ b. a ≤ stamp_of (restamped_all x ids a d).rows x b) ids
-  at_least [] a d once all long = tt
-  at_least (e ∷ ids) a d once all long = (
-    (let h = head_all e ids a d once.0 all.0 long in omega (arith, h)),
-    all_map {P = λ b. suc a ≤ stamp_of (restamped_all x (e ∷ ids) a d).rows x b} {Q = λ b. a ≤ stamp_of (restamped_all x (e ∷ ids) a d).rows x b}
-        (λ b l. omega (arith, l)) ids
-        (at_least ids (suc a) (restamped_in x e a d) once.1 (there_on e a d ids all.1) (long_one e a d all.0 long)),
+  -- other rows keep the stamps that they were given
+  numbered_on : (e a k : ℕ) (d : Data) (ids : List ℕ) → Lacks e ids → Numbered (stamp_of d.rows x) k ids
+      → Numbered (stamp_of (restamped_in x e a d).rows x) k ids
+  numbered_on e a k d [] lacks given = tt
+  numbered_on e a k d (b ∷ ids) lacks given =
+      (stamp_beside x e a d x b lacks.0 ∙ given.0, numbered_on e a (suc k) d ids lacks.1 given.1)
+
+  numbered_all : (ids : List ℕ) (a : ℕ) (d : Data) → Once ids → AllByRecursion (IsThere d.rows) ids → Long x d
+      → Numbered (stamp_of (restamped_all x ids a d).rows x) a ids
+  numbered_all [] a d once all long = tt
+  numbered_all (e ∷ ids) a d once all long = (
+    head_all e ids a d all long,
+    numbered_on e a (suc a) (restamped_all x ids (suc a) d) ids once.0 (numbered_all ids (suc a) d once.1 all.1 long),
   )
 
   -- their stamps rise
   rises_all : (ids : List ℕ) (a : ℕ) (d : Data) → Once ids → AllByRecursion (IsThere d.rows) ids → Long x d
       → Rises (on (stamp_of (restamped_all x ids a d).rows x) nat_cmp) ids
-  rises_all [] a d once all long = tt
-  rises_all (e ∷ ids) a d once all long = (
-    all_map {P = λ b. suc a ≤ stamp_of (restamped_all x (e ∷ ids) a d).rows x b}
-        {Q = λ b. on (stamp_of (restamped_all x (e ∷ ids) a d).rows x) nat_cmp e b ≡ Less}
-        (λ b l. less_is (stamp_of (restamped_all x (e ∷ ids) a d).rows x e) (stamp_of (restamped_all x (e ∷ ids) a d).rows x b)
-        (let h = head_all e ids a d once.0 all.0 long in omega (arith, h, l))) ids
-        (at_least ids (suc a) (restamped_in x e a d) once.1 (there_on e a d ids all.1) (long_one e a d all.0 long)),
-    rises_all ids (suc a) (restamped_in x e a d) once.1 (there_on e a d ids all.1) (long_one e a d all.0 long),
-  )
+  rises_all ids a d once all long = numbered_rise (stamp_of (restamped_all x ids a d).rows x) a ids (numbered_all ids a d once all long)
 
   -- a stamp is one that was given, or the row's own
   given_all : (ids : List ℕ) (a : ℕ) (d : Data) → AllByRecursion (IsThere d.rows) ids → Long x d → (b : ℕ)
-      → (stamp_of (restamped_all x ids a d).rows x b < a + length ids) ⊎ ((times b ids ≡ 0) × (stamp_of (restamped_all x ids a d).rows x b ≡ stamp_of d.rows x b))
+      → ((a ≤ stamp_of (restamped_all x ids a d).rows x b) × (stamp_of (restamped_all x ids a d).rows x b < a + length ids))
+      ⊎ ((times b ids ≡ 0) × (stamp_of (restamped_all x ids a d).rows x b ≡ stamp_of d.rows x b))
   given_all [] a d all long b = inr (refl, refl)
   given_all (e ∷ ids) a d all long b =
-      elim (given_all ids (suc a) (restamped_in x e a d) (there_on e a d ids all.1) (long_one e a d all.0 long) b) [
-        | inl l ↦ inl (omega (arith, l))
-        | inr own ↦
-            elim (eqb_tells e b) [
-              | inl same ↦ inl (let h = own.1 in let g = ap (λ q. stamp_of (restamped_in x e a d).rows x q) (sym same.1) ∙ stamp_here x e a d all.0 (long e all.0) in
-                  omega (arith, h, g))
-              | inr other ↦ inr (
+      elim (eqb_tells e b) [
+        | inl same ↦ inl (let h = subst (λ q. stamp_of (restamped_all x (e ∷ ids) a d).rows x q ≡ a) same.1 (head_all e ids a d all long) in
+            (omega (arith, h), omega (arith, h)))
+        | inr other ↦
+            let kept = stamp_beside x e a (restamped_all x ids (suc a) d) x b (λ same. other.1 (sym same)) in
+            elim (given_all ids (suc a) d all.1 long b) [
+              | inl l ↦ inl (let low = l.0 in let high = l.1 in (omega (arith, low, kept), omega (arith, high, kept)))
+              | inr own ↦ inr (
                 (let n : cond {A = ℕ} (e == b) 1 0 ≡ 0 = ap (λ t. cond {A = ℕ} t 1 0) other.0 in let z = own.0 in omega (arith, n, z)),
-                own.1 ∙ stamp_beside x e a d x b (λ same. other.1 (sym same)),
+                kept ∙ own.1,
               )
             ]
       ]
 
-  pub restamped_more : (ids : List ℕ) (e a : ℕ) (d : Data) → restamped_all x (ids ++ e ∷ []) a d ≡ restamped_in x e (a + length ids) (restamped_all x ids a d)
-  restamped_more [] e a d = let same : a ≡ a + 0 = omega arith in ap (λ n. restamped_in x e n d) same
-  restamped_more (b ∷ ids) e a d =
-      let same : suc a + length ids ≡ a + suc (length ids) = omega arith in
-      restamped_more ids e (suc a) (restamped_in x b a d) ∙ ap (λ n. restamped_in x e n (restamped_all x ids (suc a) (restamped_in x b a d))) same
-
-  -- where no row has one of the stamps that are given, the next one is free
-  pub next_free : (ids : List ℕ) (n : ℕ) (d : Data) → AllByRecursion (IsThere d.rows) ids → Long x d → High x n d → length ids < n
-      → (b : ℕ) → IsThere (restamped_all x ids 0 d).rows b → stamp_of (restamped_all x ids 0 d).rows x b ≢ length ids
-  next_free ids n d all long high l b there same =
-      elim (given_all ids 0 d all long b) [
-        | inl given ↦ absurd (omega (arith, given, same))
+  -- where no row has one of the stamps that are given, the one before the first that was given is free
+  pub next_free : (ids : List ℕ) (k n : ℕ) (d : Data) → AllByRecursion (IsThere d.rows) ids → Long x d → High x n d → k < n
+      → (b : ℕ) → IsThere (restamped_all x ids (suc k) d).rows b → stamp_of (restamped_all x ids (suc k) d).rows x b ≢ k
+  next_free ids k n d all long high l b there same =
+      elim (given_all ids (suc k) d all long b) [
+        | inl given ↦ let low = given.0 in absurd (omega (arith, low, same))
         | inr own ↦
-            let h = high b (there_by_rows d (restamped_all x ids 0 d) (same_all ids 0 d all).rows b there) in
+            let h = high b (there_by_rows d (restamped_all x ids (suc k) d) (same_all ids (suc k) d all).rows b there) in
             let g = own.1 in absurd (omega (arith, h, g, same, l))
       ]
 
@@ -225,7 +238,7 @@ module _ (x : ℕ) where
   all_low ids d each long b there =
       let all = each_there d ids each in
       elim (given_all ids 0 d all long b) [
-        | inl given ↦ omega (arith, given)
+        | inl given ↦ let l = given.1 in omega (arith, l)
         | inr own ↦
             let was = there_by_rows d (restamped_all x ids 0 d) (same_all ids 0 d all).rows b there in
             let n : times b ids ≡ 1 = each b ∙ ap (λ t. cond {A = ℕ} t 1 0) (has_there d b was) in
@@ -426,45 +439,46 @@ rise_more a n (r ∷ rows) l up = (let f = up.0 in omega (arith, f, l), up.1, ri
 
 -- As far as a loop over the ids has come
 
-all_take : (P : ℕ → Type 0) (k : ℕ) (ids : List ℕ) → AllByRecursion P ids → AllByRecursion P (take k ids)
-all_take P zero ids all = tt
-all_take P (suc k) [] all = tt
-all_take P (suc k) (e ∷ ids) all = (all.0, all_take P k ids all.1)
-
 all_at : (P : ℕ → Type 0) (k : ℕ) (ids : List ℕ) → k < length ids → AllByRecursion P ids → P (get_or ids k 0)
 all_at P k [] l all = absurd (omega arith)
 all_at P zero (e ∷ ids) l all = all.0
 all_at P (suc k) (e ∷ ids) l all = all_at P k ids (omega arith) all.1
 
+all_drop : (P : ℕ → Type 0) (k : ℕ) (ids : List ℕ) → AllByRecursion P ids → AllByRecursion P (drop k ids)
+all_drop P zero ids all = all
+all_drop P (suc k) [] all = tt
+all_drop P (suc k) (e ∷ ids) all = all_drop P k ids all.1
+
+drop_at : (k : ℕ) (ids : List ℕ) → k < length ids → drop k ids ≡ get_or ids k 0 ∷ drop (suc k) ids
+drop_at k [] l = absurd (omega arith)
+drop_at zero (e ∷ ids) l = refl
+drop_at (suc k) (e ∷ ids) l = drop_at k ids (omega arith)
+
 module _ (x : ℕ) (ids : List ℕ) (d : Data) (each : ListsEach (as_table d) ids) (k : ℕ) (few : k < length ids) where
-  there_so_far : AllByRecursion (IsThere d.rows) (take k ids)
-  there_so_far = all_take (IsThere d.rows) k ids (each_there d ids each)
+  there_behind : AllByRecursion (IsThere d.rows) (drop (suc k) ids)
+  there_behind = all_drop (IsThere d.rows) (suc k) ids (each_there d ids each)
 
   id_there : (n : Data) → map plain_row n.rows ≡ map plain_row d.rows → IsThere n.rows (get_or ids k 0)
   id_there n same = there_has n (get_or ids k 0)
       (has_by_rows d n same (get_or ids k 0) ∙ has_there d (get_or ids k 0) (all_at (IsThere d.rows) k ids few (each_there d ids each)))
 
-  long_take : length (take k ids) ≡ k
-  long_take = length-take-le k ids (omega (arith, few))
+  module _ (p : ℕ) (behind : p ≡ suc k) (n : Data) (now : n ≡ restamped_all x (drop p ids) p d) where
+    stands : n ≡ restamped_all x (drop (suc k) ids) (suc k) d
+    stands = now ∙ ap (λ q. restamped_all x (drop q ids) q d) behind
 
-  module _ (n : Data) (is : n ≡ restamped_all x (take k ids) 0 d) where
     pub same_so_far : SameBut x d n
-    same_so_far = subst (SameBut x d) (sym is) (same_all x (take k ids) 0 d there_so_far)
+    same_so_far = subst (SameBut x d) (sym stands) (same_all x (drop (suc k) ids) (suc k) d there_behind)
 
     pub id_stays : IsThere n.rows (get_or ids k 0)
     id_stays = id_there n same_so_far.rows
 
     pub free_so_far : Long x d → High x (length ids) d → (b : ℕ) → IsThere n.rows b → stamp_of n.rows x b ≢ k
     free_so_far long high b there same =
-        next_free x (take k ids) (length ids) d there_so_far long high (let l = long_take in omega (arith, l, few)) b
-        (subst (λ (q : Data). IsThere q.rows b) is there) (ap (λ (q : Data). stamp_of q.rows x b) (sym is) ∙ same ∙ sym long_take)
+        next_free x (drop (suc k) ids) k (length ids) d there_behind long high few b
+        (subst (λ (q : Data). IsThere q.rows b) stands there) (ap (λ (q : Data). stamp_of q.rows x b) (sym stands) ∙ same)
 
-    pub restamped_next : (o : Data) → o ≡ restamped_in x (get_or ids k 0) k n → o ≡ restamped_all x (take (k + 1) ids) 0 d
-    restamped_next o h =
-        let l = long_take in
-        let at : k ≡ 0 + length (take k ids) = omega (arith, l) in
-        h ∙ (λ i. restamped_in x (get_or ids k 0) (at i) (is i)) ∙ sym (restamped_more x (take k ids) (get_or ids k 0) 0 d)
-        ∙ ap (λ q. restamped_all x q 0 d) (sym (take_more ids k 0 few))
+    pub restamped_next : (o : Data) → o ≡ restamped_in x (get_or ids k 0) k n → o ≡ restamped_all x (drop k ids) k d
+    restamped_next o h = h ∙ ap (restamped_in x (get_or ids k 0) k) stands ∙ ap (λ q. restamped_all x q k d) (sym (drop_at k ids few))
 
   module _ (l : x < length d.orders) (n : Data) (is : n ≡ moved_all x (take k ids) d) where
     pub moved_so_far : SameBut x d n

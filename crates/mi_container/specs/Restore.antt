@@ -44,7 +44,7 @@ restamped_in x e a d = record d { rows = with_content e (with_stamp x a (content
 -- the rows of these ids have stamps from a on
 abbrev pub restamped_all : ℕ → List ℕ → ℕ → Data → Data
 restamped_all x [] a d = d
-restamped_all x (e ∷ ids) a d = restamped_all x ids (suc a) (restamped_in x e a d)
+restamped_all x (e ∷ ids) a d = restamped_in x e a (restamped_all x ids (suc a) d)
 
 -- each goes to the end
 abbrev pub moved_all : ℕ → List ℕ → Data → Data

@@ -94,7 +94,8 @@ impl MultiIndex {
         }
     }
 
-    /// Gives the rows of these ids rising stamps in an index that has stamps, from 0 on. Takes no memory.
+    /// Gives the rows of these ids rising stamps in an index that has stamps, from 0 on. The last one gets its stamp first, so each one
+    /// goes to the front of those of its key, where it is looked for at once. Takes no memory.
     fn restamp_rows(&mut self, index: usize, ids: &[u64], marks: &[bool])
         requires index { index < length self.old.plain.orders }
         requires each { ListsEach (as_table self.old.plain) ids.now }
@@ -107,7 +108,7 @@ impl MultiIndex {
         ensures secrets { self.new.secrets ≡ self.old.secrets }
     {
         self.keeps_rules();
-        for place in 0..ids.len() {
+        for place in (0..ids.len()).rev() {
             self.restamp_id(index, ids[place], place as u64, marks);
         }
     }

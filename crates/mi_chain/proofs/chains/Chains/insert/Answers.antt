@@ -8,10 +8,10 @@ use Rattle.mi_chain.specs.Chained.{AreChained, AreTagged, IsPlaced}
 use Rattle.mi_chain.specs.Keying.{same_nodes, stamp_at, hash_node}
 use Rattle.mi_chain.specs.Heads.{heads_joined}
 use Rattle.mi_chain.specs.Groups.{members, IsChain}
-use Rattle.mi_chain.specs.Places.{Found, IsFound, IsGap}
+use Rattle.mi_chain.specs.Places.{Found, IsFound, IsCut, IsGap}
 use Rattle.mi_chain.proofs.KeyingLemmas.{hash_is}
 use Rattle.mi_chain.proofs.CallLemmas.{Group, held_or, group_at, gap_ends, here, groups_at, chain_here}
-use Rattle.mi_chain.proofs.CallLemmas.{tags_here, few_groups, none_left, spot_of_gap, inserted_new, inserted_old, tags_put}
+use Rattle.mi_chain.proofs.CallLemmas.{tags_here, few_groups, none_left, cut_at, spot_of_gap, inserted_new, inserted_old, tags_put}
 use Rattle.mi_chain.proofs.chains.Chains.insert.Goals.{After-bucket-bucket, After-head-head, In-Some, After-gap_for-gap, After-begin_group, After-put}
 use Rattle.mi_chain.proofs.chains.Chains.insert.Given.{Over}
 use Rattle.mi_chain.proofs.chains.Chains.insert.Goals as goal
@@ -70,11 +70,21 @@ module _ (g : Over) (c : In-Some g)
       group_at m c.args.self.now.slot c.head-head.result _ (same_nodes k m c.args.node) c.group_of-place.result.before c.in-Some.first
       chain_searched group_found
 
+-- its nodes with a lower stamp stand first
+module _ (g : Over) (c : In-Some g)
+    (bucket : c.bucket-bucket.result ≡ hash_node (g.H.KeyHash.keying c.args.self.now.keys) c.args.p.now c.args.node % vec_len c.args.self.now.buckets)
+    (xs ys : List Ref) (h : AreChained c.args.self.now (g.H.KeyHash.keying c.args.self.now.keys) c.args.p.now (xs ++ ys))
+    (p : IsPlaced (g.H.KeyHash.keying c.args.self.now.keys) c.args.p.now c.args.self.now.slot c.args.node c.args.stamp xs ys) where
+  cut_found : IsCut (stamp_at c.args.p.now c.args.self.now.slot) c.args.stamp (group_found g c bucket (xs ++ ys) h).group
+  cut_found = cut_at c.args.self.now (g.H.KeyHash.keying c.args.self.now.keys) (g.met.H.KeyHash.lawful c.args.self.now.keys) c.args.p.now
+      xs c.args.node ys c.args.stamp h p c.group_of-place.result.before c.in-Some.first (group_found g c bucket (xs ++ ys) h)
+
 -- the gap in the group where the stamp goes
 module _ (g : Over) (c : After-gap_for-gap g) (nodes : List Ref)
-    (group : Group c.args.p.now c.args.self.now.slot c.group_of-place.result.before c.in-Some.first nodes) where
+    (group : Group c.args.p.now c.args.self.now.slot c.group_of-place.result.before c.in-Some.first nodes)
+    (cut : IsCut (stamp_at c.args.p.now c.args.self.now.slot) c.args.stamp nodes) where
   gap_found : IsGap (stamp_at c.args.p.now c.args.self.now.slot) c.args.stamp nodes c.gap_for-gap.result.prev c.gap_for-gap.result.next
-  gap_found = c.gap_for-gap.ensures nodes group.rest group.linked group.apart group.first_is
+  gap_found = c.gap_for-gap.ensures nodes group.rest group.linked group.apart group.first_is cut
 
   ends_held : IsHeldIf c.args.p.now c.gap_for-gap.result.prev × IsHeldIf c.args.p.now c.gap_for-gap.result.next
   ends_held = gap_ends c.args.p.now (stamp_at c.args.p.now c.args.self.now.slot) c.args.stamp nodes c.gap_for-gap.result.prev
@@ -111,7 +121,8 @@ link-link-requires-clause-held g c =
 pub after-follower-requires-clause-held : goal.after-follower-requires-clause-held
 after-follower-requires-clause-held g c =
     let o = goal.at.after-follower-requires-clause-held g c in let bucket = bucket_found g o.After-bucket-bucket in
-    (ends_held g o.After-gap_for-gap _ (group_stands g o.In-Some bucket _ c.requires.2)).0
+    (ends_held g o.After-gap_for-gap _ (group_stands g o.In-Some bucket _ c.requires.2)
+    (cut_found g o.In-Some bucket c.requires.0 c.requires.1 c.requires.2 c.requires.3)).0
 
 pub put-requires-clause-bucket : goal.put-requires-clause-bucket
 put-requires-clause-bucket g c = bucket_inside g (goal.at.put-requires-clause-bucket g c).After-bucket-bucket
@@ -120,7 +131,7 @@ pub put-requires-clause-held : goal.put-requires-clause-held
 put-requires-clause-held g c =
     let o = goal.at.put-requires-clause-held g c in let bucket = bucket_found g o.After-bucket-bucket in
     let group = group_stands g o.In-Some bucket _ c.requires.2 in
-    let m = c.args.p.now in let ends = ends_held g o.After-gap_for-gap _ group in (
+    let m = c.args.p.now in let ends = ends_held g o.After-gap_for-gap _ group (cut_found g o.In-Some bucket c.requires.0 c.requires.1 c.requires.2 c.requires.3) in (
       subst (IsHeldIf m) (sym c.or-left.ensures) (held_or m c.gap_for-gap.result.prev c.group_of-place.result.before ends.0 group.before_held),
       subst
           (IsHeldIf m) (sym c.or-right.ensures) (held_or m c.gap_for-gap.result.next (Some c.in-Some.first) ends.1 group.first_held),
@@ -198,12 +209,12 @@ module _ (g : Over) (c : After-put g) (hash : c.hash-hash.result ≡ hash_node (
 
 pub returns-in-Some-clause-list : goal.returns-in-Some-clause-list
 returns-in-Some-clause-list g c xs ys h p = let o = goal.at.returns-in-Some-clause-list g c in
-    let b = o.After-bucket-bucket in let bucket = bucket_found g b in let gap = gap_found g o.After-gap_for-gap _ (group_stands g o.In-Some bucket _ h) in
+    let b = o.After-bucket-bucket in let bucket = bucket_found g b in let gap = gap_found g o.After-gap_for-gap _ (group_stands g o.In-Some bucket _ h) (cut_found g o.In-Some bucket xs ys h p) in
     (joined_in g o.After-put (hash_found g b) bucket xs ys h p (group_found g o.In-Some bucket _ h) gap).0
 
 pub returns-in-Some-clause-keeps : goal.returns-in-Some-clause-keeps
 returns-in-Some-clause-keeps g c xs ys h p = let o = goal.at.returns-in-Some-clause-keeps g c in
-    let b = o.After-bucket-bucket in let bucket = bucket_found g b in let gap = gap_found g o.After-gap_for-gap _ (group_stands g o.In-Some bucket _ h) in
+    let b = o.After-bucket-bucket in let bucket = bucket_found g b in let gap = gap_found g o.After-gap_for-gap _ (group_stands g o.In-Some bucket _ h) (cut_found g o.In-Some bucket xs ys h p) in
     (joined_in g o.After-put (hash_found g b) bucket xs ys h p (group_found g o.In-Some bucket _ h) gap).1
 
 pub returns-in-Some-clause-tags : goal.returns-in-Some-clause-tags
