@@ -7,8 +7,9 @@ whether each file of lemmas or laws says who cites it; and whether `docs/DEFINIT
 
 A source file of a crate (`crates/*/src/**/*.rt`) opens with `//!`. The files `crates/*/proofs/*.antt`, but for `Lib.antt`, and
 `crates/*/proofs/**/Answers.antt` open with a line `-- ..`. The last line of the head of the former is `-- Cited by ..`: functions, lemmas and
-definitions of its crate, five at most, and other crates. A file of definitions (`crates/*/specs/X.antt`, but for those of tests) stands in
-the document as `X` in backquotes, by its crate; and what stands there so is a file. Each that lacks this is named on a line of its own; the
+definitions of its crate, five at most, and other crates, of which some may be left out. A file of definitions (`crates/*/specs/X.antt`, but for
+those of tests) stands in the document as `X` in backquotes, by its crate, or as `crate/X`; and what stands there so is a file. Each that lacks
+this is named on a line of its own; the
 status is 1 then, else 0. Without folders all crates are looked at. Where a folder has no such file the status is 2."""
 import os
 import re
@@ -82,6 +83,14 @@ def found_file(crates, crate, lemmas):
     return os.path.join(crates, crate, "proofs", f"{lemmas}.antt")
 
 
+def told_in(text, crate, citing):
+    """Those of the citing that a file's head is to tell: all of its own crate, and those of the other crates that it names, one at least. A crate
+    may be left out, since its name in the head has every crate above proved again."""
+    line = next((it for it in text.split("\n") if CITED.match(it)), "")
+    named = {(of, name) for of, name in citing if of == crate or f"`{of}`" in line}
+    return named or citing
+
+
 def cited_line(crate, citing):
     """The line of a head that says who cites it, with as many names as it has room for."""
     own = sorted({name for of, name in citing if of == crate}, key=lambda it: ("::" not in it, it))
@@ -113,14 +122,14 @@ def uncited(crates, mend):
         file = found_file(crates, crate, lemmas)
         with open(file, encoding="utf-8") as it:
             text = it.read()
-        wanted = with_cited(text, cited_line(crate, citing))
+        wanted = with_cited(text, cited_line(crate, told_in(text, crate, citing)))
         if not citing:
             unused.append(file)
         if wanted != text:
             wrong.append(file)
             if mend:
                 with open(file, "w", encoding="utf-8") as it:
-                    it.write(wanted)
+                    it.write(with_cited(text, cited_line(crate, citing)))
     return wrong, unused
 
 
@@ -143,6 +152,7 @@ def named_in(text, crates):
         words = CODE.findall(line.split("|")[1] if is_row else line)
         here = [it.partition("/")[0] for it in words if it.partition("/")[0] in crates]
         wanted += [(it, here or above if is_row else here) for it in words if NAME.match(it)]
+        wanted += [(name, [crate]) for crate, _, name in (it.partition("/") for it in words) if crate in crates and NAME.match(name)]
         if is_row:
             named |= {(crate, it) for crate in here or above for it in words}
             continue

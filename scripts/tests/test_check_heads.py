@@ -51,6 +51,17 @@ class Heads(unittest.TestCase):
         status, said = self.said(**{"crates/mi_one/proofs/one/Answers.antt": "-- What it proves.\n"})
         self.assertEqual((status, said), (1, f"{told}{lemmas}: nobody cites it\n"))
 
+    def test_crates_above(self):
+        """A crate that cites it may be left out where something else is named, and one that doesn't may not be named."""
+        lemmas, above = "crates/mi_one/proofs/OneLemmas.antt", "crates/mi_two/proofs/two/Answers.antt"
+        cites = {above: "-- Two.\nuse Rattle.mi_one.proofs.OneLemmas.{it}\n"}
+        self.assertEqual(self.said(**cites), (0, ""))
+        self.assertEqual(self.said(**cites, **{lemmas: "-- What it proves.\n-- Cited by `one` and `mi_two`.\n"}), (0, ""))
+        told = f"{lemmas}: its head doesn't say who cites it; `check_heads.py --mend` writes it\n"
+        self.assertEqual(self.said(**cites, **{lemmas: "-- What it proves.\n-- Cited by `one` and `mi_three`.\n"}), (1, told))
+        alone = {**cites, "crates/mi_one/proofs/one/Answers.antt": "-- What it proves.\n", lemmas: "-- What it proves.\n-- Nobody cites it.\n"}
+        self.assertEqual(self.said(**alone), (1, told))
+
     def test_lines_of_who_cites(self):
         some = {("mi_one", "a::one"), ("mi_one", "TwoLemmas"), ("mi_two", "b::two")}
         self.assertEqual(check_heads.cited_line("mi_one", some), "-- Cited by `a::one`, `TwoLemmas` and `mi_two`.")
@@ -65,6 +76,11 @@ class Heads(unittest.TestCase):
 
     def test_a_name_of_no_file(self):
         status, said = self.said(**{"docs/DEFINITIONS.md": WELL["docs/DEFINITIONS.md"] + "| `Form` | its form |\n"})
+        self.assertEqual((status, said), (1, "docs/DEFINITIONS.md: names Form, which isn't in the definitions of mi_one\n"))
+
+    def test_names_behind_their_crate(self):
+        self.assertEqual(self.said(**{"docs/DEFINITIONS.md": "- `mi_one/Shape`: its shape\n"}), (0, ""))
+        status, said = self.said(**{"docs/DEFINITIONS.md": "- `mi_one/Shape`: its shape\n- `mi_one/Form`: its form\n"})
         self.assertEqual((status, said), (1, "docs/DEFINITIONS.md: names Form, which isn't in the definitions of mi_one\n"))
 
 
