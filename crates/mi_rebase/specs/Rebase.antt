@@ -1,14 +1,16 @@
--- A journal's base is made anew: behind segment 3, which is closed, stand the tables, and segment 4 begins. Or a journal begins with a base.
-use Rattle.std.specs.Prelude.{◌≡◌, ◌+◌, ◌∷◌, ◌++◌, [], true, ℕ, List, Option, Some, None, IfSome}
+-- A journal's base is made anew. Segment 3 is closed, and segment 4 begins. The base stands there; where a session is open it stands in front of its
+-- start, in segment 3. Or a journal begins with a base.
+use Rattle.std.specs.Prelude.{◌≡◌, ◌+◌, ◌<◌, ◌∷◌, ◌++◌, [], true, ℕ, List, Option, Some, None, IfSome}
 use Rattle.std.specs.String.{string_bytes}
 use Rattle.std.specs.Io.KnownBytes.{Keeps}
 use Rattle.mi_model.specs.Table.{Table}
-use Rattle.mi_model.specs.Database.{Database, depth}
+use Rattle.mi_model.specs.Database.{Database}
 use Rattle.mi_commands.specs.Holder.{HeldDatabase}
 use Rattle.mi_base.specs.declared.heading.Heading.{Heading}
 use Rattle.mi_base.specs.Base.{base_text}
 use Rattle.mi_rebase.specs.Images.{AreImagesOf}
-use Rattle.mi_recovery.specs.declared.asking.Asked.{Asked}
+use Rattle.mi_front.specs.declared.front.Front.{Front}
+use Rattle.mi_front.specs.Front.{IsFront}
 use Rattle.mi_recovery.specs.declared.device.JournalDevice.{JournalDevice}
 use Rattle.mi_recovery.specs.declared.device.Keeping.TheVariants.{Synced}
 use Rattle.mi_recovery.specs.declared.place.JournalSchema.{JournalSchema}
@@ -18,7 +20,7 @@ use Rattle.mi_recovery.specs.Device.{told_of, is_staying}
 use Rattle.mi_recovery.specs.JournalFile.{text_of}
 use Rattle.mi_recovery.specs.Names.{new_base_name}
 use Rattle.mi_recovery.specs.Recovery.{Has, kept_bytes}
-use Rattle.mi_recovery.specs.Segments.{IsAskedBehind, IsNext, IsStart, hash_of}
+use Rattle.mi_recovery.specs.Segments.{IsNext, IsStart, hash_of}
 
 -- what the first line of a base says that stands at a place, where the database has this revision
 pub record IsHeadingAt (schema : JournalSchema) (revision : ℕ) (place : Place) (heading : Heading) : Type 0 where
@@ -39,20 +41,37 @@ pub record IsWritten {F : Type 0} (is_seen : List ℕ → F → Type 0) (content
   pub written : IfSome (contents before) (λ _. contents after ≡ Some (base_text heading d.catalog images))
   pub stay : Keeps (contents after) (stays after)
 
--- From old, which stands at a position of a journal, its base is made anew: the lines behind are asked, no session is open then, and the base of
--- what they leave was written to the file of a base that isn't whole yet. Its heading names the segment behind the newest. Where that file goes isn't said.
+-- a segment of the journal was there
+abbrev pub HasSegment : (ℕ → Type 0) → Type 0
+HasSegment is_newest = (number : ℕ) × is_newest number × (0 < number)
+
+-- A base stands where the next segment begins where no line is left behind the front. Else it stands in the newest, at the front's place.
+abbrev pub IsWithin : ℕ → Option Place → Option Place → Type 0
+IsWithin left place None = left ≡ 0
+IsWithin left place (Some within) = (0 < left) × (place ≡ Some within)
+
+-- the place of a base, by that in the newest segment and the next one's
+abbrev pub base_place : Option Place → Place → Place
+base_place None next = next
+base_place (Some place) next = place
+
+-- From old, which stands at a position of a journal of which a segment was there, its base is made anew: the lines behind are asked, and new is the base
+-- that may stand among them. That was written to the file of a base that isn't whole yet. Its heading names where it stands. Where that file goes isn't
+-- said.
 pub record IsRebased {F : Type 0} (is_locked : F → Type 0) (is_seen : List ℕ → F → Type 0) (is_newest : ℕ → Type 0) (contents stays : F → Option (List ℕ))
     (path : List ℕ) (schema : JournalSchema) (position : Option Position) (old : HeldDatabase) : Type 0 where
-  pub asked : Asked F
+  pub there : HasSegment is_newest
+  pub front : Front F
   pub new : HeldDatabase
+  pub within : Option Place
   pub next : Place
   pub heading : Heading
-  pub behind : IsAskedBehind is_locked is_seen is_newest contents path schema position old asked new
-  pub settled : depth new.database ≡ 0
-  pub number : next.number ≡ asked.place.number + 1
-  pub closes : IfSome (contents asked.file) (λ bytes. IsNext schema asked.place
-      (text_of (kept_bytes (string_bytes asked.place.header) (text_of bytes) asked.found)) next)
-  pub stands : IsHeadingAt schema new.database.revision next heading
+  pub asked : IsFront is_locked is_seen is_newest contents path schema position old front new
+  pub stands : IsWithin front.left front.place within
+  pub number : next.number ≡ front.asked.place.number + 1
+  pub closes : IfSome (contents front.asked.file) (λ bytes. IsNext schema front.asked.place
+      (text_of (kept_bytes (string_bytes front.asked.place.header) (text_of bytes) front.asked.found)) next)
+  pub at : IsHeadingAt schema new.database.revision (base_place within next) heading
   pub is : IsWritten is_seen contents stays path heading new.database
 
 -- A segment was made that stands at a place, and this process alone had its file. It has the place's header and a newline, and no more, which stays.

@@ -6,7 +6,7 @@ ghost use Rattle.mi_recovery.specs.Segments.{IsStart};
 ghost use Rattle.mi_rebase.specs.Rebase.{IsHeadingAt, IsWritten, IsMade, IsBegun};
 
 use crate::images::Imaged;
-use crate::writing::{heading_at, put_in_place, write_new};
+use crate::writing::{put_in_place, write_at};
 use mi_recovery::{
     JournalFailure, JournalFault, JournalFile, JournalFiles, JournalSchema, Place, first_place,
     next_segment,
@@ -50,12 +50,8 @@ fn put_base<P: JournalFiles, D: Imaged>(
     ensures { OnOk result ((heading : Heading) × IsHeadingAt schema.now (D.state database.now).revision place.now heading
         × IsWritten (P.is_seen files.now) P.File.contents P.File.stays path.now heading (D.state database.now)) }
 {
-    let Ok(heading) = heading_at(alloc, schema, database.revision(), place) else {
-        return Err(JournalFault::from(JournalFailure::Memory));
-    };
-    write_new(alloc, files, path, database, &heading)?;
-    put_in_place(alloc, files, path)?;
-    Ok(())
+    write_at(alloc, files, path, schema, place, database)?;
+    put_in_place(alloc, files, path)
 }
 
 /// Makes the segment that stands at a place, with its header and no line, which stay.

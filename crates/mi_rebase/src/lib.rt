@@ -1,4 +1,4 @@
-//! The base of a journal: read at a start, made anew behind the journal's end, and written in front of a new journal. It opens files, and knows a
+//! The base of a journal: read at a start, made anew in front of what is open at the journal's end, and written in front of a new journal. It opens files, and knows a
 //! database by the hub alone, or by what it gives images of.
 #![tactic(auto)]
 

@@ -1,22 +1,22 @@
-//! A base, made anew: a journal is asked to its end, its tables are written, the next segment is begun, and what the base has is taken away. The
-//! order of these steps is to let a start give the same tables wherever they end; no clause says so. It looks at no line.
+//! A base, made anew: a journal is asked to its end, its tables are written as they stood in front of what is open there, and what the base has is
+//! taken away. The order of these steps is to let a start give the same tables wherever they end; no clause says so. It looks at no line.
 ghost use Rattle.std.specs.Prelude.{◌≡◌, ◌+◌, [], length, true, option_map, OnOk, IfOk, IfSome};
 ghost use Rattle.std.specs.String.{string_bytes};
-ghost use Rattle.mi_base.specs.declared.heading.Heading.{Heading};
 ghost use Rattle.mi_recovery.specs.JournalFile.{text_of};
 ghost use Rattle.mi_recovery.specs.Recovery.{IsFound, kept_bytes};
 ghost use Rattle.mi_recovery.specs.Segments.{IsNext};
-ghost use Rattle.mi_rebase.specs.Rebase.{IsHeadingAt, IsWritten, IsRebased};
+ghost use Rattle.mi_rebase.specs.Rebase.{IsWithin, base_place, IsRebased};
 
 use crate::closing::{closed, place_behind};
 use crate::images::Imaged;
-use crate::settling::settled;
-use crate::writing::{heading_at, put_in_place, write_new};
+use crate::settling::check_there;
+use crate::writing::{keep_names, put_in_place, write_at};
+use mi_front::{Front, ask_front};
 use mi_hub::Hub;
 use mi_log::DeviceLog;
 use mi_recovery::{
-    Asked, JournalDevice, JournalFailure, JournalFault, JournalFile, JournalFiles, JournalSchema,
-    Place, Position, next_segment, segment_path,
+    JournalDevice, JournalFailure, JournalFault, JournalFile, JournalFiles, JournalSchema, Place,
+    Position, next_segment, segment_path,
 };
 use mi_sessions::Sessions;
 use std::alloc::Global;
@@ -68,14 +68,17 @@ fn first_there<P: JournalFiles>(
     Ok(1)
 }
 
-/// Takes away the segments up to this one, the oldest first: so those that are left stand without a gap, and a later rebase finds them. No clause
-/// says which files go.
+/// Takes away the segments up to this one that are there without a gap, the oldest first: so those that are left stand without a gap, and a later rebase
+/// finds them. No clause says which files go.
 fn remove_up_to<P: JournalFiles>(
     alloc: Global,
     files: &P,
     path: &str,
     last: u64,
 ) -> Result<(), JournalFault> {
+    if last == 0 || !is_there(alloc, files, path, last)? {
+        return Ok(());
+    }
     let first = first_there(alloc, files, path, last)?;
     for number in first..last {
         remove(alloc, files, path, number)?;
@@ -83,51 +86,86 @@ fn remove_up_to<P: JournalFiles>(
     remove(alloc, files, path, last)
 }
 
-/// The newest segment is closed, and the base of a hub whose journal was asked to its end is written. The answer is where the next segment begins,
-/// and the log of the closed one, which this process has still.
-fn written<P: JournalFiles, D: Imaged + Drop>(
+/// Where a base is to stand.
+#[derive(Drop)]
+struct Stand<F> {
+    /// The place in the newest segment. Without one it stands where the next begins.
+    within: Option<Place>,
+    /// Where the next segment begins.
+    next: Place,
+    /// The log of the newest segment, which this process has still.
+    newest: DeviceLog<JournalDevice<F>>,
+}
+
+impl<F> Stand<F> {
+    /// The place of the base.
+    fn place(&self) -> &Place
+        ensures { result.now ≡ base_place self.now.within self.now.next }
+    {
+        match &self.within {
+            Some(place) => place,
+            None => &self.next,
+        }
+    }
+}
+
+/// The newest segment is closed. A base stands behind it, or in it, in front of the lines that are left. `Sessions` where the oldest open session began
+/// in a segment before.
+fn stand_of<P: JournalFiles>(
     alloc: Global,
     files: &P,
-    hub: &Hub<D>,
-    path: &str,
     schema: &JournalSchema,
-    asked: Asked<P::File>,
-) -> Result<(Place, DeviceLog<JournalDevice<P::File>>), JournalFault>
-    requires text { IfSome (P.File.contents asked.file) (λ bytes. asked.text ≡ length (text_of bytes)) }
-    requires found { IfSome (P.File.contents asked.file) (λ bytes. IsFound (string_bytes asked.place.header) (text_of bytes) asked.found) }
-    ensures number { IfOk result (λ r. r.0.number ≡ asked.place.number + 1) }
-    ensures closes { IfOk result (λ r. IfSome (P.File.contents asked.file) (λ bytes. IsNext schema.now asked.place
-        (text_of (kept_bytes (string_bytes asked.place.header) (text_of bytes) asked.found)) r.0)) }
-    ensures written { IfOk result (λ r. (heading : Heading) × IsHeadingAt schema.now hub.now.held.database.revision r.0 heading
-        × IsWritten (P.is_seen files.now) P.File.contents P.File.stays path.now heading hub.now.held.database) }
+    front: Front<P::File>,
+) -> Result<Stand<P::File>, JournalFault>
+    requires text { IfSome (P.File.contents front.asked.file) (λ bytes. front.asked.text ≡ length (text_of bytes)) }
+    requires found { IfSome (P.File.contents front.asked.file) (λ bytes. IsFound (string_bytes front.asked.place.header) (text_of bytes) front.asked.found) }
+    ensures within { IfOk result (λ stand. IsWithin front.left front.place stand.within) }
+    ensures number { IfOk result (λ stand. stand.next.number ≡ front.asked.place.number + 1) }
+    ensures closes { IfOk result (λ stand. IfSome (P.File.contents front.asked.file) (λ bytes. IsNext schema.now front.asked.place
+        (text_of (kept_bytes (string_bytes front.asked.place.header) (text_of bytes) front.asked.found)) stand.next)) }
 {
+    let Front { asked, place, left } = front;
+    let Some(place) = place else {
+        return Err(JournalFault::from(JournalFailure::Sessions));
+    };
     let number = asked.place.number;
     let newest = closed(files, asked)?;
     let next = place_behind(alloc, schema, number, &newest)?;
-    let Ok(heading) = heading_at(alloc, schema, hub.database().revision(), &next) else {
-        return Err(JournalFault::from(JournalFailure::Memory));
-    };
-    write_new(alloc, files, path, hub.database(), &heading)?;
-    Ok((next, newest))
+    Ok(Stand {
+        within: if left > 0 { Some(place) } else { None },
+        next,
+        newest,
+    })
 }
 
-/// The next segment is begun, the base that was written takes its place, and the segments in front of that are taken away.
+/// The next segment is begun, and the base that was written takes its place. What is in front of the base is taken away for good.
+///
+/// A base in the newest segment takes its place first: until the next one is begun a later rebase finds the open sessions in the newest.
 fn replaced<P: JournalFiles>(
     alloc: Global,
     files: &P,
     path: &str,
-    next: &Place,
+    stand: &Stand<P::File>,
 ) -> Result<(), JournalFault> {
-    let _begun = next_segment(alloc, files, path, next)?;
-    put_in_place(alloc, files, path)?;
-    remove_up_to(alloc, files, path, next.number.saturating_sub(1))
+    if stand.within.is_some() {
+        put_in_place(alloc, files, path)?;
+    }
+    let _begun = next_segment(alloc, files, path, &stand.next)?;
+    if stand.within.is_none() {
+        put_in_place(alloc, files, path)?;
+    }
+    remove_up_to(alloc, files, path, stand.place().number.saturating_sub(1))?;
+    keep_names(files, path)
 }
 
-/// Makes the base of a path's journal anew, behind all its lines. A hub that stands at the position of the base before, or at the start, is asked
-/// them. Then the base is written and stays, the next segment is begun, the base takes its place, and the segments that it has are taken away.
+/// Makes the base of a path's journal anew, and begins its next segment. A hub that stands at the position of the base before, or at the start, is asked
+/// all lines behind. What the sessions changed that are open at the end is undone in it, and the base has what is left. It stands in front of the oldest
+/// of them, or behind all lines where none is open. The segments in front of it are taken away.
 ///
-/// The faults are those of `settled`, and `Write` where a file isn't written, renamed or made to stay. The clause says what was asked and what was written. It doesn't say that the base took its place, that the
-/// next segment was begun, or what was taken away: no file's path and no removal has a clause.
+/// `File` where no journal is there, or `Segment` where a base names a segment of it. `Sessions` where the oldest open session began in a segment in
+/// front of the newest. The other faults are those of `ask_front`, and `Write` where a file isn't written, renamed or made to stay. The clause says
+/// what was asked and what was written. It doesn't say that the base took its place, that the next segment was begun, or what was taken away: no
+/// file's path and no removal has a clause.
 pub fn rebased<P: JournalFiles, D: Imaged + Drop>(
     alloc: Global,
     files: &P,
@@ -141,7 +179,9 @@ pub fn rebased<P: JournalFiles, D: Imaged + Drop>(
         P.File.stays path.now schema.now (option_map (λ p. p.now) position.entry) hub.held) }
 {
     let mut hub = hub;
-    let asked = settled(alloc, files, &mut hub, path, schema, position)?;
-    let (next, _closed) = written(alloc, files, &hub, path, schema, asked)?;
-    replaced(alloc, files, path, &next)
+    check_there(files, path, position)?;
+    let front = ask_front(alloc, files, &mut hub, path, schema, position)?;
+    let stand = stand_of(alloc, files, schema, front)?;
+    write_at(alloc, files, path, schema, stand.place(), hub.database())?;
+    replaced(alloc, files, path, &stand)
 }

@@ -3,6 +3,7 @@ ghost use Rattle.std.specs.Prelude.{◌≡◌, [], length, Some, map, List, OnOk
 ghost use Rattle.std.specs.Io.KnownBytes.{Appends, Keeps};
 ghost use Rattle.mi_container.specs.Restore.{image_table};
 ghost use Rattle.mi_model.specs.Table.{Table};
+ghost use Rattle.mi_base.specs.declared.heading.Heading.{Heading};
 ghost use Rattle.mi_base.specs.Base.{base_text};
 ghost use Rattle.mi_rebase.specs.Images.{AreImagesOf};
 ghost use Rattle.mi_rebase.specs.Rebase.{IsHeadingAt, IsWritten};
@@ -20,8 +21,8 @@ use sha2::{Digest, Sha256};
 use std::alloc::{AllocError, Global};
 use std::io::{BufWriter, Write};
 
-/// What a base's first line says that stands at a place, behind no line of its segment.
-pub(crate) fn heading_at(
+/// What a base's first line says that stands at a place.
+fn heading_at(
     alloc: Global,
     schema: &JournalSchema,
     revision: u64,
@@ -114,7 +115,7 @@ fn make_stay<F: JournalFile>(file: &mut F) -> Result<(), JournalFault>
 }
 
 /// Writes the base of a database to the file of a base that isn't whole yet, and makes it stay.
-pub(crate) fn write_new<P: JournalFiles, D: Imaged>(
+fn write_new<P: JournalFiles, D: Imaged>(
     alloc: Global,
     files: &P,
     path: &str,
@@ -131,6 +132,33 @@ pub(crate) fn write_new<P: JournalFiles, D: Imaged>(
     make_stay(&mut file)
 }
 
+/// Writes the base of a database that stands at a place to the file of a base that isn't whole yet, and makes it stay.
+pub(crate) fn write_at<P: JournalFiles, D: Imaged>(
+    alloc: Global,
+    files: &P,
+    path: &str,
+    schema: &JournalSchema,
+    place: &Place,
+    database: &D,
+) -> Result<(), JournalFault>
+    ensures { OnOk result ((heading : Heading) × IsHeadingAt schema.now (D.state database.now).revision place.now heading
+        × IsWritten (P.is_seen files.now) P.File.contents P.File.stays path.now heading (D.state database.now)) }
+{
+    let Ok(heading) = heading_at(alloc, schema, database.revision(), place) else {
+        return Err(JournalFault::from(JournalFailure::Memory));
+    };
+    write_new(alloc, files, path, database, &heading)?;
+    Ok(())
+}
+
+/// What was named, renamed or taken away in the folder of a path stays so. `Write` where that fails.
+pub(crate) fn keep_names<P: JournalFiles>(files: &P, path: &str) -> Result<(), JournalFault> {
+    match files.keep_name(path) {
+        Ok(()) => Ok(()),
+        Err(error) => Err(JournalFault::of(JournalFailure::Write, error)),
+    }
+}
+
 /// The base that was written takes the place of the one before, and its name stays. No clause says either.
 pub(crate) fn put_in_place<P: JournalFiles>(
     alloc: Global,
@@ -143,8 +171,5 @@ pub(crate) fn put_in_place<P: JournalFiles>(
     if let Err(error) = files.rename(from.as_str(), to.as_str()) {
         return Err(JournalFault::of(JournalFailure::Write, error));
     }
-    match files.keep_name(to.as_str()) {
-        Ok(()) => Ok(()),
-        Err(error) => Err(JournalFault::of(JournalFailure::Write, error)),
-    }
+    keep_names(files, to.as_str())
 }

@@ -1,3 +1,3 @@
-mod OpeningLemmas
-mod SegmentLemmas
+pub mod OpeningLemmas
+pub mod SegmentLemmas
 mod HashLemmas

@@ -42,13 +42,13 @@ pub struct Asked<F> {
 
 /// The newest segment of a journal, which this process alone has.
 #[derive(Drop)]
-struct Newest<F> {
+pub struct Newest<F> {
     /// Its number.
-    number: u64,
+    pub number: u64,
     /// The path of its file.
-    path: String,
+    pub path: String,
     /// Its file.
-    file: F,
+    pub file: F,
 }
 
 /// The number of the newest segment of a path's journal, or 0. `File` where the folder can't be read.
@@ -62,8 +62,8 @@ fn newest_number<P: JournalFiles>(files: &P, path: &str) -> Result<u64, JournalF
 }
 
 /// Claims the newest segment of a path's journal; the first is made where none is there. `Locked` where another process has it, or has begun
-/// the next one meanwhile.
-fn claim_newest<P: JournalFiles>(
+/// the next one meanwhile, `File` where a file can't be opened or made.
+pub fn claim_newest<P: JournalFiles>(
     alloc: Global,
     files: &P,
     path: &str,
@@ -144,8 +144,9 @@ fn named_place<P: JournalFiles>(
     Ok(place_at(alloc, position, header)?)
 }
 
-/// Where the lines begin that are asked: in front of segment 1, or behind what a base's position names.
-fn start_place<P: JournalFiles>(
+/// Where the lines begin that are asked: in front of segment 1, or behind what a base's position names. `Base` where that is none of this journal,
+/// `Segment` where its segment isn't there, and `Memory`.
+pub fn start_place<P: JournalFiles>(
     alloc: Global,
     files: &P,
     path: &str,
@@ -163,8 +164,8 @@ fn start_place<P: JournalFiles>(
     named_place(alloc, files, path, position)
 }
 
-/// The replayer comes to a hub that has no connection.
-fn attach_replayer<D: Sessions + Drop>(hub: &mut Hub<D>) -> Result<(), JournalFailure>
+/// The replayer comes to a hub that has no connection. The failure is `Memory`.
+pub fn attach_replayer<D: Sessions + Drop>(hub: &mut Hub<D>) -> Result<(), JournalFailure>
     requires { hub.old.attached ≡ [] }
     ensures attached { OnOk result (hub.new.attached ≡ fresh replayer ∷ []) }
     ensures held { OnOk result (hub.new.held ≡ hub.old.held) }

@@ -72,8 +72,9 @@ fn is_beginning(header: &[u8], bytes: &[u8]) -> bool
     front == bytes
 }
 
-/// Reads the first line, which is to be the header, and answers whether there is one: else there is no more than a beginning of it.
-pub(crate) fn read_heading<R: BufRead>(
+/// Reads the first line, which is to be the header, and answers whether there is one: else there is no more than a beginning of it. `Schema` where it
+/// is another journal's header, `Line` where it is none, `File` where it can't be read.
+pub fn read_heading<R: BufRead>(
     lines: &mut LogLines<R>,
     header: &[u8],
 ) -> Result<bool, JournalFailure>

@@ -37,8 +37,8 @@ fn next_line<R: BufRead>(lines: &mut LogLines<R>) -> Result<(), JournalFailure>
     }
 }
 
-/// Reads so many whole lines, and asks none. `Line` where there are fewer.
-fn pass_over<R: BufRead>(lines: &mut LogLines<R>, count: u64) -> Result<(), JournalFailure>
+/// Reads so many whole lines, and asks none. `Line` where there are fewer, `File` where they can't be read.
+pub fn pass_over<R: BufRead>(lines: &mut LogLines<R>, count: u64) -> Result<(), JournalFailure>
     ensures passed { OnOk result (HasPassed count (R.remaining (reader_of lines.old)) (R.remaining (reader_of lines.new))) }
     ensures fails { IfErr result (λ failure. ends_replay failure ≡ true) }
 {
@@ -163,7 +163,7 @@ pub fn next_place<F: JournalFile>(
 }
 
 /// The file of a journal's segment. `Segment` where it isn't there, `File` where it can't be opened.
-pub(crate) fn segment_file<P: JournalFiles>(
+pub fn segment_file<P: JournalFiles>(
     alloc: Global,
     files: &P,
     path: &str,

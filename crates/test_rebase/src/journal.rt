@@ -14,7 +14,7 @@ use mi_multi::MultiIndex;
 use mi_rebase::{Base, base_of, rebased};
 use mi_recovery::{
     JournalFailure, JournalFault, JournalFiles, JournalSchema, Keeping, Position, fingerprint,
-    opened_behind,
+    next_place, next_segment, opened_behind, segment_file, text_size,
 };
 use mi_sessions::Sessions;
 use std::alloc::{AllocError, Global};
@@ -154,6 +154,19 @@ pub(crate) fn rebase<P: JournalFiles>(
 ) -> Result<(), Refused> {
     let (hub, position) = begun(alloc, files, known)?;
     rebased(alloc, files, hub, PATH, &known.schema, position.as_ref())?;
+    Ok(())
+}
+
+/// Begins the second segment behind the first, whatever is open there.
+pub(crate) fn begin_next<P: JournalFiles>(
+    alloc: Global,
+    files: &P,
+    known: &Known,
+) -> Result<(), Refused> {
+    let file = segment_file(alloc, files, PATH, 1)?;
+    let text = text_size(&file)?;
+    let next = next_place(alloc, &known.schema, 1, &file, text)?;
+    let _log = next_segment(alloc, files, PATH, &next)?;
     Ok(())
 }
 

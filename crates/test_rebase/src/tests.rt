@@ -1,6 +1,6 @@
 //! A rebase that ends at any of its calls, and journals and bases that are refused. What is replied is worked out by hand.
 use crate::folder::{Folder, FolderFiles, Names};
-use crate::journal::{Known, asked, rebase};
+use crate::journal::{Known, asked, begin_next, rebase};
 use mi_catalog::{Catalog, built_in};
 use mi_schema::read_catalog;
 use std::alloc::{AllocError, Global};
@@ -71,6 +71,25 @@ const SECOND_REPLIES: &[u8] = b"{\"ok\":true,\"revision\":1}
 {\"ok\":true}
 ";
 
+/// Behind the others: a session is open, in which a record comes and one moves.
+const OPEN: &[u8] = b"{\"cmd\":\"start\"}
+{\"cmd\":\"insert\",\"row\":{\"owner\":\"ivy\",\"balance\":50,\"vip\":true}}
+{\"cmd\":\"modify\",\"id\":3,\"set\":{\"balance\":8}}
+";
+
+const OPEN_REPLIES: &[u8] = b"{\"ok\":true,\"revision\":2}
+{\"id\":7,\"ok\":true}
+{\"ok\":true}
+";
+
+const PUSH: &[u8] = b"{\"cmd\":\"push\"}\n";
+
+const PUSH_REPLY: &[u8] = b"{\"ok\":true,\"pushed\":1}\n";
+
+const UNDO: &[u8] = b"{\"cmd\":\"undo\"}\n";
+
+const UNDO_REPLY: &[u8] = b"{\"ok\":true,\"revision\":1}\n";
+
 /// Each index is looked up, and the counters; what is changed is undone.
 const LOOK_UPS: &[u8] = b"{\"cmd\":\"size\"}
 {\"cmd\":\"revision\"}
@@ -129,22 +148,76 @@ fn check_replies(
     Ok(())
 }
 
-/// Asserts that a folder has a base and one segment alone, which isn't the first.
-fn check_rebased(rt: &impl Abort, folder: &Folder) {
-    check(rt, folder.has(BASE), "a base is there");
-    check(rt, !folder.has(ONE), "the first segment is gone");
-    check(rt, folder.len() == 2, "there is one segment");
+/// What a journal has open at its end.
+#[derive(Clone, Copy)]
+enum AtEnd {
+    /// Nothing.
+    Nothing,
+    /// A session that was held as the process stopped, which a start undoes.
+    Held,
+    /// A session that was let go of.
+    Pushed,
 }
 
-/// A folder that is found behind a stop: a start gives the tables, and so does one behind another rebase.
-fn check_found(rt: &impl Abort, alloc: Global, known: &Known, found: Folder) -> Result<(), Fail> {
+/// Asserts that a folder has a base. Where nothing was open there is one segment, which isn't the first; else that is there in which the base stands.
+fn check_rebased(rt: &impl Abort, folder: &Folder, at_end: AtEnd) {
+    check(rt, folder.has(BASE), "a base is there");
+    match at_end {
+        AtEnd::Nothing => {
+            check(rt, !folder.has(ONE), "the first segment is gone");
+            check(rt, folder.len() == 2, "there is one segment");
+        }
+        AtEnd::Held | AtEnd::Pushed => check(rt, folder.len() == 3, "there are two segments"),
+    }
+}
+
+/// Asserts that a folder's journal is rebased; or that it is refused, since what is open began in a segment in front of the newest.
+fn check_rebase(
+    rt: &impl Abort,
+    alloc: Global,
+    known: &Known,
+    folder: &RefCell<Folder>,
+    at_end: AtEnd,
+) {
+    match (rebase(alloc, &FolderFiles { folder }, known), at_end) {
+        (Ok(()), _) => {}
+        (Err(_refused), AtEnd::Nothing) => check(rt, false, "a rebase isn't refused"),
+        (Err(refused), _) => check(rt, refused.is("sessions", 0, 0), "by the session"),
+    }
+}
+
+/// A start gives the tables, once what was let go of is undone.
+fn check_tables(
+    rt: &impl Abort,
+    alloc: Global,
+    known: &Known,
+    folder: &RefCell<Folder>,
+    at_end: AtEnd,
+) -> Result<(), Fail> {
+    if matches!(at_end, AtEnd::Pushed) {
+        check_replies(rt, alloc, known, folder, UNDO, UNDO_REPLY)?;
+    }
+    check_replies(rt, alloc, known, folder, LOOK_UPS, FOUND)
+}
+
+/// A folder that is found behind a stop: a start gives the tables, and so does one behind another rebase, which leaves a base.
+fn check_found(
+    rt: &impl Abort,
+    alloc: Global,
+    known: &Known,
+    found: Folder,
+    at_end: AtEnd,
+) -> Result<(), Fail> {
     let started = RefCell::new(found.copy()?);
-    check_replies(rt, alloc, known, &started, LOOK_UPS, FOUND)?;
+    check_tables(rt, alloc, known, &started, at_end)?;
     let folder = RefCell::new(found);
-    rebase(alloc, &FolderFiles { folder: &folder }, known)?;
-    check_replies(rt, alloc, known, &folder, LOOK_UPS, FOUND)?;
-    check_rebased(rt, &folder.into_inner());
-    Ok(())
+    check_rebase(rt, alloc, known, &folder, at_end);
+    let left = folder.into_inner();
+    check(rt, left.has(BASE), "a base is there");
+    if matches!(at_end, AtEnd::Nothing) {
+        check_rebased(rt, &left, at_end);
+    }
+    check_tables(rt, alloc, known, &RefCell::new(left), at_end)
 }
 
 /// What is found where the process stops, and where the machine does: whether it is all that was written, and under which names.
@@ -155,11 +228,25 @@ const STOPS: [(bool, Names); 4] = [
     (false, Names::Removed),
 ];
 
+/// What a rebase leaves at its end is a base and one segment alone, also behind each kind of stop.
+fn check_rebased_for_good(rt: &impl Abort, left: &Folder, at_end: AtEnd) -> Result<(), Fail> {
+    for (keeps_bytes, names) in STOPS {
+        check_rebased(rt, &left.found(keeps_bytes, names, u64::MAX)?, at_end);
+    }
+    Ok(())
+}
+
 /// What a stopped rebase leaves gives the tables behind each kind of stop.
-fn check_stopped(rt: &impl Abort, alloc: Global, known: &Known, left: &Folder) -> Result<(), Fail> {
+fn check_stopped(
+    rt: &impl Abort,
+    alloc: Global,
+    known: &Known,
+    left: &Folder,
+    at_end: AtEnd,
+) -> Result<(), Fail> {
     for (keeps_bytes, names) in STOPS {
         let found = left.found(keeps_bytes, names, u64::MAX)?;
-        check_found(rt, alloc, known, found)?;
+        check_found(rt, alloc, known, found, at_end)?;
     }
     Ok(())
 }
@@ -182,14 +269,14 @@ fn check_each_call(
     alloc: Global,
     known: &Known,
     journal: &Folder,
+    at_end: AtEnd,
 ) -> Result<(), Fail> {
     for calls in 0..MOST_CALLS {
         let (left, ended) = stopped(alloc, known, journal, calls)?;
-        check_stopped(rt, alloc, known, &left)?;
+        check_stopped(rt, alloc, known, &left, at_end)?;
         if ended {
             check(rt, calls >= FEWEST_CALLS, "a rebase makes more calls");
-            check_rebased(rt, &left);
-            return Ok(());
+            return check_rebased_for_good(rt, &left, at_end);
         }
     }
     Err(Fail::from("no rebase comes to its end"))
@@ -254,21 +341,21 @@ fn journal(
 fn a_first_rebase_may_stop_anywhere(rt: HostRuntime) -> Result<(), Fail> {
     let known = accounts(rt.alloc())?;
     let journal = journal(&rt, rt.alloc(), &known, Between::Never)?;
-    check_each_call(&rt, rt.alloc(), &known, &journal)
+    check_each_call(&rt, rt.alloc(), &known, &journal, AtEnd::Nothing)
 }
 
 #[test]
 fn a_later_rebase_may_stop_anywhere(rt: HostRuntime) -> Result<(), Fail> {
     let known = accounts(rt.alloc())?;
     let journal = journal(&rt, rt.alloc(), &known, Between::Whole)?;
-    check_each_call(&rt, rt.alloc(), &known, &journal)
+    check_each_call(&rt, rt.alloc(), &known, &journal, AtEnd::Nothing)
 }
 
 #[test]
 fn a_rebase_of_two_segments_may_stop_anywhere(rt: HostRuntime) -> Result<(), Fail> {
     let known = accounts(rt.alloc())?;
     let journal = journal(&rt, rt.alloc(), &known, Between::Begun)?;
-    check_each_call(&rt, rt.alloc(), &known, &journal)
+    check_each_call(&rt, rt.alloc(), &known, &journal, AtEnd::Nothing)
 }
 
 /// A torn line at its end is cut off first.
@@ -278,7 +365,59 @@ fn a_rebase_of_a_torn_line_may_stop_anywhere(rt: HostRuntime) -> Result<(), Fail
     let whole = journal(&rt, rt.alloc(), &known, Between::Never)?;
     let torn = joined(rt.alloc(), whole.text(ONE), b"{\"cmd\":\"sta")?;
     let journal = with(&whole, ONE, torn.as_slice())?;
-    check_each_call(&rt, rt.alloc(), &known, &journal)
+    check_each_call(&rt, rt.alloc(), &known, &journal, AtEnd::Nothing)
+}
+
+/// A journal with a session open at its end. Behind that are all lines of the newest segment in which it began.
+fn open_journal(
+    rt: &impl Abort,
+    alloc: Global,
+    known: &Known,
+    between: Between,
+    last: &[u8],
+    last_reply: &[u8],
+) -> Result<Folder, Fail> {
+    let folder = RefCell::new(journal(rt, alloc, known, between)?);
+    let lines = joined(alloc, OPEN, last)?;
+    let replies = joined(alloc, OPEN_REPLIES, last_reply)?;
+    check_replies(
+        rt,
+        alloc,
+        known,
+        &folder,
+        lines.as_slice(),
+        replies.as_slice(),
+    )?;
+    Ok(folder.into_inner())
+}
+
+#[test]
+fn a_rebase_with_a_held_session_may_stop_anywhere(rt: HostRuntime) -> Result<(), Fail> {
+    let known = accounts(rt.alloc())?;
+    let journal = open_journal(&rt, rt.alloc(), &known, Between::Never, b"", b"")?;
+    check_each_call(&rt, rt.alloc(), &known, &journal, AtEnd::Held)
+}
+
+#[test]
+fn a_rebase_with_a_pushed_session_may_stop_anywhere(rt: HostRuntime) -> Result<(), Fail> {
+    let known = accounts(rt.alloc())?;
+    let journal = open_journal(&rt, rt.alloc(), &known, Between::Begun, PUSH, PUSH_REPLY)?;
+    check_each_call(&rt, rt.alloc(), &known, &journal, AtEnd::Pushed)
+}
+
+/// An open session that began in a segment in front of the newest.
+#[test]
+fn older_open_sessions_are_refused(rt: HostRuntime) -> Result<(), Fail> {
+    let known = accounts(rt.alloc())?;
+    let journal = open_journal(&rt, rt.alloc(), &known, Between::Never, PUSH, PUSH_REPLY)?;
+    let folder = RefCell::new(journal);
+    let files = FolderFiles { folder: &folder };
+    begin_next(rt.alloc(), &files, &known)?;
+    match rebase(rt.alloc(), &files, &known) {
+        Ok(()) => check(&rt, false, "a rebase is refused"),
+        Err(refused) => check(&rt, refused.is("sessions", 0, 0), "by the session"),
+    }
+    check_tables(&rt, rt.alloc(), &known, &folder, AtEnd::Pushed)
 }
 
 /// The same tables, of which there are fewer rows at most: a base of the built-in schema can be read as one of this.
@@ -358,8 +497,23 @@ fn check_changed(
 }
 
 /// What a rebase leaves of a journal that has no line.
-fn of_no_line(alloc: Global, known: &Known) -> Result<Folder, AllocError> {
-    Ok(stopped(alloc, known, &Folder::new(alloc), u64::MAX)?.0)
+fn of_no_line(alloc: Global, known: &Known) -> Result<Folder, Fail> {
+    let folder = RefCell::new(Folder::new(alloc));
+    let _replies = asked(alloc, &FolderFiles { folder: &folder }, known, b"")?;
+    Ok(stopped(alloc, known, &folder.into_inner(), u64::MAX)?.0)
+}
+
+/// Where no journal is, none is rebased, and none is made.
+#[test]
+fn no_journal_is_refused(rt: HostRuntime) -> Result<(), Fail> {
+    let known = accounts(rt.alloc())?;
+    let folder = RefCell::new(Folder::new(rt.alloc()));
+    match rebase(rt.alloc(), &FolderFiles { folder: &folder }, &known) {
+        Ok(()) => check(&rt, false, "a rebase is refused"),
+        Err(refused) => check(&rt, refused.is("file", 0, 0), "by the file"),
+    }
+    check(&rt, folder.into_inner().len() == 0, "nothing is made");
+    Ok(())
 }
 
 /// Bases that are cut.

@@ -1,7 +1,7 @@
 -- The heading that was made is that of the base that was written.
 use Rattle.std.proofs.Common.{subst}
 use Rattle.mi_rebase.specs.Rebase.{IsHeadingAt}
-use Rattle.mi_rebase.proofs.beginning.put_base.Goals as goal
+use Rattle.mi_rebase.proofs.writing.write_at.Goals as goal
 
 pub returns : goal.returns
 returns g c = (

@@ -1,0 +1,6 @@
+mod StandingLemmas
+mod UndoneLemmas
+mod GivenLemmas
+mod NotedLemmas
+mod TextLemmas
+mod FrontLemmas
