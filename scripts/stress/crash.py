@@ -19,6 +19,7 @@ started again has the tables of `reference.py` that was asked the journal, with 
     damaged  a line is damaged, or the journal is another schema's or in use: status 3 and the line, and the file stays as it is
     moved    the journal is moved away in front of each call of the system that a start makes: none of its lines is lost (needs a C compiler)
     rebase   the journal is rebased behind each of 50 rounds: the base has the reference's tables, and all look-ups are answered as by it
+    rebase-ledger   the same of a ledger with twenty sessions open all the time: the base stands in front of the oldest
     rebase-killed   200 kills: in front of each call of a rebase, of the first start behind it, and of the start behind a killed one
     rebase-forgets  what a disk may have that forgets what wasn't synced, names too, behind a stop at each change that these two make
     rebase-full     a rebase under limits of files, on disks of few pages, and with each of its calls refused
@@ -40,7 +41,7 @@ import sys
 import tempfile
 import time
 
-from stress import base_damage, based, parts, rebase_stops
+from stress import base_damage, based, ledgers, parts, rebase_stops
 import program
 from stress import service
 from stress.callers import TABLES, Load
@@ -467,7 +468,7 @@ def kept_free(kept, running, holder):
 OTHER = "journal: schema"
 """What is said of a journal of another schema or format."""
 PARTS = {"rounds": rounds, "power": power, "synced": synced, "torn": torn, "deep": deep, "full": full, "damaged": damaged, "moved": moved,
-         "rebase": based.rebase, "rebase-killed": rebase_stops.rebase_killed, "rebase-forgets": rebase_stops.rebase_forgets,
+         "rebase": based.rebase, "rebase-ledger": ledgers.rebase_ledger, "rebase-killed": rebase_stops.rebase_killed, "rebase-forgets": rebase_stops.rebase_forgets,
          "rebase-full": rebase_stops.rebase_full, "bases": base_damage.damaged, "tools": tools}
 
 

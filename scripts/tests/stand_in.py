@@ -13,7 +13,7 @@ fault, which the scripts are to find:
     bound    undoing waits for room too                           unkept    lines that wait for room are done and aren't kept
     loose    a base takes its place before it stays               hasty     a rebase removes segments before its base is in place
     uncounted  a base lacks which id comes next                   unordered a base has equals by their ids
-    trusting a torn base is taken, and one that breaks rules"""
+    trusting a torn base is taken, and one that breaks rules        ripe     a base has what open sessions changed"""
 import argparse
 import fcntl
 import json
@@ -81,6 +81,10 @@ class Journal:
         if not path:
             return
         try:
+            is_rebased and stand_in_base.check_there(path)
+        except stand_in_base.Refused as why:
+            stop(3, f"journal: {why}")
+        try:
             self.handle = os.open(bases.segment_path(path, stand_in_base.newest_of(path)), os.O_RDWR | os.O_CREAT, 0o600)
             fcntl.flock(self.handle, fcntl.LOCK_EX | fcntl.LOCK_NB)
             self.standing = stand_in_base.Standing(path, reference, wanted, lambda text: changed(reference.answer_ended(1, text)), PLANT)
@@ -105,6 +109,7 @@ class Journal:
             stop(3, f"journal: {why}: {path}")
         for number, text in enumerate(lines[1 + self.standing.skip:], 2 + self.standing.skip):
             reply = reference.answer_ended(1, text)
+            self.standing.starts.note((self.standing.number, number - 2), reference)
             if not changed(reply) and PLANT != "torn":
                 stop(3, f"journal: {stand_in_base.place_of(self.standing.number, number)}: {path}")
         self.end = end
@@ -123,10 +128,10 @@ class Journal:
     def rebase(self, reference):
         """The base is made anew, and this ends."""
         os.fdatasync(self.handle)
-        if reference.old:
-            stop(3, f"journal: sessions: {self.path}")
         try:
             stand_in_base.rebase(self.path, self.standing, reference, os.pread(self.handle, self.end, 0), PLANT)
+        except stand_in_base.Refused as why:
+            stop(3, f"journal: {why}: {self.path}")
         except OSError as error:
             stop(4, f"fault: journal: {self.path}: {error.strerror} ({error.errno})")
         os._exit(0)

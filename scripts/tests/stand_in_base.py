@@ -46,6 +46,12 @@ def read_base(path, reference, plant):
         raise Refused("base") from None
 
 
+def check_there(path):
+    """Raises `Refused` where no segment of a journal is there."""
+    if newest_of(path) == 1 and not os.path.exists(path):
+        raise Refused(f"file: {path}: no journal is there")
+
+
 def newest_of(path):
     """The number of the newest segment, whatever is missing before it."""
     try:
@@ -68,17 +74,35 @@ def place_of(number, line):
     return f"line {line}" if number == 1 else f"segment {number} line {line}"
 
 
+class Starts:
+    """Where the open sessions began: in which segment, and behind how many of its lines."""
+
+    def __init__(self, revision):
+        self.places, self.revision = [], revision
+
+    def note(self, place, reference):
+        """The line at a place was asked."""
+        if reference.revision > self.revision:
+            self.places.append(place)
+        else:
+            del self.places[len(self.places) - min(len(self.places), self.revision - reference.revision):]
+            del self.places[:max(0, len(self.places) - len(reference.old))]
+        self.revision = reference.revision
+
+
 class Standing:
     """What stands before the newest segment was asked: the number of that one, its header, and how many of its lines a base has."""
 
     def __init__(self, path, reference, header, ask, plant):
         """`header` is that of a first segment; `ask` says whether a line is one of a journal. Raises Refused."""
+        self.reference = reference
         self.schema, self.revision = header.split(b'"')[-2].decode(), reference.revision
         base, newest = read_base(path, reference, plant), newest_of(path)
         self.number, self.header, self.skip = 1, header, 0
         if base:
             self.begin(path, base, newest)
             restored(base, reference, plant)
+        self.starts = Starts(reference.revision)
         while self.number < newest:
             self.take(read_segment(path, self.number), ask)
 
@@ -101,6 +125,7 @@ class Standing:
         for n, text in enumerate(lines[1 + self.skip:-1], 2 + self.skip):
             if not ask(text):
                 raise Refused(place_of(self.number, n))
+            self.starts.note((self.number, n - 2), self.reference)
         self.header = bases.segment_header(bases.sum_of(data), self.number + 1, self.schema, self.revision)[:-1]
         self.number, self.skip = self.number + 1, 0
 
@@ -133,20 +158,40 @@ def keep_names(path):
     os.close(folder)
 
 
+def base_of(standing, reference, header, plant):
+    """The base in front of the oldest open session, or where the next segment begins, which has this header."""
+    tables, number, line, own = reference.tables, standing.number + 1, 0, header[:-1]
+    if reference.old:
+        (number, line), own = standing.starts.places[0], standing.header
+        if number != standing.number:
+            raise Refused("sessions")
+        if plant != "ripe":
+            tables = reference.old[0]
+    revision = reference.revision - len(reference.old)
+    return bases.Base(line, revision, standing.schema, number, bases.sum_of(own), [image_of(it, plant) for it in tables])
+
+
 def rebase(path, standing, reference, text, plant):
-    """Makes the base anew behind the text of the newest segment, which stays."""
-    number = standing.number + 1
-    header = bases.segment_header(bases.sum_of(text), number, standing.schema, standing.revision)
-    tables = [image_of(it, plant) for it in reference.tables]
-    base = bases.Base(0, reference.revision, standing.schema, number, bases.sum_of(header[:-1]), tables)
+    """Makes the base anew, and begins the segment behind the newest, which has this text."""
+    header = bases.segment_header(bases.sum_of(text), standing.number + 1, standing.schema, standing.revision)
+    base = base_of(standing, reference, header, plant)
     written(f"{bases.base_path(path)}.new", bases.text_of(base), os.O_TRUNC, plant != "loose")
-    written(bases.segment_path(path, number), header, os.O_EXCL)
+    for begins in (True, False) if base.segment > standing.number else (False, True):
+        if begins:
+            written(bases.segment_path(path, standing.number + 1), header, os.O_EXCL)
+            keep_names(path)
+        else:
+            put_in_place(path, base, plant)
+    for it in bases.segments_of(path):
+        if it.number < base.segment:
+            os.unlink(it.path)
     keep_names(path)
-    older = [it.path for it in bases.segments_of(path) if it.number < number]
-    if plant == "hasty":
-        for it in older:
-            os.unlink(it)
+
+
+def put_in_place(path, base, plant):
+    """The base that was written takes its place."""
+    for it in bases.segments_of(path) if plant == "hasty" else []:
+        if it.number < base.segment:
+            os.unlink(it.path)
     os.rename(f"{bases.base_path(path)}.new", bases.base_path(path))
     keep_names(path)
-    for it in older if plant != "hasty" else []:
-        os.unlink(it)

@@ -178,7 +178,7 @@ class AgainstAStandIn(unittest.TestCase):
         return status, out.getvalue()
 
     def test_none_is_found(self):
-        of_crash = [("rounds", "--rounds", "2"), ("tools",), ("full",), ("rebase", "--rounds", "2"), ("bases",)]
+        of_crash = [("rounds", "--rounds", "2"), ("tools",), ("full",), ("rebase", "--rounds", "2"), ("rebase-ledger", "--rounds", "1"), ("bases",)]
         of_crowd = [("place",), ("comers", "--connections", "70"), ("full", "--connections", "70")]
         for script, words in [*((crash, it) for it in of_crash), *((crowd, it) for it in of_crowd)]:
             status, said = self.ran(script, "", "--part", *words)
@@ -213,6 +213,7 @@ class AgainstAStandIn(unittest.TestCase):
     def test_faults_of_a_rebase_are_found(self):
         self.is_found("unordered", crash, "rebase", "the base's table (kept|side) isn't the reference's")
         self.is_found("uncounted", crash, "rebase", "the base's table (kept|side) isn't the reference's")
+        self.is_found("ripe", crash, "rebase-ledger", "the base's table (kept|side) isn't that in front of the oldest open block")
         self.is_found("trusting", crash, "bases", "a base with .*'journal: base: .*it listens|cut at byte .*'journal: base: .*it listens")
 
     @unittest.skipUnless(shutil.which(os.environ.get("CC", "cc")), "a C compiler is needed")
