@@ -11,8 +11,13 @@ import hashlib
 import json
 import os
 import re
+import sys
 
 from reference import LAST, Refusal, is_count, is_list, is_object, is_text, read
+
+sys.path.insert(0, f"{os.path.dirname(os.path.dirname(os.path.realpath(__file__)))}/clients/python")
+
+from mi_tools.journal_names import base_path, numbers_of, segment_path  # noqa: E402, F401
 
 DIGITS = re.compile("[0-9a-f]{64}")
 HEADER = ("journal", "previous", "revision", "schema", "segment")
@@ -37,14 +42,6 @@ Image = collections.namedtuple("Image", "name next arrivals rows lists")
 
 def compact(value):
     return json.dumps(value, separators=(",", ":"), ensure_ascii=False).encode()
-
-
-def base_path(path):
-    return f"{path}.base"
-
-
-def segment_path(path, number):
-    return path if number == 1 else f"{path}.{number:06}"
 
 
 # The base
@@ -173,11 +170,7 @@ Segment = collections.namedtuple("Segment", "number path")
 
 def segments_of(path):
     """The segments of a journal that are there, by their numbers. Raises BadChain where one in between is missing."""
-    folder, name = os.path.split(os.path.abspath(path))
-    later = re.compile(re.escape(name) + r"\.(\d{6})")
-    numbers = sorted(int(found[1]) for found in map(later.fullmatch, os.listdir(folder)) if found and int(found[1]) > 1)
-    if os.path.exists(path):
-        numbers.insert(0, 1)
+    numbers = numbers_of(path)
     for before, number in zip(numbers, numbers[1:]):
         if number != before + 1:
             raise BadChain(f"segment {before + 1} is missing, and segment {number} is there")

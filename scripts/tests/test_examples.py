@@ -11,6 +11,7 @@ TOP = os.path.dirname(os.path.dirname(os.path.dirname(os.path.realpath(__file__)
 sys.path.insert(0, f"{TOP}/clients/python")
 
 from mi_tools import top  # noqa: E402
+from mi_tools.journal_files import Base, Files  # noqa: E402
 from mi_tools.process import Usage  # noqa: E402
 
 RULES, BOARD = f"{TOP}/examples/weltiyo.rules.yml", f"{TOP}/examples/weltiyo-dashboard.json"
@@ -25,7 +26,7 @@ def written():
     """The names that `weltiyo metrics` writes where it is told everything."""
     usage = Usage(1, 1, 1, 1)
     sample = top.Sample(0, [("accounts", 1)], 1, 1, "nobody", 1, usage, connections=1, unsent=1, journal=1, is_full=False, lines={1: 1}, uptime=1, room=1,
-                        held_for=1, synced=1, memories={"accounts": 1})
+                        held_for=1, synced=1, memories={"accounts": 1}, files=Files(1, 1, 1, Base(1, 1)))
     return set(re.findall(r"^# TYPE (\w+) ", top.prometheus(sample), re.M))
 
 

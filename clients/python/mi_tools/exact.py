@@ -7,7 +7,6 @@ asked: no look-up tells the order of a hashed index, of more than 1,000 equals, 
     {"index":"by_owner","order":[0,2],"table":"accounts"}             of each index but `id` all ids, those of one key in their order"""
 from __future__ import annotations
 
-import glob
 import hashlib
 import json
 import os
@@ -16,6 +15,7 @@ from typing import IO, Any, Dict, Iterator, List, Optional, Set, Tuple
 from mi_client import Schema
 from mi_client.schema import Index, Table
 from mi_client.utf8 import text_of
+from mi_tools.journal_names import base_path, numbers_of, segment_path
 from mi_tools.journals import OtherSchema
 from mi_tools.meaning import hash_of
 from mi_tools.rowfiles import Faulty, json_line, reading, writing
@@ -51,8 +51,7 @@ def check_digest(file: IO[bytes], path: str) -> None:
 
 def check_place(journal: str, heading: Dict[str, Any]) -> None:
     """Raises Faulty where lines stand behind the base, or its segment isn't the journal's newest."""
-    path = journal if heading["segment"] == 1 else f"{journal}.{heading['segment']:06}"
-    later = f"{journal}.{heading['segment'] + 1:06}"
+    path, later = segment_path(journal, heading["segment"]), segment_path(journal, heading["segment"] + 1)
     with open(path, "rb") as file:
         text = file.read().partition(b"\0")[0]
     if text.count(b"\n") != 1 + heading["line"] or os.path.exists(later):
@@ -63,7 +62,7 @@ def check_place(journal: str, heading: Dict[str, Any]) -> None:
 
 def base_lines(journal: str, schema: Schema) -> Iterator[bytes]:
     """The lines of an exact dump of a journal. Raises Faulty, OtherSchema and OSError."""
-    path = f"{journal}.base"
+    path = base_path(journal)
     if not os.path.exists(path):
         raise Faulty(f"{path} isn't there: mi_service --rebase makes it, of a journal that no service has")
     with open(path, "rb") as file:
@@ -229,8 +228,9 @@ def parsed(line: bytes, place: str) -> Dict[str, Any]:
 
 
 def check_new(journal: str) -> None:
-    """Raises FileExistsError where a file of a journal of this name is there."""
-    there = [it for it in (journal, f"{journal}.base", *glob.glob(f"{glob.escape(journal)}.[0-9]*")) if os.path.lexists(it)]
+    """Raises FileExistsError where a file of a journal of this name is there, and OSError where its folder can't be read."""
+    segments = (segment_path(journal, it) for it in numbers_of(journal))
+    there = [it for it in (journal, base_path(journal), *segments) if os.path.lexists(it)]
     if there:
         raise FileExistsError(f"{there[0]} is there: --ids makes a new journal, of another name")
 
@@ -258,7 +258,7 @@ def load(path: str, schema: Optional[str], journal: str) -> Tuple[int, List[str]
     with reading(path) as file:
         read = Read(schema_of(schema), file, path)
     header = compact({"journal": 1, "revision": read.schema.first_revision, "schema": hash_of(read.schema)})
-    with replacing(os.path.abspath(f"{journal}.base")) as file:
+    with replacing(os.path.abspath(base_path(journal))) as file:
         file.writelines(base_text(read, header[:-1]))
     handle = os.open(journal, os.O_WRONLY | os.O_CREAT | os.O_EXCL | os.O_CLOEXEC, 0o666)
     with open(handle, "wb") as file:

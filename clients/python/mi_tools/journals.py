@@ -6,13 +6,16 @@ from __future__ import annotations
 import hashlib
 import json
 import os
-from typing import Any, Dict, Iterator, Optional
+from typing import Any, Dict, Iterator, Optional, Tuple
 
 from mi_client import Database
 from mi_client.commands import belongs_in_journal
+from mi_tools.journal_names import base_path, segment_path
 from mi_tools.meaning import hash_of
 
 FORMAT = 1
+LATER = 2
+"""The format of a later segment."""
 PIECE = 1 << 20
 
 
@@ -30,19 +33,28 @@ class HasBase(ValueError):
 
 def check_single(path: str) -> None:
     """Raises HasBase where the journal isn't one file: a server that is asked its lines wouldn't have its tables."""
-    if os.path.exists(f"{path}.base") or os.path.exists(f"{path}.000002"):
+    if os.path.exists(base_path(path)) or os.path.exists(segment_path(path, 2)):
         raise HasBase(f"{path}: it has a base or later segments, which mi_service reads: start that with it, and name it by --connect PORT")
 
 
-def header_of(line: bytes, path: str) -> Dict[str, Any]:
+def header_of(line: bytes, path: str, formats: Tuple[int, ...] = (FORMAT,)) -> Dict[str, Any]:
     """The members of a journal's first line. Raises Damaged."""
     try:
         found = json.loads(line)
     except (ValueError, RecursionError):
         found = None
-    if not isinstance(found, dict) or found.get("journal") != FORMAT or not line.endswith(b"\n"):
-        raise Damaged(f"{path}:1: no header of a journal of format {FORMAT}")
+    if not isinstance(found, dict) or found.get("journal") not in formats or not line.endswith(b"\n"):
+        raise Damaged(f"{path}:1: no header of a journal of format {' or '.join(map(str, formats))}")
     return found
+
+
+def number_in(line: bytes, path: str) -> int:
+    """The number of the segment that has this first line. Raises Damaged."""
+    found = header_of(line, path, (FORMAT, LATER))
+    number = found.get("segment") if found["journal"] == LATER else 1
+    if type(number) is not int or number < 1:
+        raise Damaged(f"{path}:1: the header says no number of a segment")
+    return number
 
 
 def check_schema(path: str, db: Database, file: Optional[str]) -> None:

@@ -13,6 +13,7 @@ from mi_client import Database, Ended, Refused
 from mi_client.listening import path_of
 from mi_client.service_lines import status as status_told
 from mi_tools import process
+from mi_tools.journal_files import Files, files_beside
 from mi_tools.opening import add_server, add_source, opened, source_words, status_of, why
 from mi_tools.process import Usage
 from mi_tools.rowfiles import writing
@@ -61,6 +62,8 @@ class Sample(NamedTuple):
     """How many bytes of a service's journal stay since its last sync, where it is synced and tells."""
     memories: Optional[Dict[str, int]] = None
     """How many bytes of memory each table takes, by its name, where a service tells."""
+    files: Optional[Files] = None
+    """How the files of a service's journal stand, where they can be seen."""
 
 
 class Watcher:
@@ -90,10 +93,10 @@ class Watcher:
         connections = told["connections"]
         unsent = sum(it["unsent"] for it in connections)
         journal = told.get("journal") or {}
-        room = process.room_beside(process.locked_file(self.number)) if journal else None
+        locked = process.locked_file(self.number) if journal else None
         return Sample(time.monotonic(), sizes, now.revision, now.depth, holder, self.turns, usage, len(connections), unsent,
-                      journal.get("bytes"), journal.get("full"), lines_of(told), told.get("uptime"), room, held_for(told),
-                      journal.get("synced"), memories_of(told))
+                      journal.get("bytes"), journal.get("full"), lines_of(told), told.get("uptime"), process.room_beside(locked),
+                      held_for(told), journal.get("synced"), memories_of(told), files_beside(locked))
 
     def sizes(self) -> List[Tuple[str, int]]:
         names = [it.name for it in self.db.schema.tables] if self.db.schema else ["(first)"]
@@ -164,7 +167,7 @@ def asking(now: Sample, before: Sample) -> List[str]:
 
 
 def up(seconds: int) -> str:
-    """How long a service is there: 2 days, 3:04:05."""
+    """How long a service or a file is there: 2 days, 3:04:05."""
     return str(datetime.timedelta(seconds=seconds))
 
 
@@ -216,6 +219,12 @@ def prometheus(it: Sample) -> str:
     add("journal_synced_bytes", "gauge", "Bytes of the journal that stay since its last sync.", ("", it.synced))
     add("journal_full", "gauge", "1 where the journal's disk lacks room, and changes are refused.", ("", None if it.is_full is None else int(it.is_full)))
     add("journal_disk_free_bytes", "gauge", "Bytes that are free on the journal's disk.", ("", it.room))
+    if it.files:
+        add("journal_segments", "gauge", "Segment files of the service's journal.", ("", it.files.segments))
+        add("journal_files_bytes", "gauge", "Bytes of these files, with the room behind their text.", ("", it.files.size))
+    if it.files and it.files.base:
+        add("base_bytes", "gauge", "Bytes of the journal's base.", ("", it.files.base.size))
+        add("base_age_seconds", "gauge", "Seconds since the base was written.", ("", it.files.base.age))
     add("resident_memory_bytes", "gauge", "Memory of the process.", ("", it.usage.memory))
     add("read_bytes_total", "counter", "Bytes that the server has read, of connections since this began to look.", ("", it.usage.read))
     add("written_bytes_total", "counter", "Bytes that the server has written, likewise.", ("", it.usage.written))
@@ -314,7 +323,13 @@ def journal_shown(size: int, synced: Optional[int], is_full: Optional[bool], roo
     return kept + ("" if room is None else f", {amount(room)} free on its disk") + (FULL if is_full else "")
 
 
-def shown_status(told: Dict[str, Any], room: Optional[int]) -> str:
+def files_shown(it: Files) -> str:
+    """How a journal's files stand: its segments, and its base with its age."""
+    base = "none" if it.base is None else f"{amount(it.base.size)}, written {up(it.base.age)} ago"
+    return f"{it.segments}, the newest is number {it.newest}, {amount(it.size)} in all; base: {base}"
+
+
+def shown_status(told: Dict[str, Any], room: Optional[int], files: Optional[Files]) -> str:
     """A status as people read it."""
     connections = [
         {"connection": it["number"], "holds sessions": holding(it), "lines": it.get("lines", ""), "unsent": it["unsent"]}
@@ -327,6 +342,7 @@ def shown_status(told: Dict[str, Any], room: Optional[int]) -> str:
     return "\n".join([
         f"mi_service {told['version']}{since}: {told['depth']} sessions open, held by {holder}",
         *([f"journal: {journal_shown(journal['bytes'], journal.get('synced'), journal['full'], room)}"] if journal else []),
+        *([f"segments: {files_shown(files)}"] if files else []),
         "",
         table(connections, ["connection", "holds sessions", "lines", "unsent"]),
         "",
@@ -335,7 +351,8 @@ def shown_status(told: Dict[str, Any], room: Optional[int]) -> str:
 
 
 def main_status(words: Optional[List[str]] = None) -> int:
-    about = "Shows what a running service tells of itself: its connections, who of them holds sessions, and the rows and memory of each table."
+    about = ("Shows what a running service tells of itself: its connections, who of them holds sessions, and the rows and memory of each table. Where the "
+             "files of its journal can be seen, it shows how they stand too.")
     parser = argparse.ArgumentParser(prog="weltiyo status", description=about)
     add_server(parser)
     parser.add_argument("--json", action="store_true", help="writes the service's own reply")
@@ -352,6 +369,9 @@ def main_status(words: Optional[List[str]] = None) -> int:
     if told is None:
         print("weltiyo: this server tells no status; mi_service does", file=sys.stderr)
         return 1
-    room = process.room_beside(process.locked_file(process.listener(options.connect))) if told.get("journal") else None
-    print(json.dumps(told, separators=(",", ":")) if options.json else shown_status(told, room))
+    if options.json:
+        print(json.dumps(told, separators=(",", ":")))
+        return 0
+    locked = process.locked_file(process.listener(options.connect)) if told.get("journal") else None
+    print(shown_status(told, process.room_beside(locked), files_beside(locked)))
     return 0

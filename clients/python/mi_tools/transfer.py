@@ -12,6 +12,7 @@ from mi_client import Database, Ended, NeedsSchema, Refused, TooManyEqual
 from mi_client.calls import Bound, Row
 from mi_client.schema import Table
 from mi_tools import exact
+from mi_tools.journal_names import base_path
 from mi_tools.loading import Loaded, Reference, References, Stopped, behind_loaded, check_ids, load_rows
 from mi_tools.opening import NO_COLUMNS, add_server, add_source, opened, source_words, status_of, why
 from mi_tools.progress import Progress
@@ -223,7 +224,7 @@ def exactly(name: str, parser: argparse.ArgumentParser, options: argparse.Namesp
 def exact_load(options: argparse.Namespace) -> List[str]:
     rows, passed_over = exact.load(options.file, options.schema, options.journal)
     said = [f"the schema has no index {it}, whose order is left out" for it in passed_over]
-    return [*said, f"{rows} rows are in {options.journal}.base; start mi_service with --journal {options.journal}"]
+    return [*said, f"{rows} rows are in {base_path(options.journal)}; start mi_service with --journal {options.journal}"]
 
 
 def main_dump(words: Optional[List[str]] = None) -> int:
