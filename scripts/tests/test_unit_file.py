@@ -2,16 +2,20 @@
 there, has nothing against them."""
 import configparser
 import os
+import shlex
 import shutil
+import socket
 import subprocess
 import sys
 import tempfile
+import time
 import unittest
 
 HERE = os.path.dirname(os.path.realpath(__file__))
 TOP = os.path.dirname(os.path.dirname(HERE))
 sys.path.insert(0, f"{TOP}/scripts")
 
+import program  # noqa: E402
 from stress import service  # noqa: E402
 
 UNIT = f"{TOP}/examples/mi_service.service"
@@ -54,11 +58,48 @@ class UnitFile(unittest.TestCase):
         before, now = read(f"{REBASE}.conf")["Service"]["ExecStartPre"], self.words(self.said["ExecStart"])
         self.assertEqual(before.split()[0], f"-{self.said['ExecStart'].split()[0]}")
         self.assertIn(" ".join(now[now.index("--journal"):][:2]), " ".join(self.words(before)))
-        os.mkdir(f"{self.folder}/{self.said['StateDirectory']}")
+        folder = f"{self.folder}/{self.said['StateDirectory']}"
+        os.mkdir(folder)
+        self.assertEqual(self.rebased(before), (3, f"journal: file: {folder}/journal: no journal is there\n"))
+        self.assertEqual(os.listdir(folder), [])
+        with service.Service(self.program, journal=f"{folder}/journal") as running:
+            self.assertTrue(running.port)
         for _ in range(2):
-            ran = subprocess.run([self.program, *self.words(before)], capture_output=True, text=True, timeout=60)
-            self.assertEqual((ran.returncode, ran.stderr), (0, ""))
-        self.assertEqual(sorted(os.listdir(f"{self.folder}/{self.said['StateDirectory']}")), ["journal.000003", "journal.base"])
+            self.assertEqual(self.rebased(before), (0, ""))
+        self.assertEqual(sorted(os.listdir(folder)), ["journal.000003", "journal.base"])
+
+    def rebased(self, before):
+        """The status of what goes before a start, and what it says."""
+        ran = subprocess.run([self.program, *self.words(before)], capture_output=True, text=True, timeout=60)
+        return ran.returncode, ran.stderr
+
+    def behind(self, port, process):
+        """What the unit runs behind a start, by a port and a process of this test, at work."""
+        words = shlex.split(self.said["ExecStartPost"].replace("$$", "$").replace("/8000", f"/{port}"))
+        return subprocess.Popen(words, env={**os.environ, "MAINPID": str(process)}, stdout=subprocess.PIPE, stderr=subprocess.STDOUT)
+
+    def test_it_has_started_once_it_answers(self):
+        port = program.free_port()
+        with self.behind(port, os.getpid()) as waits:
+            time.sleep(0.3)
+            self.assertIsNone(waits.poll())
+            with service.Service(self.program, port=port):
+                self.assertEqual(waits.wait(10), 0)
+            self.assertEqual(waits.stdout.read(), b"")
+
+    def test_it_has_not_started_where_it_ended(self):
+        with subprocess.Popen(["true"]) as ended:
+            ended.wait()
+        with self.behind(program.free_port(), ended.pid) as waits:
+            self.assertNotEqual(waits.wait(10), 0)
+
+    def test_a_port_that_is_no_more_than_listened_on(self):
+        with socket.create_server(("127.0.0.1", 0)) as listener, self.behind(listener.getsockname()[1], os.getpid()) as waits:
+            stream, _ = listener.accept()
+            self.assertEqual(stream.recv(100), b'{"service":"status"}\n')
+            self.assertIsNone(waits.poll())
+            stream.close()
+            self.assertNotEqual(waits.wait(10), 0)
 
     def test_the_timer_restarts_the_service(self):
         self.assertEqual(read(f"{REBASE}.service")["Service"]["ExecStart"].split()[1:], ["try-restart", os.path.basename(UNIT)])
