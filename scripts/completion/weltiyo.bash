@@ -28,8 +28,8 @@ _weltiyo() {
     local word=${COMP_WORDS[COMP_CWORD]} before=${COMP_WORDS[COMP_CWORD-1]} options
     COMPREPLY=()
     case $before in
-        --schema) _weltiyo_files "$word" .toml; return ;;
-        --program | --run | --dump | --file | --svg | --load | --journal | --unix) _weltiyo_files "$word"; return ;;
+        --schema | --new-schema) _weltiyo_files "$word" .toml; return ;;
+        --program | --run | --dump | --file | --svg | --load | --journal | --rebase-to | --unix) _weltiyo_files "$word"; return ;;
         --connect) case $word in */*) _weltiyo_files "$word"; return ;; esac; COMPREPLY=($(compgen -W '8000' -- "$word")); return ;;
         --listen) COMPREPLY=($(compgen -W '8000' -- "$word")); return ;;
         --clients) COMPREPLY=($(compgen -W '1 2 4 8 16 32 64' -- "$word")); return ;;
@@ -38,7 +38,7 @@ _weltiyo() {
     esac
     case ${1##*/} in
         mi_server) options='--schema --check --listen --clients --help' ;;
-        mi_service) options='--schema --listen --unix --journal --sync --hold-seconds --idle-seconds --help' ;;
+        mi_service) options='--schema --listen --unix --journal --sync --hold-seconds --idle-seconds --rebase --rebase-to --new-schema --help' ;;
         weltiyo-lint)
             options='--program --help'
             [[ $word == -* ]] || { _weltiyo_files "$word" .toml; return; } ;;
