@@ -234,6 +234,7 @@ class OfAService(unittest.TestCase):
 
     @unittest.skipIf(SERVICE == STAND_IN, "the service isn't built: its stand-in tells no journal")
     def test_what_the_tools_write(self) -> None:
+        self.started().close()
         self.rebase()
         with self.started() as server, server.connect(60) as db:
             port = str(server.port)
