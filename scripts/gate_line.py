@@ -18,6 +18,7 @@ TESTING = f"{TOP}/docs/TESTING.md"
 START = "**Last run.** "
 PASSED = re.compile(r"^(\d+) passed, 0 failed$", re.M)
 WELL = re.compile(r"^rt: ok; ", re.M)
+KEPT = re.compile(r"^rt: ok; .*?\bdone in this run: (.*?); the others are kept from earlier runs", re.M)
 REFUSED = re.compile(r"^rt: must-fail \S+: refused, as it must be", re.M)
 
 
@@ -48,7 +49,9 @@ def line_of(log, of, on, minutes, day):
     passed = PASSED.findall(log)
     if not passed or not WELL.search(log):
         raise NoLine("the output is of no whole run that passed")
-    what = f"{passed[-1]} passed, 0 failed; {len(REFUSED.findall(log))} wrong bodies refused. All was done in this run, from nothing."
+    kept = KEPT.search(log)
+    done = f"Done in this run: {kept[1]}; earlier runs had done the others." if kept else "All was done in this run, from nothing."
+    what = f"{passed[-1]} passed, 0 failed; {len(REFUSED.findall(log))} wrong bodies refused. {done}"
     return f"{START}{day}, commit `{of}`, {on}: {minutes:.0f} minutes. {what}"
 
 

@@ -24,6 +24,11 @@ class ALine(unittest.TestCase):
         want = "**Last run.** 2026-01-02, commit `abc`, 4 processors (of a kind): 72 minutes. 9 passed, 0 failed; 2 wrong bodies refused. "
         self.assertEqual(self.line(WHOLE), want + "All was done in this run, from nothing.")
 
+    def test_of_a_run_over_what_was_kept(self):
+        done = "done in this run: 0 of the 6 proofs (of crates and of their tests) and 1 of the 2 must-fail edits"
+        log = WHOLE.replace("Net\n", f"Net; must-fail edits: 2 refused; {done}; the others are kept from earlier runs of the same files on this machine\n")
+        self.assertTrue(self.line(log).endswith(f"2 wrong bodies refused. D{done[1:]}; earlier runs had done the others."), self.line(log))
+
     def test_of_none_that_passed(self):
         for log in ("", WHOLE.replace("9 passed, 0 failed", "8 passed, 1 failed"), "9 passed, 0 failed\n",
                     "rt: mi_value and the crates below passed\n9 passed, 0 failed (mi_value and the crates below alone: not the gate)\n"):
