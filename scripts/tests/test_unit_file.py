@@ -20,6 +20,7 @@ from stress import service  # noqa: E402
 
 UNIT = f"{TOP}/examples/mi_service.service"
 REBASE = f"{TOP}/examples/mi_service-rebase"
+METRICS = f"{TOP}/examples/weltiyo-metrics.service"
 STAND_IN = f"{HERE}/stand_in.py"
 
 
@@ -29,6 +30,12 @@ def read(path):
     found.optionxform = str
     found.read(path)
     return found
+
+
+def values(path, name):
+    """What a unit file says by a name, each time."""
+    with open(path, encoding="utf-8") as file:
+        return [line.partition("=")[2].strip() for line in file if line.startswith(f"{name}=")]
 
 
 class UnitFile(unittest.TestCase):
@@ -55,7 +62,9 @@ class UnitFile(unittest.TestCase):
         self.assertEqual(os.listdir(f"{self.folder}/{self.said['StateDirectory']}"), ["journal"])
 
     def test_a_rebase_is_of_its_journal(self):
-        before, now = read(f"{REBASE}.conf")["Service"]["ExecStartPre"], self.words(self.said["ExecStart"])
+        before, behind = values(f"{REBASE}.conf", "ExecStartPre")
+        now = self.words(self.said["ExecStart"])
+        self.assertEqual(behind, f"-/bin/rm -f {before.split()[2]}.base.new")
         self.assertEqual(before.split()[0], f"-{self.said['ExecStart'].split()[0]}")
         self.assertIn(" ".join(now[now.index("--journal"):][:2]), " ".join(self.words(before)))
         folder = f"{self.folder}/{self.said['StateDirectory']}"
@@ -120,9 +129,10 @@ class UnitFile(unittest.TestCase):
         os.mkdir(f"{self.folder}/mi_service.service.d")
         names = {UNIT: "mi_service.service", f"{REBASE}.conf": "mi_service.service.d/rebase.conf"}
         names.update((f"{REBASE}.{it}", f"mi_service-rebase.{it}") for it in ("service", "timer"))
+        names[METRICS] = "weltiyo-metrics.service"
         for path, name in names.items():
             with open(path, encoding="utf-8") as file:
-                text = file.read().replace("/usr/local/bin/mi_service", self.program).replace("/usr/bin/systemctl", shutil.which("true"))
+                text = file.read().replace("/usr/local/bin/mi_service", self.program).replace("/usr/bin/systemctl", shutil.which("true")).replace("/usr/local/bin/weltiyo", shutil.which("true"))
             with open(f"{self.folder}/{name}", "w", encoding="utf-8") as file:
                 file.write(text)
         units = [f"{self.folder}/{it}" for it in names.values() if not it.endswith(".conf")]
