@@ -1,5 +1,5 @@
 -- What a closed segment has, and that what was asked of it was found.
--- Cited by `closing::closed`, `rebasing::rebased` and `rebasing::stand_of`.
+-- Cited by `closing::closed`, `rebasing::made`, `rebasing::rebased` and `rebasing::stand_of`.
 use Rattle.std.proofs.Common.{◌≡◌, ◌≤◌, ℕ, zero, suc, List, [], ◌∷◌, Option, Some, None, Result, Ok, Err, refl, ap, ◌∙◌, subst, length, length-append, arith}
 use Rattle.std.specs.Prelude.{IfSome, OnOk}
 use Rattle.std.specs.Io.KnownBytes.{Keeps}
@@ -40,6 +40,10 @@ closes_by (Some bytes) told kept schema place next has q =
 pub on_ok : {X E : Type 0} (P : Type 0) (r : Result X E) → P → OnOk r P
 on_ok P (Ok x) p = p
 on_ok P (Err e) p = tt
+
+pub on_ok_then : {X E : Type 0} (P Q : Type 0) (r : Result X E) → OnOk r P → (P → Q) → OnOk r Q
+on_ok_then P Q (Ok x) p f = f p
+on_ok_then P Q (Err e) p f = tt
 
 -- ---- what was asked was found
 

@@ -5,12 +5,13 @@ ghost use Rattle.std.specs.String.{string_bytes};
 ghost use Rattle.mi_recovery.specs.JournalFile.{text_of};
 ghost use Rattle.mi_recovery.specs.Recovery.{IsFound, kept_bytes};
 ghost use Rattle.mi_recovery.specs.Segments.{IsNext};
-ghost use Rattle.mi_rebase.specs.Rebase.{IsWithin, base_place, IsRebased};
+ghost use Rattle.mi_base.specs.declared.heading.Heading.{Heading};
+ghost use Rattle.mi_rebase.specs.Rebase.{IsHeadingAt, IsWithin, base_place, IsRebased, IsWritten};
 
 use crate::closing::{closed, place_behind};
 use crate::images::Imaged;
 use crate::settling::check_there;
-use crate::writing::{keep_names, put_in_place, write_at};
+use crate::writing::{discard_new, keep_names, put_in_place, write_at};
 use mi_front::{Front, ask_front};
 use mi_hub::Hub;
 use mi_log::DeviceLog;
@@ -158,9 +159,26 @@ fn replaced<P: JournalFiles>(
     keep_names(files, path)
 }
 
+/// Writes the base of a database where it is to stand, and puts it in its place.
+fn made<P: JournalFiles, D: Imaged>(
+    alloc: Global,
+    files: &P,
+    path: &str,
+    schema: &JournalSchema,
+    stand: &Stand<P::File>,
+    database: &D,
+) -> Result<(), JournalFault>
+    ensures { OnOk result ((heading : Heading) × IsHeadingAt schema.now (D.state database.now).revision (base_place stand.now.within stand.now.next) heading
+        × IsWritten (P.is_seen files.now) P.File.contents P.File.stays path.now heading (D.state database.now)) }
+{
+    write_at(alloc, files, path, schema, stand.place(), database)?;
+    replaced(alloc, files, path, stand)
+}
+
 /// Makes the base of a path's journal anew, and begins its next segment. A hub that stands at the position of the base before, or at the start, is asked
 /// all lines behind. What the sessions changed that are open at the end is undone in it, and the base has what is left. It stands in front of the oldest
-/// of them, or behind all lines where none is open. The segments in front of it are taken away.
+/// of them, or behind all lines where none is open. The segments in front of it are taken away. Where this fails no file of a base that isn't whole is left,
+/// unless that can't be taken away.
 ///
 /// `File` where no journal is there, or `Segment` where a base names a segment of it. `Sessions` where the oldest open session began in a segment in
 /// front of the newest. The other faults are those of `ask_front`, and `Write` where a file isn't written, renamed or made to stay. The clause says
@@ -182,6 +200,9 @@ pub fn rebased<P: JournalFiles, D: Imaged + Drop>(
     check_there(files, path, position)?;
     let front = ask_front(alloc, files, &mut hub, path, schema, position)?;
     let stand = stand_of(alloc, files, schema, front)?;
-    write_at(alloc, files, path, schema, stand.place(), hub.database())?;
-    replaced(alloc, files, path, &stand)
+    let made = made(alloc, files, path, schema, &stand, hub.database());
+    if made.is_err() {
+        discard_new(alloc, files, path);
+    }
+    made
 }

@@ -151,6 +151,13 @@ pub(crate) fn write_at<P: JournalFiles, D: Imaged>(
     Ok(())
 }
 
+/// Takes away the file of a base that isn't whole yet, where one is there: it would have room that changes need. No clause says that it goes.
+pub(crate) fn discard_new<P: JournalFiles>(alloc: Global, files: &P, path: &str) {
+    if let Ok(name) = new_base_path(alloc, path) {
+        let _ = files.remove(name.as_str());
+    }
+}
+
 /// What was named, renamed or taken away in the folder of a path stays so. `Write` where that fails.
 pub(crate) fn keep_names<P: JournalFiles>(files: &P, path: &str) -> Result<(), JournalFault> {
     match files.keep_name(path) {
