@@ -8,6 +8,7 @@ import signal
 import tempfile
 import time
 
+import bases
 from stress.based import Based, loaded_round
 from stress.disk_states import recorded, states_of
 from stress.full_disks import SmallDisk
@@ -131,6 +132,8 @@ def refused_write(kept, status, said, what):
     """A rebase that can't write says so."""
     if status != 4 or said != f"fault: journal: {kept.journal}" and not said.startswith(f"fault: journal: {kept.journal}: "):
         raise Differs(f"{what}: status 4 and `fault: journal` were wanted, it ended with {status}: {said}")
+    if os.path.exists(f"{bases.base_path(kept.journal)}.new"):
+        raise Differs(f"{what}: the unfinished base is left, and has room that changes need")
 
 
 def under_limits(kept, folder, options, pick):

@@ -133,6 +133,7 @@ class Journal:
         except stand_in_base.Refused as why:
             stop(3, f"journal: {why}: {self.path}")
         except OSError as error:
+            stand_in_base.discard_new(self.path)
             stop(4, f"fault: journal: {self.path}: {error.strerror} ({error.errno})")
         os._exit(0)
 

@@ -1,4 +1,5 @@
 """The base and the segments of a journal, for the service that stands in: what stands before the newest segment is asked, and a rebase is made."""
+import contextlib
 import os
 
 import bases
@@ -186,6 +187,12 @@ def rebase(path, standing, reference, text, plant):
         if it.number < base.segment:
             os.unlink(it.path)
     keep_names(path)
+
+
+def discard_new(path):
+    """Takes away a base that isn't whole."""
+    with contextlib.suppress(OSError):
+        os.unlink(f"{bases.base_path(path)}.new")
 
 
 def put_in_place(path, base, plant):
