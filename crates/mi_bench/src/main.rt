@@ -10,11 +10,16 @@ mod workload;
 use bench::Bench;
 use std::io;
 
-fn main(rt: HostRuntime) -> io::Result<()> {
-    let mut bench = Bench::new(rt.alloc())?;
+/// Runs the workloads that the lines of the input name. It is lent the container: so no way out of it has that one's drop.
+fn run_lines(rt: &HostRuntime, bench: &mut Bench) -> io::Result<()> {
     for line in rt.lines(rt.alloc()) {
-        let done = bench.run(&rt, line?.as_str())?;
+        let done = bench.run(rt, line?.as_str())?;
         println!(rt; "{} {}", done.count, done.sum)?;
     }
     println!(rt; "{} records", bench.size())
+}
+
+fn main(rt: HostRuntime) -> io::Result<()> {
+    let mut bench = Bench::new(rt.alloc())?;
+    run_lines(&rt, &mut bench)
 }

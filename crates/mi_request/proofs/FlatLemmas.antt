@@ -1,6 +1,9 @@
 -- An object that is read member by member is what its text means, and so each flat line is the request of its members.
 -- Cited by `flat::insert`, `flat::keyed`, `flat::last_limit`, `flat::lower`, `flat::modify` and 3 more.
-use Rattle.std.proofs.Common.{IfSome, option_and_then, sym, ◌≡◌, ℕ, ◌-◌, List, [], ◌∷◌, ◌++◌, length, Option, Some, None, Ok, IsUtf8, codes, false, refl, ap, ◌∙◌, subst, arith, append_assoc}
+use Rattle.std.proofs.Common.{IfSome, option_map, option_and_then, sym, ◌≡◌, ℕ, ◌-◌, List, [], ◌∷◌, ◌++◌, length, Option, Some, None, Ok, IsUtf8, codes, Bool, true, false, cond}
+use Rattle.std.proofs.Common.{if◌then◌else◌, ◌&&◌, refl, ap, ap₂, ◌∙◌, subst, arith, append_assoc}
+use Rattle.std.specs.List.{list_any}
+use Rattle.std.specs.Str.{bytes_eq}
 use Rattle.json.specs.Json.{parse_map, read_key, members, value}
 use Rattle.json.specs.Lex.{lex, between, punctuate, tokens}
 use Rattle.json.specs.Print.{escape, escape_byte}
@@ -8,26 +11,29 @@ use Rattle.json.specs.Text.{content}
 use Rattle.json.specs.Token.{Token, begin_object, key}
 use Rattle.json.specs.Token as token
 use Rattle.json.proofs.Grammar.{left, value_is, value-begin_object, read_key-shorter, skip_value-shorter}
-use Rattle.serde_json.specs.Data.{Data, string, object, Items, Members, no_members, put}
-use Rattle.serde_json.specs.Find.{as_str, as_array, as_object}
+use Rattle.serde_json.specs.Data.{Data, boolean, string, object, Items, Members, no_members, put}
+use Rattle.serde_json.specs.Find.{get_member, as_str, as_bool, as_array, as_object}
 use Rattle.serde_json.specs.Read.{of_json, converted, read}
 use Rattle.mi_tokens.proofs.LexemeLemmas.{lex_text}
 use Rattle.mi_tokens.proofs.ReadingLemmas.{converted_some, converted-object, member_read, members_over, whole_read}
 use Rattle.mi_tokens.specs.Tokens.{tokens_at}
 use Rattle.mi_tokens.specs.declared.tokens.Context.TheVariants.{AfterComma}
-use Rattle.mi_request.specs.Commands.{look_up_named, lower_end, if_page, page}
-use Rattle.mi_request.specs.Flat.{IsRest, IsMember, IsMaybe, IsLast, put_if, command_start, named, keyed_members}
+use Rattle.mi_value.specs.declared.limits.TheConstants.{MAX_PAGE}
+use Rattle.mi_request.specs.Commands.{look_up_named, command_named, lower_end, upper_end, if_page, page, form_of, member_names, asked}
+use Rattle.mi_request.specs.Flat.{IsRest, IsMember, IsMaybe, IsLast, HasKey, end_object, put_if, put_all, range_members, command_start, named, keyed_members}
 use Rattle.mi_request.specs.Json.{has_only, natural, if_there, default_if, option_map₂, option_map₄, option_map₅}
 use Rattle.mi_request.specs.Keyed.{key_name, asked_key}
-use Rattle.mi_request.specs.Lines.{request_in, command_line}
+use Rattle.mi_request.specs.Lines.{form_in, request_by, request_in, command_line}
+use Rattle.mi_request.specs.declared.forms.CommandName.TheVariants as name
 use Rattle.mi_request.specs.declared.keyed.KeyCommand.{KeyCommand}
 use Rattle.mi_request.specs.declared.keyed.KeyCommand.TheVariants as keyed
 use Rattle.mi_request.specs.declared.request.End.{End}
-use Rattle.mi_request.specs.declared.request.End.TheVariants.{Open}
+use Rattle.mi_request.specs.declared.request.End.TheVariants.{Open, With, Without}
 use Rattle.mi_request.specs.declared.request.ChangeRequest.TheVariants as change
 use Rattle.mi_request.specs.declared.request.KeyLookUpRequest.TheVariants as by_key
 use Rattle.mi_request.specs.declared.request.Request.{Request}
 use Rattle.mi_request.specs.declared.request.Request.TheVariants as request
+use Rattle.mi_request.proofs.ObjectLemmas.{get_member-put, has_only-put}
 use Rattle.mi_request.proofs.ParsingLemmas.{request_found}
 
 -- ---- member by member
@@ -50,17 +56,55 @@ pub rest_maybe : (old new : List Token) (name : List ℕ) (o : Option Data) (fou
 rest_maybe old new name None found all same rest = subst (λ ts. IsRest ts found all) same rest
 rest_maybe old new name (Some d) found all m rest = rest_member old new name d found all m rest
 
--- a member that is a whole number from 0
-pub natural_found : (r : Option ℕ) (d : Data) (old new : List Token) (name : List ℕ) → IsMember old name d new → r ≡ natural d
-    → IfSome r (λ n. (x : Data) × IsMember old name x new × (natural x ≡ Some n))
-natural_found None d old new name m e = tt
-natural_found (Some n) d old new name m e = (d, m, sym e)
+-- a value that is a whole number from 0
+pub natural_found : (r : Option ℕ) (d : Data) (old new : List Token) → converted of_json (value 126 old) ≡ Some (d, new) → r ≡ natural d
+    → IfSome r (λ n. (x : Data) × (converted of_json (value 126 old) ≡ Some (x, new)) × (natural x ≡ Some n))
+natural_found None d old new m e = tt
+natural_found (Some n) d old new m e = (d, m, sym e)
 
--- the same of a number of rows at the end
-pub page_found : (r : Option ℕ) (n : ℕ) (d : Data) (old : List Token) → IsLast old (codes "limit") d → natural d ≡ Some n → r ≡ if_page n
-    → IfSome r (λ k. (x : Data) × IsLast old (codes "limit") x × (page x ≡ Some k))
-page_found None n d old m is e = tt
-page_found (Some k) n d old m is e = (d, m, ap (option_and_then if_page) is ∙ sym e)
+-- the same of a member
+pub whole_found : (r : Option ℕ) (old ts new : List Token) (name : List ℕ) → read_key old ≡ Some (Some name, ts)
+    → IfSome r (λ n. (d : Data) × (converted of_json (value 126 ts) ≡ Some (d, new)) × (natural d ≡ Some n))
+    → IfSome r (λ n. (d : Data) × IsMember old name d new × (natural d ≡ Some n))
+whole_found None old ts new name first h = tt
+whole_found (Some n) old ts new name first h = (h.0, (ts, first, h.1), h.2)
+
+-- the same of a number of rows
+pub page_found : (r : Option ℕ) (n : ℕ) (d : Data) (old new : List Token) → IsMember old (codes "limit") d new → natural d ≡ Some n → r ≡ if_page n
+    → IfSome r (λ k. (o : Option Data) × IsMaybe old (codes "limit") o new × (default_if MAX_PAGE page o ≡ Some k))
+page_found None n d old new m is e = tt
+page_found (Some k) n d old new m is e = (Some d, m, ap (option_and_then if_page) is ∙ sym e)
+
+-- a truth value
+pub bool_found : (r : Option Bool) (old ts new : List Token) → read_key old ≡ Some (Some (codes "reverse"), ts) → IfSome r (λ b. ts ≡ token.boolean b ∷ new)
+    → IfSome r (λ b. (o : Option Data) × IsMaybe old (codes "reverse") o new × (default_if false as_bool o ≡ Some b))
+bool_found None old ts new first h = tt
+bool_found (Some b) old ts new first h = (Some (boolean b), (ts, first, ap (converted of_json) (ap (value 126) h ∙ value_is 126 _)), refl)
+
+-- an end of a range
+lower_is : (e : End) → HasKey e → lower_end (end_object (codes "ge") (codes "gt") e) ≡ Some e
+unfolding has_only
+lower_is Open h = absurd h
+lower_is (With ks) h = refl
+lower_is (Without ks) h = refl
+
+upper_is : (e : End) → HasKey e → upper_end (end_object (codes "le") (codes "lt") e) ≡ Some e
+unfolding has_only
+upper_is Open h = absurd h
+upper_is (With ks) h = refl
+upper_is (Without ks) h = refl
+
+pub lower_found : (r : Option End) (old ts new : List Token) → read_key old ≡ Some (Some (codes "lower"), ts)
+    → IfSome r (λ e. HasKey e × (converted of_json (value 126 ts) ≡ Some (end_object (codes "ge") (codes "gt") e, new)))
+    → IfSome r (λ e. (o : Option Data) × IsMaybe old (codes "lower") o new × (default_if Open lower_end o ≡ Some e))
+lower_found None old ts new first h = tt
+lower_found (Some e) old ts new first h = (Some (end_object (codes "ge") (codes "gt") e), (ts, first, h.1), lower_is e h.0)
+
+pub upper_found : (r : Option End) (old ts new : List Token) → read_key old ≡ Some (Some (codes "upper"), ts)
+    → IfSome r (λ e. HasKey e × (converted of_json (value 126 ts) ≡ Some (end_object (codes "le") (codes "lt") e, new)))
+    → IfSome r (λ e. (o : Option Data) × IsMaybe old (codes "upper") o new × (default_if Open upper_end o ≡ Some e))
+upper_found None old ts new first h = tt
+upper_found (Some e) old ts new first h = (Some (end_object (codes "le") (codes "lt") e), (ts, first, h.1), upper_is e h.0)
 
 -- an object of one member
 pub one_member : (name : List ℕ) (s t u v w : List Token) (d : Data) → s ≡ begin_object ∷ t → read_key t ≡ Some (Some name, u) → converted of_json (value 125 u) ≡ Some (d, v)
@@ -171,15 +215,79 @@ modify_asked (Some t) i None (Some a) table id set add p q r u = modified _ _ _ 
 modify_asked (Some t) i (Some s) None table id set add p q r u = modified _ _ _ _ table id set add p q r u
 modify_asked (Some t) i (Some s) (Some a) table id set add p q r u = modified _ _ _ _ table id set add p q r u
 
-ranged : (t : Option (Option (List ℕ))) (i : Option (List ℕ)) (l : Option End) (m : Option ℕ) (table : Option (List ℕ)) (index : List ℕ) (lower : End) (limit : ℕ)
-    → t ≡ Some table → i ≡ Some index → l ≡ Some lower → m ≡ Some limit
-    → option_map₂ request.KeyLookUp t (option_map₅ by_key.Range i l (Some Open) (Some false) m) ≡ Some (request.KeyLookUp table (by_key.Range index lower Open false limit))
-ranged t i l m table index lower limit p q r u = rw (p, q, r, u) refl
+-- ---- members that may each be absent
 
-pub range_asked : (t : Option Data) (i l m : Data) (table : Option (List ℕ)) (index : List ℕ) (lower : End) (limit : ℕ) → if_there as_str t ≡ Some table
-    → as_str i ≡ Some index → lower_end l ≡ Some lower → page m ≡ Some limit
-    → request_in (put (codes "limit") m (put (codes "lower") l (put (codes "index") i (put_if (codes "table") t (named (codes "range"))))))
-    ≡ Some (request.KeyLookUp table (by_key.Range index lower Open false limit))
+abbrev or_else : Option Data → Option Data → Option Data
+or_else None b = b
+or_else (Some d) b = Some d
+
+or_none : (o : Option Data) → or_else o None ≡ o
+or_none None = refl
+or_none (Some d) = refl
+
+-- what one of a name is
+abbrev found : List ℕ → List (List ℕ × Option Data) → Option Data → Option Data
+found name [] last = last
+found name (x ∷ xs) last = cond (bytes_eq name x.0) (or_else x.1 (found name xs last)) (found name xs last)
+
+got_if : (name k : List ℕ) (o : Option Data) (ms : Members)
+    → get_member name (put_if k o ms) ≡ cond (bytes_eq name k) (or_else o (get_member name ms)) (get_member name ms)
+got_if name k None ms = same (bytes_eq name k)
+  where
+    same : (b : Bool) → get_member name ms ≡ cond b (get_member name ms) (get_member name ms)
+    same true = refl
+    same false = refl
+got_if name k (Some d) ms = get_member-put name k d ms
+
+got : (name : List ℕ) (xs : List (List ℕ × Option Data)) (ms : Members) → get_member name (put_all xs ms) ≡ found name xs (get_member name ms)
+got name [] ms = refl
+got name (x ∷ xs) ms =
+    got_if name x.0 x.1 (put_all xs ms) ∙ ap (λ o. cond (bytes_eq name x.0) (or_else x.1 o) o) (got name xs ms)
+
+-- whether all have these names
+abbrev are_of : List (List ℕ) → List (List ℕ × Option Data) → Bool
+are_of names [] = true
+are_of names (x ∷ xs) = list_any (λ n. bytes_eq x.0 n) names && are_of names xs
+
+of_names : (names : List (List ℕ)) (k : List ℕ) (o : Option Data) (ms : Members) → list_any (λ n. bytes_eq k n) names ≡ true → has_only names ms ≡ true
+    → has_only names (put_if k o ms) ≡ true
+of_names names k None ms own others = others
+of_names names k (Some d) ms own others = has_only-put names k d ms ∙ ap₂ (λ a b. a && b) own others
+
+both : (a b : Bool) → (a && b) ≡ true → (a ≡ true) × (b ≡ true)
+both true true e = (refl, refl)
+both true false e = absurd (cc)
+both false b e = absurd (cc)
+
+all_of_names : (names : List (List ℕ)) (xs : List (List ℕ × Option Data)) (ms : Members) → are_of names xs ≡ true → has_only names ms ≡ true
+    → has_only names (put_all xs ms) ≡ true
+all_of_names names [] ms e others = others
+all_of_names names (x ∷ xs) ms e others =
+    let p = both _ (are_of names xs) e in
+    of_names names x.0 x.1 (put_all xs ms) p.0 (all_of_names names xs ms p.1 others)
+
+ranged : (t : Option (Option (List ℕ))) (i : Option (List ℕ)) (l u : Option End) (r : Option Bool) (m : Option ℕ) (table : Option (List ℕ)) (index : List ℕ)
+    (lower upper : End) (reverse : Bool) (limit : ℕ) → t ≡ Some table → i ≡ Some index → l ≡ Some lower → u ≡ Some upper → r ≡ Some reverse → m ≡ Some limit
+    → option_map₂ request.KeyLookUp t (option_map₅ by_key.Range i l u r m) ≡ Some (request.KeyLookUp table (by_key.Range index lower upper reverse limit))
+ranged t i l u r m table index lower upper reverse limit p q a b c d = rw (p, q, a, b, c, d) refl
+
+pub range_asked : (t : Option Data) (i : Data) (l u r m : Option Data) (table : Option (List ℕ)) (index : List ℕ) (lower upper : End) (reverse : Bool) (limit : ℕ)
+    → if_there as_str t ≡ Some table → as_str i ≡ Some index → default_if Open lower_end l ≡ Some lower → default_if Open upper_end u ≡ Some upper
+    → default_if false as_bool r ≡ Some reverse → default_if MAX_PAGE page m ≡ Some limit
+    → request_in (put_all (range_members t i l u r m) (named (codes "range"))) ≡ Some (request.KeyLookUp table (by_key.Range index lower upper reverse limit))
 unfolding has_only look_up_named
-range_asked None i l m table index lower limit p q r u = ranged _ _ _ _ table index lower limit p q r u
-range_asked (Some t) i l m table index lower limit p q r u = ranged _ _ _ _ table index lower limit p q r u
+range_asked t i l u r m table index lower upper reverse limit p q a b c d =
+    let xs = range_members t i l u r m in
+    let ms = named (codes "range") in
+    let all = put_all xs ms in
+    let form = form_of name.Range in
+    let cmd : form_in all ≡ Some form = ap (λ o. option_map form_of (option_and_then command_named (option_and_then as_str o))) (got (codes "cmd") xs ms) in
+    let only : has_only (codes "cmd" ∷ member_names form) all ≡ true = all_of_names (codes "cmd" ∷ member_names form) xs ms refl refl in
+    ap (option_and_then (request_by all)) cmd ∙ ap (λ y. if y then asked form.asks all else None) only
+    ∙ ranged _ _ _ _ _ _ table index lower upper reverse limit
+    (ap (if_there as_str) (got (codes "table") xs ms ∙ or_none t) ∙ p)
+    (ap (option_and_then as_str) (got (codes "index") xs ms) ∙ q)
+    (ap (default_if Open lower_end) (got (codes "lower") xs ms ∙ or_none l) ∙ a)
+    (ap (default_if Open upper_end) (got (codes "upper") xs ms ∙ or_none u) ∙ b)
+    (ap (default_if false as_bool) (got (codes "reverse") xs ms ∙ or_none r) ∙ c)
+    (ap (default_if MAX_PAGE page) (got (codes "limit") xs ms ∙ or_none m) ∙ d)

@@ -66,7 +66,7 @@ get_put_at Greater name k l d e ms is later =
     ∙ crossed (bytes_eq name k) (bytes_eq name l) (Some d) (Some e) (get_member name ms) (apart name k l (sym (eq_of k l Greater is)))
     ∙ ap (cond (bytes_eq name k) (Some d)) (sym (get_front name l e ms))
 
-get_member-put : (name k : List ℕ) (d : Data) (ms : Members) → get_member name (put k d ms) ≡ cond (bytes_eq name k) (Some d) (get_member name ms)
+pub get_member-put : (name k : List ℕ) (d : Data) (ms : Members) → get_member name (put k d ms) ≡ cond (bytes_eq name k) (Some d) (get_member name ms)
 get_member-put name k d no_members = get_front name k d no_members
 get_member-put name k d (member l e ms) = get_put_at _ name k l d e ms refl (get_member-put name k d ms)
 
@@ -95,7 +95,7 @@ has_put_at Greater names k l d e ms is later =
     ap (λ b. list_any (λ n. bytes_eq l n) names && b) later
     ∙ swapped (list_any (λ n. bytes_eq l n) names) (list_any (λ n. bytes_eq k n) names) (has_only names ms)
 
-has_only-put : (names : List (List ℕ)) (k : List ℕ) (d : Data) (ms : Members)
+pub has_only-put : (names : List (List ℕ)) (k : List ℕ) (d : Data) (ms : Members)
     → has_only names (put k d ms) ≡ (list_any (λ n. bytes_eq k n) names && has_only names ms)
 unfolding has_only
 has_only-put names k d no_members = refl

@@ -1,17 +1,19 @@
 //! Commands over keys, rows and ranges as a compact writer gives them: `cmd` first, and then the members in the order of the table of
 //! commands. Each member goes to its place as it is read. What is written in another way is left to the reading of any line.
-ghost use Rattle.std.specs.Prelude.{◌≡◌, ◌++◌, ℕ, List, Option, IfSome, Some, None, Ok, codes};
+ghost use Rattle.std.specs.Prelude.{◌≡◌, ◌++◌, ℕ, List, Option, IfSome, Some, None, Ok, false, codes};
 ghost use Rattle.json.specs.Json.{read_key, value};
 ghost use Rattle.json.specs.Print.{escape};
 ghost use Rattle.json.specs.Token.{Token};
 ghost use Rattle.serde_json.specs.Data.{Data, array, object, string, no_members};
 ghost use Rattle.serde_json.specs.Read.{of_json, converted};
-ghost use Rattle.serde_json.specs.Find.{as_str, as_object};
+ghost use Rattle.serde_json.specs.Find.{as_str, as_bool, as_object};
 ghost use Rattle.mi_tokens.specs.Ends.{name_text};
 ghost use Rattle.mi_tokens.specs.Tokens.{tokens_at};
 ghost use Rattle.mi_tokens.specs.declared.tokens.Context.TheVariants.{AfterComma};
-ghost use Rattle.mi_request.specs.Commands.{lower_end, page};
-ghost use Rattle.mi_request.specs.Flat.{IsMember, IsMaybe, IsLast, command_start};
+ghost use Rattle.mi_value.specs.declared.limits.TheConstants.{MAX_PAGE};
+ghost use Rattle.mi_request.specs.Commands.{lower_end, upper_end, page};
+ghost use Rattle.mi_request.specs.Flat.{IsMember, IsMaybe, IsLast, HasKey, end_object, command_start};
+ghost use Rattle.mi_request.specs.declared.request.End.TheVariants.{Open};
 ghost use Rattle.mi_request.specs.Json.{natural, if_there, default_if};
 ghost use Rattle.mi_request.specs.Keyed.{key_name};
 ghost use Rattle.mi_request.specs.Lines.{command_line};
@@ -25,6 +27,7 @@ use crate::request::{ChangeRequest, End, KeyLookUpRequest, Request};
 use crate::text::text_of;
 use bumpalo::Bump;
 use mi_tokens::{Json, Tokens, pass_object, pass_one};
+use mi_value::limits::MAX_PAGE;
 
 /// Where the first letter of the command's name stands in such a line.
 const FIRST_AT: usize = 8;
@@ -71,6 +74,14 @@ fn index_next<'a>(tokens: &mut Tokens<'a>) -> Option<Name<'a>>
     Some(Name::new(tokens.take_text()?))
 }
 
+/// A whole number from 0, as the value that must come next.
+#[inline(always)]
+fn whole_value(tokens: &mut Tokens<'_>) -> Option<u64>
+    ensures { IfSome result (λ n. (d : Data) × (converted of_json (value 126 tokens.old) ≡ Some (d, tokens.new)) × (natural d ≡ Some n)) }
+{
+    natural_of(&Json::Whole(tokens.take_whole()?))
+}
+
 /// The whole number from 0 of a member that must come next.
 #[inline(always)]
 fn whole<const N: usize>(tokens: &mut Tokens<'_>, name: &[u8; N]) -> Option<u64>
@@ -80,7 +91,7 @@ fn whole<const N: usize>(tokens: &mut Tokens<'_>, name: &[u8; N]) -> Option<u64>
     if !tokens.take_key(name) {
         return None;
     }
-    natural_of(&Json::Whole(tokens.take_whole()?))
+    whole_value(tokens)
 }
 
 /// The table, if it comes next.
@@ -94,13 +105,26 @@ fn table<'a>(tokens: &mut Tokens<'a>) -> Option<Option<Name<'a>>>
     Some(Some(Name::new(tokens.take_text()?)))
 }
 
-/// A number of rows, 1 to 1,000, as the last member.
+/// A number of rows, 1 to 1,000, if it comes next; absent it is 1,000.
 #[inline(always)]
-fn last_limit(tokens: &mut Tokens<'_>) -> Option<usize>
-    ensures { IfSome result (λ n. (d : Data) × IsLast tokens.old (codes "limit") d × (page d ≡ Some n)) }
+fn limit(tokens: &mut Tokens<'_>) -> Option<usize>
+    ensures { IfSome result (λ n. (o : Option Data) × IsMaybe tokens.old (codes "limit") o tokens.new × (default_if MAX_PAGE page o ≡ Some n)) }
 {
-    let n = whole(tokens, b"\"limit\":")?;
-    if tokens.take_end() { if_page(n) } else { None }
+    if !tokens.take_key(b"\"limit\":") {
+        return Some(MAX_PAGE);
+    }
+    if_page(whole_value(tokens)?)
+}
+
+/// Whether a range is reversed, if that comes next; absent it isn't.
+#[inline(always)]
+fn reverse(tokens: &mut Tokens<'_>) -> Option<bool>
+    ensures { IfSome result (λ b. (o : Option Data) × IsMaybe tokens.old (codes "reverse") o tokens.new × (default_if false as_bool o ≡ Some b)) }
+{
+    if !tokens.take_key(b"\"reverse\":") {
+        return Some(false);
+    }
+    tokens.take_bool()
 }
 
 /// The key of one value, as the last member.
@@ -124,21 +148,49 @@ fn last_key<'a>(arena: &'a Bump, tokens: &mut Tokens<'a>) -> Option<Array<'a>>
     if tokens.take_close() { Some(key) } else { None }
 }
 
-/// The lower end of a range that must come next, with a key of one value.
+/// The object of an end of a range: a key of one value, behind one name where it is in the range, and behind another where it isn't.
 #[inline(always)]
-fn lower<'a>(arena: &'a Bump, tokens: &mut Tokens<'a>) -> Option<End<'a>>
-    ensures { IfSome result (λ e. (d : Data) × IsMember tokens.old (codes "lower") d tokens.new × (lower_end d ≡ Some e)) }
+fn one_end<'a, const N: usize>(
+    arena: &'a Bump,
+    tokens: &mut Tokens<'a>,
+    with: &[u8; N],
+    without: &[u8; N],
+) -> Option<End<'a>>
+    ensures { (w o : List ℕ) → with.now ≡ name_text w → escape w ≡ w → without.now ≡ name_text o → escape o ≡ o
+        → IfSome result (λ e. HasKey e × (converted of_json (value 126 tokens.old) ≡ Some (end_object w o e, tokens.new))) }
 {
-    if !tokens.take_key(b"\"lower\":") || !tokens.take_object() {
+    if !tokens.take_object() {
         return None;
     }
-    if tokens.take_key(b"\"ge\":") {
+    if tokens.take_key(with) {
         return Some(End::With(last_key(arena, tokens)?));
     }
-    if !tokens.take_key(b"\"gt\":") {
+    if !tokens.take_key(without) {
         return None;
     }
     Some(End::Without(last_key(arena, tokens)?))
+}
+
+/// The lower end of a range, if it comes next, with a key of one value.
+#[inline(always)]
+fn lower<'a>(arena: &'a Bump, tokens: &mut Tokens<'a>) -> Option<End<'a>>
+    ensures { IfSome result (λ e. (o : Option Data) × IsMaybe tokens.old (codes "lower") o tokens.new × (default_if Open lower_end o ≡ Some e)) }
+{
+    if !tokens.take_key(b"\"lower\":") {
+        return Some(End::Open);
+    }
+    one_end(arena, tokens, b"\"ge\":", b"\"gt\":")
+}
+
+/// The upper end of a range, if it comes next, with a key of one value.
+#[inline(always)]
+fn upper<'a>(arena: &'a Bump, tokens: &mut Tokens<'a>) -> Option<End<'a>>
+    ensures { IfSome result (λ e. (o : Option Data) × IsMaybe tokens.old (codes "upper") o tokens.new × (default_if Open upper_end o ≡ Some e)) }
+{
+    if !tokens.take_key(b"\"upper\":") {
+        return Some(End::Open);
+    }
+    one_end(arena, tokens, b"\"le\":", b"\"lt\":")
 }
 
 /// The tokens behind the name of a command over a key.
@@ -218,7 +270,7 @@ pub(crate) fn modify<'a>(arena: &'a Bump, text: &'a str) -> Option<Request<'a>>
     })
 }
 
-/// A page of a range from a key on.
+/// A page of a range.
 #[inline(always)]
 pub(crate) fn range<'a>(arena: &'a Bump, text: &'a str) -> Option<Request<'a>>
     ensures { IfSome result (λ r. command_line text.now ≡ Ok r) }
@@ -227,14 +279,19 @@ pub(crate) fn range<'a>(arena: &'a Bump, text: &'a str) -> Option<Request<'a>>
     let table = table(&mut tokens)?;
     let index = index_next(&mut tokens)?;
     let lower = lower(arena, &mut tokens)?;
-    let limit = last_limit(&mut tokens)?;
+    let upper = upper(arena, &mut tokens)?;
+    let reverse = reverse(&mut tokens)?;
+    let limit = limit(&mut tokens)?;
+    if !tokens.take_end() {
+        return None;
+    }
     Some(Request::KeyLookUp {
         table,
         look_up: KeyLookUpRequest::Range {
             index,
             lower,
-            upper: End::Open,
-            reverse: false,
+            upper,
+            reverse,
             limit,
         },
     })

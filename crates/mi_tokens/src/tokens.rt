@@ -240,6 +240,17 @@ impl<'a> Tokens<'a> {
         Some(n)
     }
 
+    /// Takes true or false, if it is next.
+    #[inline(always)]
+    pub fn take_bool(&mut self) -> Option<bool>
+        ensures { IfSome result (λ b. self.old ≡ spec.boolean b ∷ self.new) }
+    {
+        match self.next()? {
+            Start::Bool(b) => Some(b),
+            _ => None,
+        }
+    }
+
     /// Takes the bracket with which an array begins, if it is next.
     #[inline(always)]
     pub(crate) fn take_array(&mut self) -> bool
