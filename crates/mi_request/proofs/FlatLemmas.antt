@@ -1,5 +1,5 @@
 -- An object that is read member by member is what its text means, and so each flat line is the request of its members.
--- Cited by `flat::insert`, `flat::keyed`, `flat::last_limit`, `flat::lower`, `flat::modify` and 3 more.
+-- Cited by `flat::flag`, `flat::insert`, `flat::keyed`, `flat::limit`, `flat::list` and 8 more.
 use Rattle.std.proofs.Common.{IfSome, option_map, option_and_then, sym, ◌≡◌, ℕ, ◌-◌, List, [], ◌∷◌, ◌++◌, length, Option, Some, None, Ok, IsUtf8, codes, Bool, true, false, cond}
 use Rattle.std.proofs.Common.{if◌then◌else◌, ◌&&◌, refl, ap, ap₂, ◌∙◌, subst, arith, append_assoc}
 use Rattle.std.specs.List.{list_any}
@@ -20,10 +20,11 @@ use Rattle.mi_tokens.specs.Tokens.{tokens_at}
 use Rattle.mi_tokens.specs.declared.tokens.Context.TheVariants.{AfterComma}
 use Rattle.mi_value.specs.declared.limits.TheConstants.{MAX_PAGE}
 use Rattle.mi_request.specs.Commands.{look_up_named, command_named, lower_end, upper_end, if_page, page, form_of, member_names, asked}
-use Rattle.mi_request.specs.Flat.{IsRest, IsMember, IsMaybe, IsLast, HasKey, end_object, put_if, put_all, range_members, command_start, named, keyed_members}
-use Rattle.mi_request.specs.Json.{has_only, natural, if_there, default_if, option_map₂, option_map₄, option_map₅}
+use Rattle.mi_request.specs.Flat.{IsRest, IsMember, IsMaybe, IsLast, HasKey, end_object, put_if, put_all, modify_members, range_members, list_members, command_start, named, keyed_members}
+use Rattle.mi_request.specs.Json.{has_only, natural, if_there, default_if, option_map₂, option_map₃, option_map₄, option_map₅}
 use Rattle.mi_request.specs.Keyed.{key_name, asked_key}
 use Rattle.mi_request.specs.Lines.{form_in, request_by, request_in, command_line}
+use Rattle.mi_request.specs.declared.forms.CommandName.{CommandName}
 use Rattle.mi_request.specs.declared.forms.CommandName.TheVariants as name
 use Rattle.mi_request.specs.declared.keyed.KeyCommand.{KeyCommand}
 use Rattle.mi_request.specs.declared.keyed.KeyCommand.TheVariants as keyed
@@ -31,6 +32,7 @@ use Rattle.mi_request.specs.declared.request.End.{End}
 use Rattle.mi_request.specs.declared.request.End.TheVariants.{Open, With, Without}
 use Rattle.mi_request.specs.declared.request.ChangeRequest.TheVariants as change
 use Rattle.mi_request.specs.declared.request.KeyLookUpRequest.TheVariants as by_key
+use Rattle.mi_request.specs.declared.request.NumberLookUpRequest.TheVariants as by_number
 use Rattle.mi_request.specs.declared.request.Request.{Request}
 use Rattle.mi_request.specs.declared.request.Request.TheVariants as request
 use Rattle.mi_request.proofs.ObjectLemmas.{get_member-put, has_only-put}
@@ -76,10 +78,10 @@ page_found None n d old new m is e = tt
 page_found (Some k) n d old new m is e = (Some d, m, ap (option_and_then if_page) is ∙ sym e)
 
 -- a truth value
-pub bool_found : (r : Option Bool) (old ts new : List Token) → read_key old ≡ Some (Some (codes "reverse"), ts) → IfSome r (λ b. ts ≡ token.boolean b ∷ new)
-    → IfSome r (λ b. (o : Option Data) × IsMaybe old (codes "reverse") o new × (default_if false as_bool o ≡ Some b))
-bool_found None old ts new first h = tt
-bool_found (Some b) old ts new first h = (Some (boolean b), (ts, first, ap (converted of_json) (ap (value 126) h ∙ value_is 126 _)), refl)
+pub bool_found : (r : Option Bool) (old ts new : List Token) (name : List ℕ) → read_key old ≡ Some (Some name, ts) → IfSome r (λ b. ts ≡ token.boolean b ∷ new)
+    → IfSome r (λ b. (o : Option Data) × IsMaybe old name o new × (default_if false as_bool o ≡ Some b))
+bool_found None old ts new name first h = tt
+bool_found (Some b) old ts new name first h = (Some (boolean b), (ts, first, ap (converted of_json) (ap (value 126) h ∙ value_is 126 _)), refl)
 
 -- an end of a range
 lower_is : (e : End) → HasKey e → lower_end (end_object (codes "ge") (codes "gt") e) ≡ Some e
@@ -196,25 +198,6 @@ unfolding has_only
 replace_asked None i d table id row p q r = two request.Change _ _ table (change.Replace id row) p (two change.Replace _ _ id row q r)
 replace_asked (Some t) i d table id row p q r = two request.Change _ _ table (change.Replace id row) p (two change.Replace _ _ id row q r)
 
-modified : (t : Option (Option (List ℕ))) (i : Option ℕ) (s a : Option Members) (table : Option (List ℕ)) (id : ℕ) (set add : Members) → t ≡ Some table → i ≡ Some id
-    → s ≡ Some set → a ≡ Some add
-    → option_map₂ request.Change t (option_map₄ change.Modify i s a (Some false)) ≡ Some (request.Change table (change.Modify id set add false))
-modified t i s a table id set add p q r u = rw (p, q, r, u) refl
-
-pub modify_asked : (t : Option Data) (i : Data) (s a : Option Data) (table : Option (List ℕ)) (id : ℕ) (set add : Members) → if_there as_str t ≡ Some table
-    → natural i ≡ Some id → default_if no_members as_object s ≡ Some set → default_if no_members as_object a ≡ Some add
-    → request_in (put_if (codes "add") a (put_if (codes "set") s (put (codes "id") i (put_if (codes "table") t (named (codes "modify"))))))
-    ≡ Some (request.Change table (change.Modify id set add false))
-unfolding has_only
-modify_asked None i None None table id set add p q r u = modified _ _ _ _ table id set add p q r u
-modify_asked None i None (Some a) table id set add p q r u = modified _ _ _ _ table id set add p q r u
-modify_asked None i (Some s) None table id set add p q r u = modified _ _ _ _ table id set add p q r u
-modify_asked None i (Some s) (Some a) table id set add p q r u = modified _ _ _ _ table id set add p q r u
-modify_asked (Some t) i None None table id set add p q r u = modified _ _ _ _ table id set add p q r u
-modify_asked (Some t) i None (Some a) table id set add p q r u = modified _ _ _ _ table id set add p q r u
-modify_asked (Some t) i (Some s) None table id set add p q r u = modified _ _ _ _ table id set add p q r u
-modify_asked (Some t) i (Some s) (Some a) table id set add p q r u = modified _ _ _ _ table id set add p q r u
-
 -- ---- members that may each be absent
 
 abbrev or_else : Option Data → Option Data → Option Data
@@ -266,6 +249,40 @@ all_of_names names (x ∷ xs) ms e others =
     let p = both _ (are_of names xs) e in
     of_names names x.0 x.1 (put_all xs ms) p.0 (all_of_names names xs ms p.1 others)
 
+-- the request of members that have the names of a form alone
+by_form : (n : CommandName) (command : List ℕ) (xs : List (List ℕ × Option Data)) → found (codes "cmd") xs (get_member (codes "cmd") (named command)) ≡ Some (string command)
+    → command_named command ≡ Some n → are_of (codes "cmd" ∷ member_names (form_of n)) xs ≡ true → has_only (codes "cmd" ∷ member_names (form_of n)) (named command) ≡ true
+    → request_in (put_all xs (named command)) ≡ asked (form_of n).asks (put_all xs (named command))
+by_form n command xs first is names cmd_too =
+    let ms = named command in
+    let all = put_all xs ms in
+    let form = form_of n in
+    let cmd : form_in all ≡ Some form =
+    ap (λ o. option_map form_of (option_and_then command_named (option_and_then as_str o))) (got (codes "cmd") xs ms ∙ first) ∙ ap (option_map form_of) is in
+    ap (option_and_then (request_by all)) cmd
+    ∙ ap (λ y. if y then asked form.asks all else None) (all_of_names (codes "cmd" ∷ member_names form) xs ms names cmd_too)
+
+modified : (t : Option (Option (List ℕ))) (i : Option ℕ) (s a : Option Members) (r : Option Bool) (table : Option (List ℕ)) (id : ℕ) (set add : Members) (rollback : Bool)
+    → t ≡ Some table → i ≡ Some id → s ≡ Some set → a ≡ Some add → r ≡ Some rollback
+    → option_map₂ request.Change t (option_map₄ change.Modify i s a r) ≡ Some (request.Change table (change.Modify id set add rollback))
+modified t i s a r table id set add rollback p q b c d = rw (p, q, b, c, d) refl
+
+pub modify_asked : (t : Option Data) (i : Data) (s a r : Option Data) (table : Option (List ℕ)) (id : ℕ) (set add : Members) (rollback : Bool)
+    → if_there as_str t ≡ Some table → natural i ≡ Some id → default_if no_members as_object s ≡ Some set → default_if no_members as_object a ≡ Some add
+    → default_if false as_bool r ≡ Some rollback
+    → request_in (put_all (modify_members t i s a r) (named (codes "modify"))) ≡ Some (request.Change table (change.Modify id set add rollback))
+unfolding has_only
+modify_asked t i s a r table id set add rollback p q b c d =
+    let xs = modify_members t i s a r in
+    let ms = named (codes "modify") in
+    by_form name.Modify (codes "modify") xs refl refl refl refl
+    ∙ modified _ _ _ _ _ table id set add rollback
+    (ap (if_there as_str) (got (codes "table") xs ms ∙ or_none t) ∙ p)
+    (ap (option_and_then natural) (got (codes "id") xs ms) ∙ q)
+    (ap (default_if no_members as_object) (got (codes "set") xs ms ∙ or_none s) ∙ b)
+    (ap (default_if no_members as_object) (got (codes "add") xs ms ∙ or_none a) ∙ c)
+    (ap (default_if false as_bool) (got (codes "rollback") xs ms ∙ or_none r) ∙ d)
+
 ranged : (t : Option (Option (List ℕ))) (i : Option (List ℕ)) (l u : Option End) (r : Option Bool) (m : Option ℕ) (table : Option (List ℕ)) (index : List ℕ)
     (lower upper : End) (reverse : Bool) (limit : ℕ) → t ≡ Some table → i ≡ Some index → l ≡ Some lower → u ≡ Some upper → r ≡ Some reverse → m ≡ Some limit
     → option_map₂ request.KeyLookUp t (option_map₅ by_key.Range i l u r m) ≡ Some (request.KeyLookUp table (by_key.Range index lower upper reverse limit))
@@ -279,11 +296,7 @@ unfolding has_only look_up_named
 range_asked t i l u r m table index lower upper reverse limit p q a b c d =
     let xs = range_members t i l u r m in
     let ms = named (codes "range") in
-    let all = put_all xs ms in
-    let form = form_of name.Range in
-    let cmd : form_in all ≡ Some form = ap (λ o. option_map form_of (option_and_then command_named (option_and_then as_str o))) (got (codes "cmd") xs ms) in
-    let only : has_only (codes "cmd" ∷ member_names form) all ≡ true = all_of_names (codes "cmd" ∷ member_names form) xs ms refl refl in
-    ap (option_and_then (request_by all)) cmd ∙ ap (λ y. if y then asked form.asks all else None) only
+    by_form name.Range (codes "range") xs refl refl refl refl
     ∙ ranged _ _ _ _ _ _ table index lower upper reverse limit
     (ap (if_there as_str) (got (codes "table") xs ms ∙ or_none t) ∙ p)
     (ap (option_and_then as_str) (got (codes "index") xs ms) ∙ q)
@@ -291,3 +304,22 @@ range_asked t i l u r m table index lower upper reverse limit p q a b c d =
     (ap (default_if Open upper_end) (got (codes "upper") xs ms ∙ or_none u) ∙ b)
     (ap (default_if false as_bool) (got (codes "reverse") xs ms ∙ or_none r) ∙ c)
     (ap (default_if MAX_PAGE page) (got (codes "limit") xs ms ∙ or_none m) ∙ d)
+
+listed : (t : Option (Option (List ℕ))) (i : Option (List ℕ)) (a : Option (Option ℕ)) (m : Option ℕ) (table : Option (List ℕ)) (index : List ℕ) (after : Option ℕ) (limit : ℕ)
+    → t ≡ Some table → i ≡ Some index → a ≡ Some after → m ≡ Some limit
+    → option_map₂ request.NumberLookUp t (option_map₃ by_number.List i a m) ≡ Some (request.NumberLookUp table (by_number.List index after limit))
+listed t i a m table index after limit p q b c = rw (p, q, b, c) refl
+
+pub list_asked : (t : Option Data) (i : Data) (a m : Option Data) (table : Option (List ℕ)) (index : List ℕ) (after : Option ℕ) (limit : ℕ)
+    → if_there as_str t ≡ Some table → as_str i ≡ Some index → if_there natural a ≡ Some after → default_if MAX_PAGE page m ≡ Some limit
+    → request_in (put_all (list_members t i a m) (named (codes "list"))) ≡ Some (request.NumberLookUp table (by_number.List index after limit))
+unfolding has_only look_up_named
+list_asked t i a m table index after limit p q b c =
+    let xs = list_members t i a m in
+    let ms = named (codes "list") in
+    by_form name.List (codes "list") xs refl refl refl refl
+    ∙ listed _ _ _ _ table index after limit
+    (ap (if_there as_str) (got (codes "table") xs ms ∙ or_none t) ∙ p)
+    (ap (option_and_then as_str) (got (codes "index") xs ms) ∙ q)
+    (ap (if_there natural) (got (codes "after") xs ms ∙ or_none a) ∙ b)
+    (ap (default_if MAX_PAGE page) (got (codes "limit") xs ms ∙ or_none m) ∙ c)

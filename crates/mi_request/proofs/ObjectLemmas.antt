@@ -1,5 +1,5 @@
 -- Members of objects: which names they have, and what one of a name is.
--- Cited by `Object::get`, `Object::has_only`, `object::place_of` and `mi_protocol`.
+-- Cited by `Object::get`, `Object::has_only`, `object::place_of`, `FlatLemmas` and `mi_protocol`.
 use Rattle.std.proofs.Common.{◌≡◌, ℕ, zero, suc, List, [], ◌∷◌, ◌++◌, length, map, get_or, Bool, true, false, cond, Option, Some, None}
 use Rattle.std.proofs.Common.{Bor, refl, sym, ap, ap₂, ◌∙◌, ◌&&◌, ◌||◌, ◌⊎◌, inl, inr, true≢false, Ordering, Less, Equal, Greater, nat_cmp}
 use Rattle.std.specs.List.{list_any, list_all}

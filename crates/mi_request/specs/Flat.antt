@@ -55,7 +55,14 @@ abbrev pub put_all : List (List ℕ × Option Data) → Members → Members
 put_all [] ms = ms
 put_all (x ∷ xs) ms = put_if x.0 x.1 (put_all xs ms)
 
--- the members of a range
+-- the members of a modify, of a range and of a list
+abbrev pub modify_members : Option Data → Data → Option Data → Option Data → Option Data → List (List ℕ × Option Data)
+modify_members table id set add rollback =
+    (codes "rollback", rollback) ∷ (codes "add", add) ∷ (codes "set", set) ∷ (codes "id", Some id) ∷ (codes "table", table) ∷ []
+
 abbrev pub range_members : Option Data → Data → Option Data → Option Data → Option Data → Option Data → List (List ℕ × Option Data)
 range_members table index lower upper reverse limit =
     (codes "limit", limit) ∷ (codes "reverse", reverse) ∷ (codes "upper", upper) ∷ (codes "lower", lower) ∷ (codes "index", Some index) ∷ (codes "table", table) ∷ []
+
+abbrev pub list_members : Option Data → Data → Option Data → Option Data → List (List ℕ × Option Data)
+list_members table index after limit = (codes "limit", limit) ∷ (codes "after", after) ∷ (codes "index", Some index) ∷ (codes "table", table) ∷ []

@@ -23,7 +23,7 @@ use crate::keyed::KeyCommand;
 use crate::name::Name;
 use crate::object::Object;
 use crate::reading::{if_page, natural_of};
-use crate::request::{ChangeRequest, End, KeyLookUpRequest, Request};
+use crate::request::{ChangeRequest, End, KeyLookUpRequest, NumberLookUpRequest, Request};
 use crate::text::text_of;
 use bumpalo::Bump;
 use mi_tokens::{Json, Tokens, pass_object, pass_one};
@@ -116,15 +116,27 @@ fn limit(tokens: &mut Tokens<'_>) -> Option<usize>
     if_page(whole_value(tokens)?)
 }
 
-/// Whether a range is reversed, if that comes next; absent it isn't.
+/// A truth value of a member that may come next; absent it is false.
 #[inline(always)]
-fn reverse(tokens: &mut Tokens<'_>) -> Option<bool>
-    ensures { IfSome result (λ b. (o : Option Data) × IsMaybe tokens.old (codes "reverse") o tokens.new × (default_if false as_bool o ≡ Some b)) }
+fn flag<const N: usize>(tokens: &mut Tokens<'_>, name: &[u8; N]) -> Option<bool>
+    ensures { (s : List ℕ) → name.now ≡ name_text s → escape s ≡ s
+        → IfSome result (λ b. (o : Option Data) × IsMaybe tokens.old s o tokens.new × (default_if false as_bool o ≡ Some b)) }
 {
-    if !tokens.take_key(b"\"reverse\":") {
+    if !tokens.take_key(name) {
         return Some(false);
     }
     tokens.take_bool()
+}
+
+/// The id behind which a list begins, if it comes next.
+#[inline(always)]
+fn after(tokens: &mut Tokens<'_>) -> Option<Option<u64>>
+    ensures { IfSome result (λ n. (o : Option Data) × IsMaybe tokens.old (codes "after") o tokens.new × (if_there natural o ≡ Some n)) }
+{
+    if !tokens.take_key(b"\"after\":") {
+        return Some(None);
+    }
+    Some(Some(whole_value(tokens)?))
 }
 
 /// The key of one value, as the last member.
@@ -256,6 +268,7 @@ pub(crate) fn modify<'a>(arena: &'a Bump, text: &'a str) -> Option<Request<'a>>
     let id = whole(&mut tokens, b"\"id\":")?;
     let set = edits(arena, &mut tokens, b"\"set\":")?;
     let add = edits(arena, &mut tokens, b"\"add\":")?;
+    let rollback = flag(&mut tokens, b"\"rollback\":")?;
     if !tokens.take_end() {
         return None;
     }
@@ -265,7 +278,7 @@ pub(crate) fn modify<'a>(arena: &'a Bump, text: &'a str) -> Option<Request<'a>>
             id,
             set,
             add,
-            rollback: false,
+            rollback,
         },
     })
 }
@@ -280,7 +293,7 @@ pub(crate) fn range<'a>(arena: &'a Bump, text: &'a str) -> Option<Request<'a>>
     let index = index_next(&mut tokens)?;
     let lower = lower(arena, &mut tokens)?;
     let upper = upper(arena, &mut tokens)?;
-    let reverse = reverse(&mut tokens)?;
+    let reverse = flag(&mut tokens, b"\"reverse\":")?;
     let limit = limit(&mut tokens)?;
     if !tokens.take_end() {
         return None;
@@ -297,6 +310,29 @@ pub(crate) fn range<'a>(arena: &'a Bump, text: &'a str) -> Option<Request<'a>>
     })
 }
 
+/// A page of a list.
+#[inline(always)]
+pub(crate) fn list(text: &str) -> Option<Request<'_>>
+    ensures { IfSome result (λ r. command_line text.now ≡ Ok r) }
+{
+    let mut tokens = Tokens::behind(text, b"{\"cmd\":\"list\",")?;
+    let table = table(&mut tokens)?;
+    let index = index_next(&mut tokens)?;
+    let after = after(&mut tokens)?;
+    let limit = limit(&mut tokens)?;
+    if !tokens.take_end() {
+        return None;
+    }
+    Some(Request::NumberLookUp {
+        table,
+        look_up: NumberLookUpRequest::List {
+            index,
+            after,
+            limit,
+        },
+    })
+}
+
 /// A command that can be read so.
 #[derive(Clone, Copy)]
 pub(crate) enum Flat {
@@ -304,6 +340,7 @@ pub(crate) enum Flat {
     Replace,
     Modify,
     Range,
+    List,
     Keyed(KeyCommand),
 }
 
@@ -315,6 +352,7 @@ fn command_of(first: u8, third: u8) -> Option<Flat> {
         (b'r', b'p') => Some(Flat::Replace),
         (b'm', b'd') => Some(Flat::Modify),
         (b'r', b'n') => Some(Flat::Range),
+        (b'l', b's') => Some(Flat::List),
         (b'e', b'a') => Some(Flat::Keyed(KeyCommand::EraseKey)),
         (b'f', b'n') => Some(Flat::Keyed(KeyCommand::Find)),
         (b'c', b'u') => Some(Flat::Keyed(KeyCommand::Count)),

@@ -8,7 +8,7 @@ ghost use Rattle.mi_request.specs.declared.request.ChangeRequest.{ChangeRequest 
 ghost use Rattle.mi_request.specs.declared.request.Request.{Request as Asked};
 ghost use Rattle.mi_request.specs.declared.request.Request.TheVariants as request;
 
-use crate::flat::{Flat, flat_of, insert, keyed, modify, range, replace};
+use crate::flat::{Flat, flat_of, insert, keyed, list, modify, range, replace};
 use crate::request::{Request, ShortRequest, request_of};
 use crate::short::short_change;
 use crate::value::read_value;
@@ -85,6 +85,9 @@ impl LineReader {
                 return Ok(asked);
             },
             Some((Flat::Range, text)) => if let Some(asked) = range(arena, text) {
+                return Ok(asked);
+            },
+            Some((Flat::List, text)) => if let Some(asked) = list(text) {
                 return Ok(asked);
             },
             Some((Flat::Keyed(command), text)) => {
