@@ -25,6 +25,10 @@ pub none_where : (rs : List Ref) → None ≡ first_where (λ q. false) rs
 none_where [] = refl
 none_where (r ∷ rs) = none_where rs
 
+pub none_pass : (rs : List Ref) → 0 ≡ length (filter (λ q. false) rs)
+none_pass [] = refl
+none_pass (r ∷ rs) = none_pass rs
+
 pub last_nth : (rs : List Ref) (n : ℕ) → length rs ≡ suc n → nth_of rs n ≡ last_of None rs
 last_nth rs n e = ap (λ l. nth_of l n) (sym (nothing_after rs)) ∙ nth-last rs [] n e
 
