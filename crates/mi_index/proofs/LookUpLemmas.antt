@@ -1,5 +1,5 @@
 -- What a structure answers.
--- Cited by `Structure::find`, `look::find_in_chains`, `look::last_in_tree`, `look::place_in_chains` and `look::place_in_tree`.
+-- Cited by `Structure::count`, `Structure::find`, `look::find_in_chains`, `look::last_in_tree`, `look::place_in_chains` and 1 more.
 use Rattle.std.proofs.Common.{◌≡◌, ℕ, suc, Bool, true, false, cond, List, [], ◌∷◌, ◌++◌, length, Some, None, refl, sym, ap, ◌∙◌}
 use Rattle.std.specs.List.{filter}
 use Rattle.mi_node.specs.Pool.{Pooled, IsHeld}

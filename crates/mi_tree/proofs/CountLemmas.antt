@@ -1,5 +1,5 @@
 -- The way down that counts the nodes at a probe: what it takes away on either side is taken away from both places.
--- Cited by `look::count_in`.
+-- Cited by `Tree::count`, `look::count_beside` and `look::count_in`.
 use Rattle.std.proofs.Common.{◌≡◌, ℕ, ◌+◌, ◌*◌, ◌^◌, ◌<◌, ◌≤◌, Bool, true, false, not, cond, List, [], ◌∷◌, ◌++◌, length}
 use Rattle.std.proofs.Common.{Option, Some, None, refl, sym, ap, ◌∙◌, subst, arith}
 use Rattle.std.specs.List.{position_or_len, filter}

@@ -1,8 +1,7 @@
 -- What isn't before the probe on the left, the node itself, and what isn't behind it on the right.
-use Rattle.std.proofs.Common.{◌≡◌, ℕ, ◌+◌, ◌-◌, ◌<◌, ◌≤◌, true, false, ◌∙◌, arith}
+use Rattle.std.proofs.Common.{◌≡◌, ◌+◌, ◌-◌, ◌<◌, ◌≤◌, true, false, ◌∙◌, arith}
 use Rattle.std.specs.List.{position_or_len}
 use Rattle.std.specs.declared.cmp.Ordering.{Ordering}
-use Rattle.mi_node.specs.Pool.{Pooled}
 use Rattle.mi_tree.specs.BinaryTree.{BinaryTree, IsRooted, forks, nodes, size_at}
 use Rattle.mi_tree.specs.Probed.{is_past_node}
 use Rattle.mi_tree.proofs.BinaryTreeLemmas.{size-root}

@@ -1,5 +1,5 @@
 -- The way down until it parts; from there each side is asked alone.
-use Rattle.std.proofs.Common.{◌≡◌, ℕ, ◌+◌, ◌*◌, ◌<◌, ◌≤◌, Bool, true, false, refl, sym, ap, ◌∙◌, subst, arith}
+use Rattle.std.proofs.Common.{◌≡◌, ◌+◌, ◌<◌, ◌≤◌, Bool, true, false, refl, sym, ap, ◌∙◌, subst, arith}
 use Rattle.std.specs.List.{position_or_len}
 use Rattle.std.specs.declared.cmp.Ordering.{Ordering}
 use Rattle.mi_node.specs.Pool.{Pooled, IsHeld, link_of}
@@ -78,14 +78,14 @@ pub count_beside-requires-clause-back : goal.count_beside-requires-clause-back
 count_beside-requires-clause-back g c =
     let o = goal.at.count_beside-requires-clause-back g c in
     subst (λ (z : Pooled g.row.T.Denot). (A : BinaryTree) × IsRooted z c.args.slot c.link-link.result.back A
-        × AreTagged (g.O.NodeOrder.tag_of c.args.order.now) z c.args.slot (nodes A) × IsSteady (is_past_node false (place g o.After-compare_sought) z) (nodes A))
+    × AreTagged (g.O.NodeOrder.tag_of c.args.order.now) z c.args.slot (nodes A) × IsSteady (is_past_node false (place g o.After-compare_sought) z) (nodes A))
     (sym (pool_is g o.After-link-link)) (part_back c.loop-at.invariant.1 c.in-Some.is (link_is g o.After-link-link))
 
 pub count_beside-requires-clause-forth : goal.count_beside-requires-clause-forth
 count_beside-requires-clause-forth g c =
     let o = goal.at.count_beside-requires-clause-forth g c in
     subst (λ (z : Pooled g.row.T.Denot). (A : BinaryTree) × IsRooted z c.args.slot c.link-link.result.forth A
-        × AreTagged (g.O.NodeOrder.tag_of c.args.order.now) z c.args.slot (nodes A) × IsSteady (is_past_node true (place g o.After-compare_sought) z) (nodes A))
+    × AreTagged (g.O.NodeOrder.tag_of c.args.order.now) z c.args.slot (nodes A) × IsSteady (is_past_node true (place g o.After-compare_sought) z) (nodes A))
     (sym (pool_is g o.After-link-link)) (part_forth c.loop-at.invariant.1 c.in-Some.is (link_is g o.After-link-link))
 
 pub count_beside-requires-clause-fits : goal.count_beside-requires-clause-fits
@@ -101,7 +101,7 @@ returns-in-Equal-clause-count g c =
     part_count c.loop-at.invariant.1 c.in-Some.is (link_is g o.After-link-link) c.count_beside.result
     (side false same ∙ ap (past false) c.in-Equal.is) (side true same ∙ ap (past true) c.in-Equal.is)
     (subst (λ (z : Pooled g.row.T.Denot). (A B : BinaryTree) → IsRooted z c.args.slot c.link-link.result.back A → IsRooted z c.args.slot c.link-link.result.forth B
-        → c.count_beside.result + position_or_len (is_past_node false by z) (nodes A) ≡ forks A + 1 + position_or_len (is_past_node true by z) (nodes B))
+    → c.count_beside.result + position_or_len (is_past_node false by z) (nodes A) ≡ forks A + 1 + position_or_len (is_past_node true by z) (nodes B))
     same c.count_beside.ensures.count)
 
 pub returns-in-Equal-clause-reads : goal.returns-in-Equal-clause-reads
@@ -109,14 +109,14 @@ returns-in-Equal-clause-reads g c =
     let o = goal.at.returns-in-Equal-clause-reads g c in
     part_reads c.loop-at.invariant.1 c.in-Some.is (link_is g o.After-link-link) _ _ c.link-link.ensures.reads
     (subst (λ (z : Pooled g.row.T.Denot). (A B : BinaryTree) → IsRooted z c.args.slot c.link-link.result.back A → IsRooted z c.args.slot c.link-link.result.forth B
-        → c.count_beside.new.p.reads ≤ c.link-link.new.self.reads + (height A + height B + 1)) (pool_is g o.After-link-link) c.count_beside.ensures.reads)
+    → c.count_beside.new.p.reads ≤ c.link-link.new.self.reads + (height A + height B + 1)) (pool_is g o.After-link-link) c.count_beside.ensures.reads)
 
 pub returns-in-Equal-clause-steps : goal.returns-in-Equal-clause-steps
 returns-in-Equal-clause-steps g c =
     let o = goal.at.returns-in-Equal-clause-steps g c in
     part_steps c.loop-at.invariant.1 c.in-Some.is (link_is g o.After-link-link) _ _ c.compare_sought.ensures.steps
     (subst (λ (z : Pooled g.row.T.Denot). (A B : BinaryTree) → IsRooted z c.args.slot c.link-link.result.back A → IsRooted z c.args.slot c.link-link.result.forth B
-        → c.count_beside.new.steps.count ≤ c.compare_sought.new.steps.count + (height A + height B)) (pool_is g o.After-link-link) c.count_beside.ensures.steps)
+    → c.count_beside.new.steps.count ≤ c.compare_sought.new.steps.count + (height A + height B)) (pool_is g o.After-link-link) c.count_beside.ensures.steps)
 
 pub returns-in-Equal-clause-pool : goal.returns-in-Equal-clause-pool
 returns-in-Equal-clause-pool g c =

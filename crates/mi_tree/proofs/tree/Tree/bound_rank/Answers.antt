@@ -1,5 +1,5 @@
 -- The place of the first that is past the probe, under the root.
-use Rattle.std.proofs.Common.{◌≡◌, ap, ◌∙◌}
+use Rattle.std.proofs.Common.{ap, ◌∙◌}
 use Rattle.std.specs.List.{position_or_len}
 use Rattle.mi_tree.proofs.StandingLemmas.{within, ranks_root}
 use Rattle.mi_tree.proofs.tree.Tree.bound_rank.Goals as goal

@@ -1,7 +1,7 @@
 -- As many more nodes aren't behind the probe than are before it.
-use Rattle.std.proofs.Common.{◌≡◌, ℕ, ◌+◌, ◌*◌, ◌<◌, ◌≤◌, ◌^◌, List, true, false, length, ap, ◌∙◌, arith}
-use Rattle.std.specs.List.{position_or_len, filter}
-use Rattle.mi_tree.specs.Probed.{is_past_node, is_node_at}
+use Rattle.std.proofs.Common.{◌≡◌, true, false, length, ap, ◌∙◌, arith}
+use Rattle.std.specs.List.{filter}
+use Rattle.mi_tree.specs.Probed.{is_node_at}
 use Rattle.mi_tree.specs.BinaryTree.{nodes}
 use Rattle.mi_tree.proofs.CountLemmas.{count_between}
 use Rattle.mi_tree.proofs.StandingLemmas.{can_take, tagged_in, steady_in, bound}
