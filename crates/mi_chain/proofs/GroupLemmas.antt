@@ -1,5 +1,5 @@
 -- Lists of nodes by their keys: filters, and the groups of a list when nodes of one key are added or taken out.
--- Cited by `Chains::next_of`, `Chains::prev_of`, `look::is_like`, `look::is_of_key`, `CallLemmas` and 6 more.
+-- Cited by `Chains::next_of`, `Chains::prev_of`, `look::is_like`, `look::is_of_key`, `CallLemmas` and 7 more.
 use Rattle.std.proofs.Common.{◌≡◌, ℕ, ◌⊎◌, inl, inr, Bool, true, false, not, cond, List, [], ◌∷◌, ◌++◌, Option, Some, None, refl, sym, ap, ◌∙◌, subst}
 use Rattle.std.specs.List.{filter}
 use Rattle.std.proofs.lemmas.List.Elements.{filter-append}

@@ -1,5 +1,5 @@
 -- Nodes by their values: equality of keys is an equivalence, hashes and probes agree with it, and all of them depend on the values alone.
--- Cited by `Chains::first_of`, `Chains::hash_of`, `Chains::insert`, `look::is_like`, `look::is_of_key`, 3 more and `test_storage`.
+-- Cited by `Chains::count`, `Chains::first_of`, `Chains::hash_of`, `Chains::insert`, `look::is_like`, 4 more and `test_storage`.
 use Rattle.std.proofs.Common.{◌≡◌, ℕ, true, Option, Some, None, refl, ap}
 use Rattle.mi_node.specs.Pool.{Pooled, value_of}
 use Rattle.mi_node.specs.Refs.{Ref}

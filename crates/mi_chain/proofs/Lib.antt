@@ -8,3 +8,4 @@ pub mod MoveLemmas
 pub mod StandingLemmas
 pub mod SearchLemmas
 pub mod CallLemmas
+pub mod FollowLemmas

@@ -2,7 +2,7 @@
 //! Each call is passed the pool that they stand in. It sets links of this slot alone, and never a value. Where an optional
 //! reference is used again, it is passed as a copy, `*&x`: by its name it would be moved.
 ghost use Rattle.std.specs.Prelude.{◌≡◌, ◌<◌, ◌≤◌, ◌%◌, ◌*◌, ◌+◌, ◌^◌, ◌==◌, max, cond, ℕ, List as Seq};
-ghost use Rattle.std.specs.Prelude.{◌∷◌, ◌++◌, None, Some, IsOk, IfOk, IfErr, vec_len, slice_index_or};
+ghost use Rattle.std.specs.Prelude.{◌∷◌, ◌++◌, None, Some, IsOk, IfOk, IfErr, length, vec_len, slice_index_or};
 ghost use Rattle.std.specs.Int.{IsPowerOfTwo};
 ghost use Rattle.std.specs.List.{filter};
 ghost use Rattle.mi_node.specs.Pool.{IsHeld, IsHeldIf, Keeps, with_link, link_of, node_count};
@@ -111,6 +111,23 @@ impl<H> Chains<H> {
         } else {
             None
         }
+    }
+
+    /// How many nodes have this key. Costs a step for each group of the bucket before theirs, and one for each of them.
+    pub fn count<T>(&self, p: &Pool<T>, key: Probe<'_>) -> u32
+    where
+        H: KeyHash<T>,
+        requires { (rs : Seq Ref) × AreChained self.now (H.keying self.now.keys) p.now rs }
+        ensures { (rs : Seq Ref) → AreChained self.now (H.keying self.now.keys) p.now rs
+            → result ≡ length (filter (has_key (H.keying self.now.keys) p.now key.entry) rs) }
+    {
+        let mut next = self.first_of(p, key);
+        let mut count = 0;
+        'nodes: while let Some(node) = next {
+            count += 1;
+            next = self.next_of(p, node);
+        }
+        count
     }
 
     /// The node before this one among those of its key. Reads two links and no value.

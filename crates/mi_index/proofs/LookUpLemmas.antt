@@ -1,5 +1,5 @@
 -- What a structure answers.
--- Cited by `Structure::find`, `look::find_in_chains`, `look::last_in_tree`, `look::place_in_chains` and `look::place_in_tree`.
+-- Cited by `Structure::count`, `Structure::find`, `look::find_in_chains`, `look::last_in_tree`, `look::place_in_chains` and 1 more.
 use Rattle.std.proofs.Common.{◌≡◌, ℕ, suc, Bool, true, false, cond, List, [], ◌∷◌, ◌++◌, length, Some, None, refl, sym, ap, ◌∙◌}
 use Rattle.std.specs.List.{filter}
 use Rattle.mi_node.specs.Pool.{Pooled, IsHeld}
@@ -24,6 +24,10 @@ first_filter f (r ∷ rs) = (elim (f r) as (λ b. first_of (cond b (r ∷ filter
 pub none_where : (rs : List Ref) → None ≡ first_where (λ q. false) rs
 none_where [] = refl
 none_where (r ∷ rs) = none_where rs
+
+pub none_pass : (rs : List Ref) → 0 ≡ length (filter (λ q. false) rs)
+none_pass [] = refl
+none_pass (r ∷ rs) = none_pass rs
 
 pub last_nth : (rs : List Ref) (n : ℕ) → length rs ≡ suc n → nth_of rs n ≡ last_of None rs
 last_nth rs n e = ap (λ l. nth_of l n) (sym (nothing_after rs)) ∙ nth-last rs [] n e

@@ -139,6 +139,19 @@ impl Structure {
         }
     }
 
+    /// How many nodes have the key of the probe. A list has no keys. It costs one way down a sorted index, and a step for each of the
+    /// nodes in a hashed one.
+    pub fn count(&self, p: &Pool<Stored>, probe: Probe<'_>) -> u32
+        requires { (rs : Seq Ref) × Stands self.now p.now rs }
+        ensures { (rs : Seq Ref) → Stands self.now p.now rs → result ≡ length (filter (look.has_sought self.now p.now probe.entry) rs) }
+    {
+        match self {
+            Structure::Sorted(tree) => count_in_tree(tree, p, probe),
+            Structure::Hashed(chains) => count_in_chains(chains, p, probe),
+            Structure::Sequenced(_) => 0,
+        }
+    }
+
     /// The node after one among those of its key, in the order of the stamps, if there is one. Asked of hashed indexes
     /// alone.
     pub fn next_of(&self, p: &Pool<Stored>, node: NodeRef) -> Option<NodeRef>
@@ -264,6 +277,22 @@ fn find_in_chains(chains: &Chains<ByHash>, p: &Pool<Stored>, probe: Probe<'_>) -
     ensures { (rs : Seq Ref) → Stands (Hashed chains.now) p.now rs → result ≡ first_where (look.has_sought (Hashed chains.now) p.now probe.entry) rs }
 {
     chains.first_of(p, probe)
+}
+
+fn count_in_tree(tree: &Tree<ByKey>, p: &Pool<Stored>, probe: Probe<'_>) -> u32
+    requires { (rs : Seq Ref) × Stands (Sorted tree.now) p.now rs }
+    ensures { (rs : Seq Ref) → Stands (Sorted tree.now) p.now rs
+        → result ≡ length (filter (look.has_sought (Sorted tree.now) p.now probe.entry) rs) }
+{
+    tree.count(&mut Counted::new(p), probe, &mut Steps::new())
+}
+
+fn count_in_chains(chains: &Chains<ByHash>, p: &Pool<Stored>, probe: Probe<'_>) -> u32
+    requires { (rs : Seq Ref) × Stands (Hashed chains.now) p.now rs }
+    ensures { (rs : Seq Ref) → Stands (Hashed chains.now) p.now rs
+        → result ≡ length (filter (look.has_sought (Hashed chains.now) p.now probe.entry) rs) }
+{
+    chains.count(p, probe)
 }
 
 fn next_in_chains(chains: &Chains<ByHash>, p: &Pool<Stored>, node: NodeRef) -> Option<NodeRef>

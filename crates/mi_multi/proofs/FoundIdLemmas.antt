@@ -100,6 +100,17 @@ module _ (idf : Ref → ℕ) where
         | false ↦ where_ids f p rs all.1
       ]
 
+  pub count_ids : (f : Ref → Bool) (p : ℕ → Bool) (rs : List Ref) → AllByRecursion (λ r. f r ≡ p (idf r)) rs
+      → length (filter f rs) ≡ length (filter p (map idf rs))
+  count_ids f p [] all = refl
+  count_ids f p (r ∷ rs) all =
+      ap (λ b. length (cond b (r ∷ filter f rs) (filter f rs))) all.0
+      ∙ elim (p (idf r))
+      as (λ b. length (cond b (r ∷ filter f rs) (filter f rs)) ≡ length (cond b (idf r ∷ filter p (map idf rs)) (filter p (map idf rs)))) [
+        | true ↦ ap suc (count_ids f p rs all.1)
+        | false ↦ count_ids f p rs all.1
+      ]
+
   pub place_ids : (f : Ref → Bool) (p : ℕ → Bool) (rs : List Ref) → AllByRecursion (λ r. f r ≡ p (idf r)) rs
       → position_or_len f rs ≡ position_or_len p (map idf rs)
   place_ids f p [] all = refl

@@ -1,5 +1,5 @@
 -- What the calls by keys ask of an index and answer, by what contracts see of the container.
--- Cited by `MultiIndex::count_hashed`, `MultiIndex::find`, `MultiIndex::holder`, `MultiIndex::next_of`, `MultiIndex::past` and 1 more.
+-- Cited by `MultiIndex::count`, `MultiIndex::find`, `MultiIndex::holder`, `MultiIndex::next_of`, `MultiIndex::past` and 1 more.
 use Rattle.std.proofs.Common.{Bor, ◌≡◌, ◌≢◌, ℕ, ◌<◌, ◌≤◌, zero, suc, Bool, true, false}
 use Rattle.std.proofs.Common.{List, [], ◌∷◌, ◌++◌, length, slice_get, ap, sym, ◌∙◌, subst, arith}
 use Rattle.std.specs.Prelude.{IsTrue, IfSome}
@@ -37,12 +37,6 @@ use Rattle.mi_multi.proofs.FoundIdLemmas.{all_where, all_first, all_filter, all_
 use Rattle.mi_multi.proofs.LookUpLemmas as known
 use Rattle.mi_multi.proofs.ProbeLemmas as probes
 use Rattle.mi_multi.proofs.CallLemmas.{id_shown, in_order, there, a as among}
-
--- nothing stands behind the end
-pub past_end : (ids : List ℕ) (k : ℕ) → slice_get ids k ≡ None → length ids ≤ k
-past_end [] k none = omega arith
-past_end (a ∷ ids) zero none = absurd (let bad : Some a ≡ None = none in cc)
-past_end (a ∷ ids) (suc k) none = let l : length ids ≤ k = past_end ids k none in omega arith
 
 module _ (i : Inside) (is : AreMulti i) {w : Seen} (seen : seen_of i ≡ w) where
   abbrev m : Pooled Stored
@@ -126,6 +120,16 @@ module _ (i : Inside) (is : AreMulti i) {w : Seen} (seen : seen_of i ≡ w) wher
         (probes.find_seen i.schema i.ids.entries m items i.next i.arrivals is x y n k
         (whole_key_long i.schema.columns (index_at i.schema x).parts k.now (subst (λ (v : Seen). WholeKey v.shape x k.now) (sym seen) whole))
         (parts_kept rules) (subst (λ (v : Seen). IsKeyed v.shape x) (sym seen) keyed).1)
+
+    pub count_is : (k : Bor (List Value)) {j : ℕ} → IsTrue (is_schema i.schema) → IsKeyed w.shape x
+        → WholeKey w.shape x k.now → ((qs : List Ref) → Stands y m qs → j ≡ length (filter (nodes.has_sought y m (Key k)) qs))
+        → j ≡ look.count w.shape t x k.now
+    count_is k rules keyed whole h =
+        h rs n.stood.stands
+        ∙ probes.count_seen i.schema i.ids.entries m items i.next i.arrivals is x y n k
+        (whole_key_long i.schema.columns (index_at i.schema x).parts k.now (subst (λ (v : Seen). WholeKey v.shape x k.now) (sym seen) whole))
+        (parts_kept rules) (subst (λ (v : Seen). IsKeyed v.shape x) (sym seen) keyed).1
+        ∙ ap (λ (v : Seen). look.count v.shape (as_table v.plain) x k.now) seen
 
     -- the next of a key
 

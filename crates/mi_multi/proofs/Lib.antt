@@ -41,7 +41,6 @@ pub mod ColumnLemmas
 pub mod UniqueLemmas
 pub mod ConflictLemmas
 pub mod ReplaceLemmas
-pub mod KeyCountLemmas
 pub mod PutLemmas
 pub mod NewRecordLemmas
 pub mod OldPlaceLemmas

@@ -53,7 +53,7 @@ use Rattle.mi_multi.proofs.ViewLemmas.{row_at, node_of_row}
 use Rattle.mi_multi.proofs.AnswerLemmas.{live_is}
 use Rattle.mi_multi.proofs.NeighbourLemmas.{filter_append, filter_eq, lacks_filter}
 use Rattle.mi_multi.proofs.ListLemmas.{itself, filter_ids}
-use Rattle.mi_multi.proofs.FoundIdLemmas.{where_ids, place_ids, all_before, all_behind, after_middle}
+use Rattle.mi_multi.proofs.FoundIdLemmas.{where_ids, count_ids, place_ids, all_before, all_behind, after_middle}
 use Rattle.mi_multi.proofs.LookUpLemmas.{Among, among, ids_shown}
 
 -- The first for which something no longer holds
@@ -272,6 +272,13 @@ module _ (s : Shape) (ids : FinMap nat_cmp IdEntry) (m : Pooled Stored) (xs : Li
         (each_of (λ q. nodes.has_sought y m (Key k) q ≡ is_eq (compare_to_id i t k.now (id_at m q)))
         (λ q live. sought_is y n.stood.for_ keyed q live) rs n.stood.live.rows)
         ∙ ap (λ l. slice_get (filter (λ id. is_eq (compare_to_id i t k.now id)) l) 0) shown_ids
+
+    pub count_seen : has_keys i.kind ≡ true → length (filter (nodes.has_sought y m (Key k)) rs) ≡ look.count s t x k.now
+    count_seen keyed =
+        count_ids (id_at m) (nodes.has_sought y m (Key k)) (λ id. is_eq (compare_to_id i t k.now id)) rs
+        (each_of (λ q. nodes.has_sought y m (Key k) q ≡ is_eq (compare_to_id i t k.now (id_at m q)))
+        (λ q live. sought_is y n.stood.for_ keyed q live) rs n.stood.live.rows)
+        ∙ ap (λ l. length (filter (λ id. is_eq (compare_to_id i t k.now id)) l)) shown_ids
 
   -- Those of one key
 

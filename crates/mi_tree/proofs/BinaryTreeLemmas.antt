@@ -1,5 +1,5 @@
 -- What a tree that stands says of each node.
--- Cited by `Tree::bound`, `Tree::bound_rank`, `Tree::keeps_place`, `Tree::len`, `Tree::next`, 30 more, `mi_index` and `test_storage`.
+-- Cited by `Tree::bound`, `Tree::keeps_place`, `Tree::len`, `Tree::next`, `Tree::prev`, 33 more, `mi_index` and `test_storage`.
 use Rattle.std.proofs.Common.{◌≡◌, ℕ, zero, suc, ◌+◌, ◌<◌, max, List, [], ◌∷◌, ◌++◌, length}
 use Rattle.std.proofs.Common.{Option, Some, None, refl, sym, ap, ◌∙◌, subst, arith, length-append}
 use Rattle.mi_node.specs.Neighbours.{AreHeld}

@@ -18,3 +18,4 @@ pub mod RotationLemmas
 pub mod WalkLemmas
 pub mod WayLemmas
 pub mod ProbeRankLemmas
+pub mod CountLemmas

@@ -1,5 +1,5 @@
 -- What the ways down find.
--- Cited by `Tree::bound`, `Tree::bound_rank`, `Tree::find`, `look::nth_in`, `walk::+seek_down`, 2 more and `mi_index`.
+-- Cited by `Tree::bound`, `Tree::find`, `look::count_in`, `look::nth_in`, `look::past_rank_in`, 4 more and `mi_index`.
 use Rattle.std.proofs.Common.{◌≡◌, ℕ, suc, ◌+◌, ◌*◌, ◌<◌, ◌≤◌, Bool, true, false, cond, List, [], ◌∷◌}
 use Rattle.std.proofs.Common.{◌++◌, length, Option, Some, None, refl, sym, ap, ◌∙◌, subst, arith}
 use Rattle.std.specs.declared.cmp.Ordering.{Ordering}

@@ -1,5 +1,5 @@
 -- A node less in a subtree, and then in the whole.
--- Cited by `change::append`, `way::+go_to`, `KeepingLemmas`, `RankLemmas`, `RemovalWayLemmas` and 2 more.
+-- Cited by `change::append`, `change::take_first`, `way::+go_to`, `KeepingLemmas`, `RankLemmas` and 3 more.
 use Rattle.std.proofs.Common.{◌≡◌, ℕ, ◌+◌, ◌≤◌, max, List, [], ◌∷◌, ◌++◌, length, Option, Some, None, refl, sym, ap, ◌∙◌, subst, arith, length-append}
 use Rattle.mi_node.specs.Pool.{Pooled, link_of, IsHeld}
 use Rattle.mi_node.specs.declared.link.Link.{Link}
@@ -98,6 +98,40 @@ module _ {T : Type 0} where
         keeps = keeps_none s m (nodes l ++ nodes q);
         tags = λ k. refl;
       }
+
+  pub ends_alone : {m : Pooled T} {s : ℕ} {left right : Option Ref} {l q : BinaryTree} → AreEnds m s left right l q → left ≡ None
+      → AreAppended m m s l q right q
+  ends_alone {m} {s} {left} {l = l} {q} h e =
+      let tip = tip_is m s l (moved m m s left None l refl e h.left_is) in let low = ap height tip in record {
+        rooted = h.right_is;
+        even = h.right_even;
+        nodes_are = sym (ap (λ k. nodes k ++ nodes q) tip);
+        not_lower = (omega arith, omega arith);
+        not_higher = omega arith;
+        keeps = keeps_none s m (nodes l ++ nodes q);
+        tags = λ k. refl;
+      }
+
+  -- a root without a left side is the first node, and its right side is the rest
+  pub root_taken : {m : Pooled T} {s : ℕ} {root : Ref} {y : Link} (t : BinaryTree) → CanTake m s (Some root) t → y ≡ link_of m root.name s → y.back ≡ None
+      → (u : BinaryTree) × (rs : List Ref) × (nodes t ≡ root ∷ rs) × HasTaken m m s t rs y.forth u
+  root_taken {m} {s} {root} {y} t h i e =
+      let o = take_opened m s (Some root) root y t h refl i in
+      let tip = tip_is m s o.A (moved m m s y.back None o.A refl e o.left.rooted) in
+      let low = ap height tip in let high = ap height o.is in (
+        o.B,
+        nodes o.B,
+        ap nodes o.is ∙ ap (λ k. nodes k ++ root ∷ nodes o.B) tip,
+        record {
+          rooted = o.right.rooted;
+          even = o.right.even;
+          nodes_are = refl;
+          not_higher = omega arith;
+          not_lower = omega arith;
+          keeps = keeps_none s m (nodes o.B);
+          tags = λ k. refl;
+        },
+      )
 
   module _ {m n : Pooled T} {s : ℕ} {left right : Option Ref} {l q : BinaryTree} (h : AreEnds m s left right l q) {first : Ref}
       {rs : List Ref} {rest : Option Ref} {u : BinaryTree} (is : nodes q ≡ first ∷ rs) (k : HasTaken m n s q rs rest u) where

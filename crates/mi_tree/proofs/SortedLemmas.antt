@@ -1,5 +1,5 @@
 -- Lists in order, and where a node stands in one.
--- Cited by `Tree::bound`, `Tree::bound_rank`, `Tree::find`, `Tree::keeps_place`, `keeping::passes_none`, 14 more and `mi_index`.
+-- Cited by `Tree::bound`, `Tree::find`, `Tree::keeps_place`, `keeping::passes_none`, `keeping::passes_none_above`, 16 more and `mi_index`.
 use Rattle.std.proofs.Common.{◌≡◌, ℕ, List, [], ◌∷◌, ◌++◌, Option, Some, None, refl, sym, ap, ◌∙◌, subst, append_assoc}
 use Rattle.std.specs.declared.cmp.Ordering.{Ordering}
 use Rattle.std.specs.declared.cmp.Ordering.TheVariants.{Less, Equal, Greater}

@@ -1,5 +1,5 @@
 -- From a tree's parts to the whole, and back.
--- Cited by `Tree::bound`, `Tree::bound_rank`, `Tree::find`, `Tree::insert`, `Tree::keeps_place` and 10 more.
+-- Cited by `Tree::bound`, `Tree::bound_rank`, `Tree::count`, `Tree::find`, `Tree::insert` and 11 more.
 use Rattle.std.proofs.Common.{◌≡◌, ◌==◌, Bool, false, ℕ, ◌+◌, ◌*◌, ◌^◌, ◌<◌, ◌≤◌, List, [], ◌∷◌, ◌++◌, length}
 use Rattle.std.proofs.Common.{Option, Some, None, refl, sym, ap, ◌∙◌, subst, arith, length-append}
 use Rattle.std.specs.declared.cmp.Ordering.{Ordering}

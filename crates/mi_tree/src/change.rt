@@ -60,6 +60,10 @@ pub(crate) fn take_first<T>(
     ensures tree { (t : BinaryTree) → CanTake p.old slot (Some root) t
         → (u : BinaryTree) × (rs : List Ref) × (nodes t ≡ result.0 ∷ rs) × HasTaken p.old p.new slot t rs result.1 u }
 {
+    let at = p.link(root, slot);
+    let Some(_) = at.back else {
+        return (root, at.forth);
+    };
     let mut nodes = no_nodes();
     let (first, depth) = go_first(p, slot, root, &mut nodes, START);
     let link = p.link(first, slot);
@@ -84,6 +88,9 @@ pub(crate) fn append<T>(
     match right {
         None => left,
         Some(right) => {
+            let Some(_) = *&left else {
+                return Some(right);
+            };
             let (first, rest) = take_first(p, slot, right);
             let before = Sub::of(p, slot, left);
             let after = Sub::of(p, slot, rest);

@@ -109,7 +109,7 @@ pub(crate) fn passes_none_above<T, O: NodeOrder<T>>(
         {
             return false;
         }
-        at = side_ahead(link, side.is_gt());
+        at = p.neighbour(here, slot, !side.is_gt());
     }
     false
 }

@@ -1,7 +1,7 @@
 //! The tree: its slot, its order and its root.
 //! It sets links of its own slot alone, owns no node, and never touches a value.
 ghost use Rattle.std.specs.Prelude.{◌≡◌, ℕ, ◌+◌, ◌*◌, ◌^◌, ◌<◌, ◌≤◌, ◌∷◌, ◌++◌, ◌==◌, ◌↔◌, IsTrue, List, length, Some, None, true, false};
-ghost use Rattle.std.specs.List.{position_or_len};
+ghost use Rattle.std.specs.List.{position_or_len, filter};
 ghost use Rattle.std.specs.declared.cmp.Ordering.{Ordering as Side};
 ghost use Rattle.mi_node.specs.Pool.{IsHeld, Keeps, value_of, link_of, with_link};
 ghost use Rattle.mi_node.specs.Refs.{Ref, first_of, last_of};
@@ -10,9 +10,9 @@ ghost use Rattle.mi_tree.specs.Sorted.{side_of_new, IsPutIn};
 ghost use Rattle.mi_tree.specs.Probed.{is_past_node, is_node_at, first_where};
 
 use crate::change::{put_in, take_out};
-use crate::compare::{Item, compare_item, compare_probe, probe_decides};
+use crate::compare::{Item, Sought, compare_item, compare_probe, probe_decides};
 use crate::keeping::{passes_none, passes_none_above, side_ahead};
-use crate::look::{is_past, link_ahead, nth_in, rank_in};
+use crate::look::{count_in, is_past, nth_in, past_rank_in, rank_in};
 use crate::order::NodeOrder;
 use crate::parts::size;
 use crate::walk::{Direction, Walk};
@@ -339,7 +339,7 @@ impl<O> Tree<O> {
     }
 
     /// How many nodes stand in front of the first that the probe isn't after, or with `strict` of the first that it is before; where
-    /// there is none, how many there are. Whichever way it goes, it goes on with the link that it has read.
+    /// there is none, how many there are.
     fn bound_rank<T>(
         &self,
         p: &mut Counted<T>,
@@ -358,32 +358,38 @@ impl<O> Tree<O> {
         ensures steps { (order : T → T → Side) (tag : T → ℕ) (rs : List Ref) → IsTree self.now p.old.pool order tag rs
             → (b : ℕ) → length rs < 2 ^ b → steps.new.count ≤ steps.old.count + 2 * b }
     {
-        let probe_tag = self.order.probe_tag(probe);
-        let decided = probe_decides::<T, O>(&self.order, probe_tag);
-        let (mut at, mut before) = (self.root, 0);
-        let mut link = link_ahead(p, self.slot, self.root);
-        while let Some(node) = at {
-            let side = compare_probe(
-                p,
-                &self.order,
-                node,
-                link.tag,
-                probe,
-                probe_tag,
-                decided,
-                steps,
-            );
-            if is_past(side, strict) {
-                at = link.back;
-                link = link_ahead(p, self.slot, link.back);
-            } else {
-                let ahead = link_ahead(p, self.slot, link.forth);
-                before += link.size - ahead.size;
-                at = link.forth;
-                link = ahead;
-            }
-        }
-        before
+        let tag = self.order.probe_tag(probe);
+        let sought = Sought {
+            probe,
+            tag,
+            decided: probe_decides::<T, O>(&self.order, tag),
+            strict,
+        };
+        past_rank_in(p, self.slot, &self.order, self.root, &sought, steps)
+    }
+
+    /// How many nodes are at the probe, in one way down, which parts at the first of them that it comes to. At most 4b comparisons and
+    /// 4b reads of links.
+    pub fn count<T>(&self, p: &mut Counted<T>, probe: Probe<'_>, steps: &mut Steps) -> u32
+    where
+        O: NodeOrder<T>,
+        requires { (rs : List Ref) × IsTree self.now p.old.pool (O.order self.now.order) (O.tag_of self.now.order) rs }
+        ensures count { (rs : List Ref) → IsTree self.now p.old.pool (O.order self.now.order) (O.tag_of self.now.order) rs
+            → result ≡ length (filter (is_node_at (λ v. O.place self.now.order v probe.entry) p.old.pool) rs) }
+        ensures pool { p.new.pool ≡ p.old.pool }
+        ensures reads { (order : T → T → Side) (tag : T → ℕ) (rs : List Ref) → IsTree self.now p.old.pool order tag rs
+            → (b : ℕ) → length rs < 2 ^ b → p.new.reads ≤ p.old.reads + 4 * b }
+        ensures steps { (order : T → T → Side) (tag : T → ℕ) (rs : List Ref) → IsTree self.now p.old.pool order tag rs
+            → (b : ℕ) → length rs < 2 ^ b → steps.new.count ≤ steps.old.count + 4 * b }
+    {
+        let tag = self.order.probe_tag(probe);
+        let sought = Sought {
+            probe,
+            tag,
+            decided: probe_decides::<T, O>(&self.order, tag),
+            strict: false,
+        };
+        count_in(p, self.slot, &self.order, self.root, &sought, steps)
     }
 
     /// The first node at the probe, if there is one. At most 2b + 1 comparisons and 4b reads of links.

@@ -7,6 +7,7 @@ use Rattle.mi_tree.specs.Ways.{Frame, Sinks, HasSunk}
 use Rattle.mi_tree.specs.Turns.{turns}
 use Rattle.mi_tree.proofs.BinaryTreeLemmas.{held-root}
 use Rattle.mi_tree.proofs.RemovalWayLemmas.{some_first, sinks_start, held_here, ends_here, alone_right, climbs_away, has_left}
+use Rattle.mi_tree.proofs.RemoveLemmas.{root_taken}
 use Rattle.mi_tree.proofs.change.take_first.Given.{Over}
 use Rattle.mi_tree.proofs.change.take_first.Goals.{After-go_first}
 use Rattle.mi_tree.proofs.change.take_first.Goals as goal
@@ -52,3 +53,9 @@ returns-clause-tree g c t h =
     let all = c.climb.ensures.tree far.1 (Some f.0) _ far.2 up in
     let left = has_left h f.2 far.3 i alone refl all.1 (c.climb.ensures.height far.1 (Some f.0) _ far.2 up) in
     (all.0, f.1, f.2 ∙ ap (λ (z : Ref). z ∷ f.1) (sym far.0), left)
+
+pub link-at-requires-clause-held : goal.link-at-requires-clause-held
+link-at-requires-clause-held g c = let w = c.requires.tree in held-root c.args.p.now c.args.slot (Some c.args.root) w.0 w.1.rooted
+
+pub returns-in_default-clause-tree : goal.returns-in_default-clause-tree
+returns-in_default-clause-tree g c t h = root_taken t h c.link-at.ensures c.in_default.is

@@ -1,5 +1,6 @@
 -- Each step down goes to the side where the node stands, past one that it doesn't pass as it moves.
-use Rattle.std.proofs.Common.{◌≡◌, ◌∙◌, ◌<◌, ◌≤◌, ◌+◌, arith, refl, sym, ap, subst}
+use Rattle.std.proofs.Common.{◌≡◌, ◌∙◌, ◌<◌, ◌≤◌, ◌+◌, Bool, true, false, not, cond, Option, arith, refl, sym, ap, subst}
+use Rattle.mi_node.specs.Refs.{Ref}
 use Rattle.mi_node.specs.declared.link.Link.{Link}
 use Rattle.mi_value.specs.declared.steps.Steps.{Steps}
 use Rattle.mi_tree.specs.BinaryTree.{IsRooted, height_at}
@@ -13,6 +14,11 @@ use Rattle.mi_tree.proofs.RemovalWayLemmas.{equal_is}
 use Rattle.mi_tree.proofs.keeping.passes_none_above.Given.{Over}
 use Rattle.mi_tree.proofs.keeping.passes_none_above.Goals.{After-compare_nodes-side, else-is_facing-via-then-is_facing+else-not-is_facing, else-is_facing-via-else-is_facing}
 use Rattle.mi_tree.proofs.keeping.passes_none_above.Goals as goal
+
+-- the neighbour on that side is the one that the link names
+next_is : (b : Bool) {o : Option Ref} {y z : Link} → o ≡ cond (not b) z.back z.forth → y ≡ z → o ≡ cond b y.forth y.back
+next_is true e i = e ∙ ap (λ (k : Link). k.forth) (sym i)
+next_is false e i = e ∙ ap (λ (k : Link). k.back) (sym i)
 
 module _ (g : Over) (c : After-compare_nodes-side g) where
   -- the side that was found is the one where the node that is sought stands
@@ -28,6 +34,11 @@ loop-at-init g c =
 
 pub link-link-requires-clause-held : goal.link-link-requires-clause-held
 link-link-requires-clause-held g c =
+    above_held (g.O.NodeOrder.order c.args.order.now) (g.met.O.NodeOrder.total c.args.order.now) c.args.p.now c.args.slot c.args.item.now.value.now c.args.item.now.tag.stamp
+    c.loop-at.invariant c.in-Some.is refl
+
+pub neighbour-at-requires-clause-held : goal.neighbour-at-requires-clause-held
+neighbour-at-requires-clause-held g c =
     above_held (g.O.NodeOrder.order c.args.order.now) (g.met.O.NodeOrder.total c.args.order.now) c.args.p.now c.args.slot c.args.item.now.value.now c.args.item.now.tag.stamp
     c.loop-at.invariant c.in-Some.is refl
 
@@ -92,7 +103,7 @@ returns-then-not-is_facing-clause-steps g c t w =
 
 pub loop-at-smaller : goal.loop-at-smaller
 loop-at-smaller g c =
-    subst (λ z. height_at c.args.p.now c.args.slot z < height_at c.args.p.now c.args.slot c.loop-at.at) (sym c.side_ahead-at.ensures)
+    subst (λ z. height_at c.args.p.now c.args.slot z < height_at c.args.p.now c.args.slot c.loop-at.at) (sym (next_is c.is_gt.result c.neighbour-at.ensures c.link-link.ensures))
     (above_lower (g.O.NodeOrder.order c.args.order.now) (g.met.O.NodeOrder.total c.args.order.now) c.args.p.now c.args.slot c.args.item.now.value.now c.args.item.now.tag.stamp
     c.loop-at.invariant c.in-Some.is c.link-link.ensures c.is_gt.result)
 
@@ -116,7 +127,7 @@ loop-at-preserved g c =
       )
     ] in
     subst (λ z. Above (g.O.NodeOrder.order c.args.order.now) c.args.p.now c.args.slot c.args.item.now.value.now c.args.item.now.tag.stamp
-    (g.O.NodeOrder.tag_of c.args.order.now) c.args.rises c.args.node c.args.root z c.args.steps.now.count c.else-is_facing.steps.count) (sym c.side_ahead-at.ensures)
+    (g.O.NodeOrder.tag_of c.args.order.now) c.args.rises c.args.node c.args.root z c.args.steps.now.count c.else-is_facing.steps.count) (sym (next_is c.is_gt.result c.neighbour-at.ensures c.link-link.ensures))
     (above_next (g.O.NodeOrder.order c.args.order.now) (g.met.O.NodeOrder.total c.args.order.now) c.args.p.now c.args.slot c.args.item.now.value.now c.args.item.now.tag.stamp
     c.loop-at.invariant c.in-Some.is c.link-link.ensures _ clear.1 clear.0 c.compare_nodes-side.result found
     (λ e. not_true (ap is_eq e) (sym c.is_eq.ensures ∙ c.if-is_eq.false)) c.is_gt.result c.is_gt.ensures)
