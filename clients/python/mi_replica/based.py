@@ -23,7 +23,8 @@ from mi_tools.journal_names import base_path, numbers_of, segment_path
 
 PIECE = 1 << 18
 LONGEST_HEADER = 1 << 12
-BASE, HEADER, DIGEST = b'{"base":', b'{"journal":', b'\n{"sha256":'
+BASE, HEADER, FIRST, DIGEST = b'{"base":', b'{"journal":', b'{"journal":1,', b'\n{"sha256":'
+"""How a base begins, any segment's header, that of the first segment, and a base's last line."""
 SESSIONS = b"journal: sessions"
 """What a rebase says where a session has been open since an earlier segment: it changes nothing then."""
 QUIETLY = ["nice", "-n", "10"]
@@ -51,7 +52,7 @@ def parts_of(path: str) -> Parts:
             heading, size = heading_of(first, path), size_of_base(file, path)
             file.seek(size)
             first = file.readline(LONGEST_HEADER)
-    if not first.startswith(HEADER) or not first.endswith(b"\n"):
+    if not first.startswith(HEADER if size else FIRST) or not first.endswith(b"\n"):
         raise ValueError(f"{path}: no header")
     return Parts(size, heading["segment"], heading["line"], size + len(first))
 
@@ -187,13 +188,15 @@ def guarded(ran: "subprocess.Popen[bytes]") -> Iterator[None]:
 def places_for(path: str) -> List[str]:
     """How the paths begin of folders where a copy of a checkpoint may stand: in memory, so that a full disk stops no server, and else beside it."""
     folder, name = os.path.split(os.path.abspath(path))
-    return [*filter(None, [in_memory(folder)]), f"{folder}/{name.partition('.')[0]}.new."]
+    beside = f"{folder}/{name.partition('.')[0]}.new."
+    return [it for it in (in_memory(folder), beside) if it]
 
 
 def in_memory(folder: str) -> str:
     """How the paths begin of folders in memory whose files are copies of a folder's; the empty text where the system has no such place."""
     found = os.stat(folder)
-    return f"{MEMORY}/mi_replica-{found.st_dev:x}-{found.st_ino:x}-" if os.access(MEMORY, os.W_OK) else ""
+    is_there = os.path.isdir(MEMORY) and os.access(MEMORY, os.W_OK | os.X_OK)
+    return f"{MEMORY}/mi_replica-{found.st_dev:x}-{found.st_ino:x}-" if is_there else ""
 
 
 def clean(folder: str) -> None:

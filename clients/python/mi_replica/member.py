@@ -73,6 +73,11 @@ def schema_hash(path: Optional[str]) -> str:
         return hashlib.sha256(file.read()).hexdigest()[:16]
 
 
+def schema_of(header: bytes, path: Optional[str]) -> str:
+    """What identifies a schema: what a journal's header says, where the program tells that, else the file's bytes."""
+    return str(json.loads(header)["schema"]) if header else schema_hash(path)
+
+
 def note(text: str) -> None:
     print(f"{time.strftime('%H:%M:%S')} {text}", file=sys.stderr, flush=True)
 
@@ -118,7 +123,7 @@ class Member:
     async def _live(self) -> None:
         own = own_of(self._settings.program, self._settings.schema, self._settings.body)
         self._header, self._rebase = await own.header(), own.rebase(note)
-        self._schema = json.loads(self._header)["schema"] if self._header else schema_hash(self._settings.schema)
+        self._schema = schema_of(self._header, self._settings.schema)
         found = await self._log.agree(self._schema)
         if found != self._schema:
             raise OtherSchema(f"{self._settings.name} belongs to the schema {found}, and this one is {self._schema}")

@@ -25,7 +25,7 @@ from mi_replica.own import SPARED, Gone, Piped, Service
 BUILT = f"{TOP}/crates/mi_service/out/mi_service"
 SERVICE = os.environ.get("MI_SERVICE") or (BUILT if os.path.exists(BUILT) else f"{TOP}/scripts/tests/stand_in.py")
 BASE = b'{"base":1,"line":2,"segment":7}\n[0,"{\\"sha256\\":"]\n{"sha256":"00"}\n'
-SEGMENT = b'{"journal":2,"segment":7}\n'
+FIRST, SEGMENT = b'{"journal":1,"revision":0}\n', b'{"journal":2,"segment":7}\n'
 LINES = [b'{"cmd":"%d"}\n' % n for n in range(5)]
 MODIFY = b'{"cmd":"modify","id":0,"add":{"balance":1}}\n'
 START, PUSH, COMMIT = b'{"cmd":"start"}\n', b'{"cmd":"push"}\n', b'{"cmd":"commit","revision":9}\n'
@@ -73,8 +73,7 @@ class Parts(unittest.TestCase):
     def test_where_they_stand(self) -> None:
         self.assertEqual(parts_of(self.path), (len(BASE), 7, 2, len(BASE + SEGMENT)))
         self.assertEqual([line for some in batches(self.path) for line in some], LINES[2:])
-        plain = put(f"{self.folder}/b", SEGMENT + LINES[0])
-        self.assertEqual(parts_of(plain), (0, 1, 0, len(SEGMENT)))
+        self.assertEqual(parts_of(put(f"{self.folder}/b", FIRST + LINES[0])), (0, 1, 0, len(FIRST)))
 
     def test_files_and_back(self) -> None:
         os.mkdir(f"{self.folder}/j")
@@ -98,7 +97,7 @@ class Parts(unittest.TestCase):
         self.assertRaises(ValueError, join, f"{self.folder}/journal", f"{self.folder}/again")
 
     def test_damaged_ones(self) -> None:
-        for text in (b"", b"{}\n", BASE, BASE[:40], BASE + b"x\n", BASE.replace(b"7", b'"7"') + SEGMENT, BASE.replace(b"2", b"-2", 1) + SEGMENT):
+        for text in (b"", b"{}\n", SEGMENT, FIRST[:-1], BASE, BASE[:40], BASE + b"x\n", BASE.replace(b"7", b'"7"') + SEGMENT, BASE.replace(b"2", b"-2", 1) + SEGMENT):
             self.assertRaises(ValueError, parts_of, put(f"{self.folder}/b", text))
 
     def test_a_copy_stands_in_memory_or_beside(self) -> None:
@@ -122,7 +121,7 @@ class Rebases(unittest.TestCase):
     def setUp(self) -> None:
         self.notes: List[str] = []
         self.folder = kit.folder(self)
-        self.path = put(f"{self.folder}/led.new.a", SEGMENT + b"".join(LINES))
+        self.path = put(f"{self.folder}/led.new.a", FIRST + b"".join(LINES))
 
     def stays(self, program: str) -> None:
         """What this program does to it leaves the file alone, and nothing beside it."""
@@ -154,7 +153,7 @@ class Rebases(unittest.TestCase):
         self.assertEqual(self.notes, [])
 
     def test_one_ends_with_its_member(self) -> None:
-        rebase = Rebase(script(self, "sleep 99 & wait"), None, self.notes.append)
+        rebase = Rebase(script(self, "exec sleep 99"), None, self.notes.append)
         ran = threading.Thread(target=rebase, args=(self.path,))
         ran.start()
         while not rebase._ran:
@@ -163,7 +162,7 @@ class Rebases(unittest.TestCase):
         ran.join(LONG)
         self.assertFalse(ran.is_alive())
         rebase(self.path)
-        self.assertEqual((text_in(self.path), os.listdir(self.folder), self.notes), (SEGMENT + b"".join(LINES), ["led.new.a"], []))
+        self.assertEqual((text_in(self.path), os.listdir(self.folder), self.notes), (FIRST + b"".join(LINES), ["led.new.a"], []))
 
 
 class Made(unittest.TestCase):
@@ -206,9 +205,9 @@ class Made(unittest.TestCase):
         self.assertEqual(self.tables(second), ([[3, "d"], [0, "a"], [2, "c"], [4, "e"]], [0, 0, 0]))
 
     def test_few_lines_stand_behind_the_base(self) -> None:
-        first = self.write(1, *(INSERT % b"%d" % n for n in range(99)))
+        first = text_in(self.write(1, *(INSERT % b"%d" % n for n in range(99))))
         second = self.write(2, INSERT % b"a", INSERT % b"b")
-        self.assertEqual(text_in(second), text_in(first) + INSERT % b"a" + INSERT % b"b")
+        self.assertEqual(text_in(second), first + INSERT % b"a" + INSERT % b"b")
         self.assertEqual(len(self.tables(second)[0]), 101)
 
     def test_one_of_lines_alone_becomes_one_with_a_base(self) -> None:
