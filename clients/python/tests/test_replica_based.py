@@ -2,9 +2,11 @@
 the one that MI_SERVICE names, else the built one, else the stand-in of the scripts' tests."""
 import asyncio
 import contextlib
+import itertools
 import json
 import os
 import shutil
+import signal
 import sys
 import threading
 import time
@@ -18,7 +20,7 @@ from member_kit import INSERT, LONG, OWNERS, SIZE, Running, Test, changed, lines
 
 from mi_replica import based
 from mi_replica.based import Rebase, copied, in_memory, join, parts_of, unpack
-from mi_replica.checkpoint import Damaged, Folder, batches, digest_of
+from mi_replica.checkpoint import Checkpoint, Damaged, Folder, batches, digest_of
 from mi_replica.front import Front
 from mi_replica.own import SPARED, Gone, Piped, Service
 
@@ -97,7 +99,8 @@ class Parts(unittest.TestCase):
         self.assertRaises(ValueError, join, f"{self.folder}/journal", f"{self.folder}/again")
 
     def test_damaged_ones(self) -> None:
-        for text in (b"", b"{}\n", SEGMENT, FIRST[:-1], BASE, BASE[:40], BASE + b"x\n", BASE.replace(b"7", b'"7"') + SEGMENT, BASE.replace(b"2", b"-2", 1) + SEGMENT):
+        changed = BASE.replace(b"7", b'"7"') + SEGMENT, BASE.replace(b"2", b"-2", 1) + SEGMENT
+        for text in (b"", b"{}\n", SEGMENT, FIRST[:-1], BASE, BASE[:40], BASE + b"x\n", *changed):
             self.assertRaises(ValueError, parts_of, put(f"{self.folder}/b", text))
 
     def test_a_copy_stands_in_memory_or_beside(self) -> None:
@@ -163,6 +166,85 @@ class Rebases(unittest.TestCase):
         self.assertFalse(ran.is_alive())
         rebase(self.path)
         self.assertEqual((text_in(self.path), os.listdir(self.folder), self.notes), (FIRST + b"".join(LINES), ["led.new.a"], []))
+
+
+class Quick(Rebase):
+    """One that makes a base at once: of lines it has their number."""
+
+    def _is_done(self, journal: str) -> bool:
+        count = b"%d" % sum(len(text_in(it).splitlines()) for it in (journal, f"{journal}.000007", f"{journal}.base") if os.path.exists(it))
+        for it in (journal, f"{journal}.000007"):
+            with contextlib.suppress(FileNotFoundError):
+                os.unlink(it)
+        put(f"{journal}.000007", SEGMENT)
+        put(f"{journal}.base", BASE.replace(b'"line":2', b'"line":0').replace(b"[0", b"[" + count))
+        return True
+
+
+class Killed(unittest.TestCase):
+    """A member is killed in front of each of the calls that change its folder. Nothing is synced here: the disk forgets nothing."""
+
+    def begun(self) -> Tuple[Folder, Checkpoint]:
+        folder = Folder(kit.folder(self), "led", "0a", Quick("", None, self.fail))
+        return folder, folder.write(front(1), FIRST, [(1, LINES[0])])
+
+    def killed(self, folder: Folder, act: Callable[[], object], nth: int) -> bool:
+        """Whether this has as many calls: it was killed in front of that one, and begins anew."""
+        events = itertools.count(1)
+
+        def hook(event: str, _: object) -> None:
+            if event in ("open", "os.rename", "os.remove", "os.mkdir", "os.rmdir", "os.listdir") and next(events) == nth:
+                os.kill(os.getpid(), signal.SIGKILL)
+
+        child = os.fork()
+        if not child:
+            with contextlib.suppress(BaseException):
+                sys.addaudithook(hook)
+                act()
+            os._exit(0)
+        return os.waitpid(child, 0)[1] != 0
+
+    def each(self, act: Callable[[Folder, Checkpoint], object], numbers: Tuple[int, ...]) -> None:
+        """Behind each kill there is a whole checkpoint, of one of these entries, and the next one is the only one."""
+        for nth in range(1, 999):
+            folder, first = self.begun()
+            if not self.killed(folder, lambda folder=folder, first=first: act(folder, first), nth):
+                break
+            again = Folder(folder.path, "led", "0a", Quick("", None, self.fail))
+            found = again.newest()
+            self.assertIn(found and found.front.number, numbers)
+            for it in again._all():
+                it.check()
+            self.assertEqual([it for it in os.listdir(folder.path) if ".new." in it], [])
+            for number in (2, 3):
+                made = again.write(front(number), FIRST, [(it, LINES[it - 1]) for it in range(1, number + 1)])
+            self.assertEqual(checkpoints_in(folder.path), [os.path.basename(made.path)])
+        self.assertGreater(nth, 3)
+        self.assertLess(nth, 99)
+
+    def test_while_it_writes_one(self) -> None:
+        self.each(lambda folder, _: folder.write(front(2), FIRST, [(2, LINES[1] * 99)]), (1, 2))
+
+    def test_while_it_takes_anothers(self) -> None:
+        def take(folder: Folder, first: Checkpoint) -> None:
+            with folder.new_file() as path:
+                folder.keep(put(path, FIRST), front(2), digest_of(put(path, FIRST)))
+
+        self.each(take, (1, 2))
+
+    def test_while_it_sets_one_aside(self) -> None:
+        def aside(folder: Folder, first: Checkpoint) -> None:
+            put(f"{first.path}.older.damaged", b"")
+            folder.set_aside(first)
+
+        folder, first = self.begun()
+        self.assertEqual(text_in(first.path), BASE.replace(b'"line":2', b'"line":0').replace(b"[0", b"[2") + SEGMENT)
+        for nth in range(1, 99):
+            folder, first = self.begun()
+            if not self.killed(folder, lambda folder=folder, first=first: aside(folder, first), nth):
+                break
+            self.assertIn(Folder(folder.path, "led", "0a").newest(), (first, None))
+            self.assertTrue(os.path.exists(first.path) != os.path.exists(f"{first.path}.damaged"))
 
 
 class Made(unittest.TestCase):

@@ -17,7 +17,7 @@ from test_replica_based import LIST, SERVICE, START
 from mi_client import Server
 from mi_replica import based, cli
 from mi_replica.beginning import begin, named
-from mi_replica.checkpoint import Damaged, Folder, digest_of
+from mi_replica.checkpoint import Damaged, digest_of
 from mi_replica.log import Log, OtherLedger
 from mi_replica.member import OtherSchema, Settings
 
