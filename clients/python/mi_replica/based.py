@@ -9,6 +9,7 @@ Without a base it is a journal of one file. `mi_service` alone makes and reads a
 from __future__ import annotations
 
 import contextlib
+import hashlib
 import json
 import mmap
 import os
@@ -194,9 +195,10 @@ def places_for(path: str) -> List[str]:
 
 def in_memory(folder: str) -> str:
     """How the paths begin of folders in memory whose files are copies of a folder's; the empty text where the system has no such place."""
-    found = os.stat(folder)
-    is_there = os.path.isdir(MEMORY) and os.access(MEMORY, os.W_OK | os.X_OK)
-    return f"{MEMORY}/mi_replica-{found.st_dev:x}-{found.st_ino:x}-" if is_there else ""
+    if not os.path.isdir(MEMORY) or not os.access(MEMORY, os.W_OK | os.X_OK):
+        return ""
+    path = hashlib.sha256(os.fsencode(os.path.realpath(folder))).hexdigest()
+    return f"{MEMORY}/mi_replica-{os.stat(folder).st_dev:x}-{path[:16]}-"
 
 
 def clean(folder: str) -> None:
