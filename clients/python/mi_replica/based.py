@@ -110,7 +110,7 @@ def join(journal: str, path: str) -> None:
         with open(segment_path(journal, it), "rb") as file:
             if it > number and file.readline() and file.read(1):
                 raise ValueError(f"{journal}: segment {it} has lines")
-    with open(path, "wb") as target:
+    with open(path, "wb", opener=lambda name, how: os.open(name, how, 0o600)) as target:
         for name in (base_path(journal), segment_path(journal, number)):
             with open(name, "rb") as source:
                 shutil.copyfileobj(source, target, PIECE)

@@ -279,6 +279,7 @@ class Made(unittest.TestCase):
     def test_it_has_the_tables_and_no_lines(self) -> None:
         first = self.write(1, *(INSERT % it for it in OWNERS), b'{"cmd":"erase","id":1}\n', MODIFY * 99)
         self.assertTrue(first.endswith(".checkpoint"))
+        self.assertEqual(os.stat(first).st_mode & 0o777, 0o600)
         self.assertEqual((list(batches(first)), os.listdir(self.path)), ([], [os.path.basename(first)]))
         self.assertEqual(self.tables(first), ([[0, "a"], [2, "c"], [3, "d"]], [0, 0, 0]))
         size = os.path.getsize(first)
