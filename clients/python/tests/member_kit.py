@@ -35,6 +35,28 @@ def lines_in(folder: str) -> List[bytes]:
     return [line for some in batches(path) for line in some]
 
 
+def checkpoints_in(folder: str) -> List[str]:
+    return sorted(it for it in os.listdir(folder) if it.endswith((".journal", ".checkpoint")))
+
+
+def text_in(path: str) -> bytes:
+    with open(path, "rb") as file:
+        return file.read()
+
+
+def put(path: str, text: bytes) -> str:
+    with open(path, "wb") as file:
+        file.write(text)
+    return path
+
+
+def script(test: unittest.TestCase, text: str) -> str:
+    """A program that stands in for the service."""
+    path = kit.written(test, f"#!/bin/sh\n{text}\n", "mi_service")
+    os.chmod(path, 0o700)
+    return path
+
+
 def changed(path: str, change: Callable[[bytes], bytes]) -> None:
     """Changes what a file has, where it stands."""
     with open(path, "r+b") as file:
