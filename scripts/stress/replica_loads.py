@@ -2,7 +2,8 @@
 
     stress replica-loads [--program FILE] [--rows N] [--changes N]
 
-Rows are inserted, and then modified again and again, each by an entry of its own. A load is from the start of a server to the reply to the last line."""
+Rows are inserted, and then modified again and again, each by an entry of its own. A load is from the start of a server to the reply to the last line.
+Of `mi_server`, which reads no base, there is the one with all lines alone."""
 import argparse
 import asyncio
 import os
@@ -14,10 +15,10 @@ import program
 from stress import service
 
 sys.path.insert(0, f"{program.TOP}/clients/python")
-from mi_replica.checkpoint import Folder, batches  # noqa: E402
+from mi_replica.checkpoint import Folder, batches, header  # noqa: E402
 from mi_replica.following import replay  # noqa: E402
 from mi_replica.front import Front  # noqa: E402
-from mi_replica.own import Service  # noqa: E402
+from mi_replica.own import own_of  # noqa: E402
 
 
 def entries(rows, changes):
@@ -30,7 +31,7 @@ def entries(rows, changes):
 
 async def loaded(path, checkpoint):
     """How long a server takes that loads a checkpoint, and what it answers to a look at its tables."""
-    own, began = Service(path, None), time.monotonic()
+    own, began = own_of(path, None), time.monotonic()
     try:
         await own.start(checkpoint)
         for lines in batches(checkpoint):
@@ -44,8 +45,8 @@ async def loaded(path, checkpoint):
 def measured(path, options, shorter):
     """A checkpoint's bytes, the seconds of a write and of a load, and what its server shows."""
     with tempfile.TemporaryDirectory() as home:
-        header, began = asyncio.run(Service(path, None).header()), time.monotonic()
-        made = Folder(home, "led", "0a", shorter).write(Front(1, "0" * 16), header, entries(options.rows, options.changes))
+        first, began = asyncio.run(own_of(path, None).header()) or header(0, "00"), time.monotonic()
+        made = Folder(home, "led", "0a", shorter).write(Front(1, "0" * 16), first, entries(options.rows, options.changes))
         wrote = time.monotonic() - began
         took, shown = asyncio.run(loaded(path, made.path))
         return os.path.getsize(made.path), wrote, took, shown
@@ -58,12 +59,12 @@ def main():
     parser.add_argument("--changes", type=int, default=200_000)
     options = parser.parse_args()
     path = service.needed(options.program)
-    rebase, shown = Service(path, None).rebase(print), []
-    for what, shorter in (("all lines", lambda checkpoint: None), ("a base", rebase)):
+    rebase, shown = own_of(path, None).rebase(print), []
+    for what, shorter in [("all lines", lambda checkpoint: None)] + [("a base", rebase)] * (rebase is not None):
         size, wrote, took, found = measured(path, options, shorter)
         shown.append(found)
         print(f"{what:<9} {size:>12,} bytes, written in {wrote:.2f} s, loaded in {took:.2f} s", flush=True)
-    if shown[0] != shown[1]:
+    if shown[0] != shown[-1]:
         print("Differs: the two show other tables")
         return 1
     return 0
