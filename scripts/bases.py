@@ -168,12 +168,13 @@ def in_order(table, x, ids):
 Segment = collections.namedtuple("Segment", "number path")
 
 
-def segments_of(path):
-    """The segments of a journal that are there, by their numbers. Raises BadChain where one in between is missing."""
-    numbers = numbers_of(path)
-    for before, number in zip(numbers, numbers[1:]):
-        if number != before + 1:
-            raise BadChain(f"segment {before + 1} is missing, and segment {number} is there")
+def segments_of(path, first=0):
+    """The segments of a journal that are there from this number on, by their numbers: a base that begins there needs no others. Raises BadChain where
+    one in between is missing."""
+    numbers = [it for it in numbers_of(path) if it >= first]
+    for wanted, number in enumerate(numbers, first or min(numbers, default=0)):
+        if number != wanted:
+            raise BadChain(f"segment {wanted} is missing, and segment {number} is there")
     return [Segment(it, segment_path(path, it)) for it in numbers]
 
 

@@ -8,7 +8,7 @@
     journal.py copy FILE NEW                                    its text up to the last newline, also of one that is in use
 
 A journal may have a base, FILE.base, which has the tables behind some line, and segments, FILE.000002 and on: `mi_service --rebase` makes
-them. check, stat and copy take them all, from the base on; compact takes a journal of one file.
+them. check, stat and copy take them all, from the base on, and no segment that the base covers; compact takes a journal of one file.
 
 A journal's first line is its header, {"journal":1,"revision":R,"schema":"HASH"}: the format, the first revision and the hash of the
 schema. That of a later segment has its number too, and the SHA-256 of the segment before it. It is no command, so `mi_server < FILE` refuses it and then does the other lines, as one connection. Of each holder that went
@@ -149,12 +149,14 @@ class Journal:
 
 
 class Chain:
-    """A journal: its base, where it has one, and its segments from there on, the last of which may be in use."""
+    """A journal: its base, where it has one, and its segments from there on, the last of which may be in use. Those in front, which the base covers, may
+    be there, some of them or none: they are counted alone."""
 
     def __init__(self, path, what="reading"):
         self.path, self.base, self.files = path, base_of(path), contextlib.ExitStack()
         first = self.base.segment if self.base else 1
-        self.segments = [it for it in bases.segments_of(path) if it.number >= first]
+        self.segments = bases.segments_of(path, self.base.segment if self.base else 0)
+        self.covered = [it for it in bases.numbers_of(path) if it < first]
         with contextlib.ExitStack() as opened:
             if not self.segments or self.segments[0].number != first:
                 self.segments = [bases.Segment(first, bases.segment_path(path, first))]
@@ -351,7 +353,7 @@ def check(path, replay, schema):
     if replay:
         check_schema(path, journal.schema, schema)
     asked = "" if replay else "; its lines weren't asked (--replay PROGRAM asks them)"
-    print(f"{path}: {chain_note(chain)}{count} lines, schema {journal.schema}, ok as a file{end_note(journal)}{asked}", flush=True)
+    print(f"{path}: {chain_note(chain)}{count} lines, schema {journal.schema}, ok as a file{end_note(journal)}{covered_note(chain)}{asked}", flush=True)
     if replay:
         replay_check(path, replay, schema, count + 1)
 
@@ -363,6 +365,13 @@ def chain_note(chain):
     rows = f"a base of {sum(len(it.rows) for it in chain.base.tables)} rows, " if chain.base else ""
     first, last = chain.segments[0].number, chain.segments[-1].number
     return f"{rows}segment{'' if first == last else 's'} {first}{'' if first == last else f' to {last}'}, "
+
+
+def covered_note(chain):
+    """Which segments are there that the base covers, so that a start doesn't look at them."""
+    if not chain.covered:
+        return ""
+    return f"; the base has segment{'' if len(chain.covered) == 1 else 's'} {', '.join(map(str, chain.covered))} too, not looked at"
 
 
 def check_schema(path, digest, schema):
@@ -414,7 +423,7 @@ def stat(path):
         blocks, counts = blocks_of(chain)
     lines, size = sum(counts.values()), chain.end - chain.first_bytes
     needless = sum(end - start for start, end in blocks.dropped)
-    print(f"{path}: {chain_note(chain)}{lines} lines of {size} bytes, {size / max(lines, 1):.1f} each{end_note(chain.last)}")
+    print(f"{path}: {chain_note(chain)}{lines} lines of {size} bytes, {size / max(lines, 1):.1f} each{end_note(chain.last)}{covered_note(chain)}")
     for name, count in counts.most_common():
         print(f"  {count:>10} {name}" + ("" if name in CHANGES or name in SESSIONS else ", which changes nothing"))
     print(f"  sessions: {counts['start']} started, " + ", ".join(f"{blocks.ended[it]} {it}" for it in ("undone", "squashed", "committed")))

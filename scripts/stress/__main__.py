@@ -23,6 +23,7 @@ COMMANDS = {
     "waits": ("waits", "how long others wait while a long command runs, and through a restart"),
     "replicas": ("replica_test", "failures of members of a ledger and of etcd"),
     "replica-faults": ("replica_faults", "faults put into copies of the members' program"),
+    "replica-loads": ("replica_loads", "bytes and times of members' checkpoints"),
     "window": ("window_test", "the window of `weltiyo web` in a browser"),
 }
 """Each command with its module and what it does."""

@@ -2,6 +2,7 @@
 temporary folder, on free ports, and all ended with the program that started them."""
 import asyncio
 import ctypes
+import glob
 import json
 import os
 import shutil
@@ -202,6 +203,10 @@ class Members:
     def forget(self, member):
         """Removes what a member has on its disk."""
         shutil.rmtree(f"{self.folder}/{member.name}", ignore_errors=True)
+
+    def with_bases(self):
+        """How many members have a checkpoint with a base."""
+        return sum(bool(glob.glob(f"{glob.escape(self.folder)}/{it.name}/*.checkpoint")) for it in self.all)
 
     def status(self, n):
         """What a member says of itself, or None."""

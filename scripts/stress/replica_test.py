@@ -131,7 +131,7 @@ class Run:
         checkpoints = [self.members.status(n)["checkpoint"] for n in range(3)]
         return (
             f"{len(self.waits)} failures, {len(entries)} entries of {len(replies)} lines, {acknowledged} acknowledged, {unknown} unknown, "
-            f"{current} look-ups of leaders, checkpoints {checkpoints}, log from {self.recorder.first}"
+            f"{current} look-ups of leaders, checkpoints {checkpoints}, {self.members.with_bases()} with a base, log from {self.recorder.first}"
         )
 
     def settled(self):

@@ -120,6 +120,25 @@ class Chains(unittest.TestCase):
         os.remove(self.path)
         self.assertEqual(self.ran("check", self.path)[0], 0, "the base has all of the first segment")
 
+    def test_segments_that_the_base_covers_are_left_alone(self):
+        """Whatever they have, and whichever of them are there; a copy is without them."""
+        first, second, third = self.three()
+        for name, data in (("shop.journal.000006", second), ("shop.journal.000007", third)):
+            self.write(name, data)
+        second = self.write("shop.journal.000006", later_header("a" * 64, 6), insert("b") + b"\n", insert("c") + b"\n")
+        self.write("shop.journal.000007", later_header(bases.sum_of(second), 7), START + b"\n")
+        self.write("shop.journal.base", text_of_base(asked(insert("a"), insert("b")), 1, 6, bases.sum_of(second.split(b"\n")[0])))
+        os.remove(f"{self.path}.000002")
+        status, said, _ = self.ran("check", self.path)
+        self.assertEqual((status, said.count("a base of 2 rows, segments 6 to 7, 2 lines,")), (0, 1))
+        self.assertIn("; the base has segments 1, 3 too, not looked at", said)
+        os.remove(self.path)
+        self.assertIn("; the base has segment 3 too, not looked at\n", self.ran("stat", self.path)[1])
+        self.assertEqual(self.ran("copy", self.path, f"{self.folder}/copy")[0], 0)
+        self.assertEqual(sorted(it for it in os.listdir(self.folder) if it.startswith("copy")), ["copy.000006", "copy.000007", "copy.base"])
+        os.remove(f"{self.path}.000006")
+        self.assertEqual(self.ran("check", self.path)[::2], (3, f"{self.path}: segment 6 is missing, and segment 7 is there\n"))
+
     def test_without_the_base_all_are_read(self):
         self.three()
         os.remove(f"{self.path}.base")

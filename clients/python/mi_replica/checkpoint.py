@@ -1,7 +1,8 @@
-"""A member's checkpoint: a file NAME.<identity>.<20 digits>.<16 digits>.<16 digits>.journal with all lines up to the end of the entry of the first
-number of the ledger of this identity; the sum of the log up to there, and what the file's own bytes come to, stand behind it. It is a journal, so
-`scripts/journal.py` checks it and counts it; and a server that is asked its lines has the database. A file of this name is written whole: it gets the
-name once it and what it has are on the disk. Whoever changes it gives it another name, or it is damaged."""
+"""A member's checkpoint: a file NAME.<identity>.<20 digits>.<16 digits>.<16 digits>.journal, or .checkpoint, with what a server needs that is to have
+all lines up to the end of the entry of the first number of the ledger of this identity; the sum of the log up to there, and what the file's own bytes
+come to, stand behind it. One that ends in .journal is a journal with all the lines, so `scripts/journal.py` checks it and counts it. In one that ends in
+.checkpoint a base stands in front, and the lines follow that (`based.py`). A file of this name is written whole: it gets the name once it and what it has
+are on the disk. Whoever changes it gives it another name, or it is damaged."""
 from __future__ import annotations
 
 import contextlib
@@ -13,13 +14,15 @@ import shutil
 import subprocess
 import sys
 import tempfile
-from typing import Iterable, Iterator, List, NamedTuple, Optional, Tuple
+from typing import Callable, Iterable, Iterator, List, NamedTuple, Optional, Tuple
 
+from mi_replica.based import BASE, PIECE, clean, parts_of
 from mi_replica.front import SUM_DIGITS, Front
 from mi_replica.log import OtherLedger
 
 HEADER_FORMAT = 1
-PIECE = 1 << 18
+LINES, BASED = "journal", "checkpoint"
+"""What the name of a checkpoint ends in: of one with all lines, and of one with a base."""
 ASIDE = ".damaged"
 """What the name of a checkpoint that can't be read ends in, so that it is none any more."""
 REPLACED = ".replaced"
@@ -61,16 +64,18 @@ class Checkpoint(NamedTuple):
 
 
 class Folder:
-    """Where the checkpoints of one member stand, of which only the newest is kept. Raises OtherLedger where one is another ledger's."""
+    """Where the checkpoints of one member stand, of which only the newest is kept. `shorter` makes the file of one shorter, where it can. Raises
+    OtherLedger where one is another ledger's."""
 
-    def __init__(self, path: str, name: str, identity: str) -> None:
+    def __init__(self, path: str, name: str, identity: str, shorter: Optional[Callable[[str], None]] = None) -> None:
         os.makedirs(path, exist_ok=True)
-        self.path, self._name = path, f"{name}.{identity}"
-        self._pattern = re.compile(re.escape(self._name) + rf"\.(\d{{20}})\.([0-9a-f]{{{SUM_DIGITS}}})\.([0-9a-f]{{{SUM_DIGITS}}})\.journal")
+        self.path, self._name, self._shorter = path, f"{name}.{identity}", shorter or shorten
+        self._pattern = re.compile(re.escape(self._name) + rf"\.(\d{{20}})\.([0-9a-f]{{{SUM_DIGITS}}})\.([0-9a-f]{{{SUM_DIGITS}}})\.({LINES}|{BASED})")
+        clean(path)
         for it in os.listdir(path):
             if it.startswith(f"{name}.new."):  # (which a member that was killed has left)
-                os.unlink(f"{path}/{it}")
-            elif re.fullmatch(re.escape(name) + r"\.([^.]*\.)?\d{20}\.([^.]*\.){0,2}journal", it) and not self._pattern.fullmatch(it):
+                remove(f"{path}/{it}")
+            elif re.fullmatch(re.escape(name) + rf"\.([^.]*\.)?\d{{20}}\.([^.]*\.){{0,2}}({LINES}|{BASED})", it) and not self._pattern.fullmatch(it):
                 raise OtherLedger(
                     f"{path}/{it} is a checkpoint of another ledger: {name} in etcd has the identity {identity}. Name another --folder, or move"
                     " that file away: then this member takes what the ledger in etcd has"
@@ -114,7 +119,7 @@ class Folder:
                     if at > before:
                         target.write(lines)
                     before = max(at, before)
-            shorten(path)
+            self._shorter(path)
             return self.keep(path, front)
 
     @contextlib.contextmanager
@@ -134,9 +139,10 @@ class Folder:
         found = digest_of(path)
         if digest not in ("", found):
             raise ValueError(f"its bytes come to {found}, and not to {digest}")
-        made = Checkpoint(front, found, f"{self.path}/{self._name}.{front.number:020}.{front.sum}.{found}.journal")
         with open(path, "rb") as file:
+            ending = BASED if file.read(len(BASE)) == BASE else LINES
             os.fsync(file.fileno())
+        made = Checkpoint(front, found, f"{self.path}/{self._name}.{front.number:020}.{front.sum}.{found}.{ending}")
         os.rename(path, made.path)
         self._sync()
         for it in sorted(self._all()):
@@ -154,6 +160,14 @@ class Folder:
             os.close(handle)
 
 
+def remove(path: str) -> None:
+    """Removes a file, or a folder with all that it has."""
+    if os.path.isdir(path):
+        shutil.rmtree(path)
+    else:
+        os.unlink(path)
+
+
 def shorten(path: str) -> None:
     """Drops blocks that were undone, where the tool for it is there. Where that fails the file stays as it is."""
     if os.path.isfile(TOOL):
@@ -163,11 +177,13 @@ def shorten(path: str) -> None:
 
 
 def batches(path: str) -> Iterator[List[bytes]]:
-    """The lines of a checkpoint behind its header, some at a time, each with its newline. Raises ValueError where it is no journal, which
+    """The lines of a checkpoint that no base of it has, some at a time, each with its newline. Raises ValueError where it is no journal, which
     has no empty line either (to one a server answers nothing)."""
+    parts = parts_of(path)
     with open(path, "rb") as file:
-        if not file.readline().startswith(b'{"journal":'):
-            raise ValueError(f"{path}: no header")
+        file.seek(parts.lines)
+        for _ in range(parts.covered):
+            file.readline()
         while True:
             lines = file.readlines(PIECE)
             if not lines:

@@ -12,6 +12,10 @@ import sys
 from typing import Any, Dict, List, Optional, Tuple
 
 from mi_tools.cli import broken_pipe
+from mi_tools.journal_names import base_path, numbers_of, segment_path
+from mi_replica.based import unpack
+from mi_replica.beginning import begin, named
+from mi_replica.checkpoint import Damaged
 from mi_replica.etcd import Rejected, Unreachable, place
 from mi_replica.log import Leader, Log, OtherLedger, Snapshot
 from mi_replica.member import Member, OtherSchema, Settings
@@ -25,9 +29,11 @@ ANSWER_SECONDS = 2.0
 
 def parser() -> argparse.ArgumentParser:
     made = argparse.ArgumentParser(prog="mi_replica", description="A member of a ledger whose lines etcd keeps in order.")
-    made.add_argument("--etcd", required=True, metavar="URL,..", help="the members of etcd, as http://127.0.0.1:2379")
-    made.add_argument("--name", required=True, metavar="LEDGER", help="the ledger: letters, digits, - and _")
+    made.add_argument("--etcd", metavar="URL,..", help="the members of etcd, as http://127.0.0.1:2379")
+    made.add_argument("--name", metavar="LEDGER", help="the ledger: letters, digits, - and _")
     made.add_argument("--status", action="store_true", help="tells how the members and the log stand, and nothing else")
+    made.add_argument("--begin", metavar="CHECKPOINT", help="begins the ledger with the tables of this file, which it puts into --folder, and nothing else")
+    made.add_argument("--unpack", nargs=2, metavar=("CHECKPOINT", "JOURNAL"), help="makes a journal of mi_service from a checkpoint, and nothing else")
     made.add_argument("--program", default=os.environ.get("MI_SERVICE", "mi_service"), help="the server of its own: mi_service or mi_server (%(default)s)")
     made.add_argument("--body", choices=["service", "pipes"], help="how it is asked; by the program's name where this is left out")
     made.add_argument("--schema", metavar="FILE", help="the schema, the same for all members")
@@ -44,7 +50,7 @@ def parser() -> argparse.ArgumentParser:
 
 def settings(options: argparse.Namespace) -> Settings:
     return Settings(
-        etcd=options.etcd.split(","), name=options.name, program=options.program, port=options.listen, schema=options.schema, host=options.host,
+        etcd=options.etcd.split(","), name=options.name, program=options.program, port=options.listen or 0, schema=options.schema, host=options.host,
         address=options.address, folder=options.folder, lease=options.lease, margin=options.margin, most_lines=options.batch,
         checkpoint=options.checkpoint, body=options.body or "",
     )
@@ -53,9 +59,16 @@ def settings(options: argparse.Namespace) -> Settings:
 def main(words: Optional[List[str]] = None) -> int:
     made = parser()
     options = made.parse_args(words)
+    if options.unpack:
+        return unpacked(*options.unpack)
+    missing = [f"--{it}" for it in ("etcd", "name") if getattr(options, it) is None]
+    if missing:
+        made.error(f"the following arguments are required: {', '.join(missing)}")
     if not re.fullmatch(r"[A-Za-z0-9_-]{1,64}", options.name):
         made.error("--name has letters, digits, - and _, at most 64")
-    if not options.status and not options.listen:
+    if options.begin and not options.folder:
+        made.error("--begin wants --folder")
+    if not options.status and not options.begin and not options.listen:
         made.error("--listen is wanted, or --status")
     if not 0 <= options.margin < options.lease:
         made.error("--margin is less than --lease")
@@ -65,9 +78,12 @@ def main(words: Optional[List[str]] = None) -> int:
     except ValueError as error:
         made.error(f"--etcd: {error}")
     try:
-        return told(options) if options.status else asyncio.run(serve(options))
+        return told(options) if options.status else asyncio.run(begun(options) if options.begin else serve(options))
     except (OtherSchema, OtherLedger) as error:
         print(f"mi_replica: {'schema' if isinstance(error, OtherSchema) else 'ledger'}: {error}", file=sys.stderr)
+        return 3
+    except Damaged as error:
+        print(f"mi_replica: checkpoint: {error}", file=sys.stderr)
         return 3
     except (OSError, Rejected, Gone) as error:
         print(f"mi_replica: {error}", file=sys.stderr)
@@ -84,10 +100,43 @@ def told(options: argparse.Namespace) -> int:
         return broken_pipe()
 
 
-async def serve(options: argparse.Namespace) -> int:
-    """A member until it is told to end. Its lease is given back then, so that another one leads at once."""
+def unpacked(checkpoint: str, journal: str) -> int:
+    """The files of a journal, none of which may be there."""
+    try:
+        named(checkpoint).check()
+        for it in (base_path(journal), *(segment_path(journal, number) for number in numbers_of(journal))):
+            if os.path.exists(it):
+                raise FileExistsError(f"{it} is there")
+        print(f"{unpack(checkpoint, journal)}: start mi_service with --journal {journal}")
+        return 0
+    except (Damaged, ValueError) as error:
+        print(f"mi_replica: checkpoint: {error}", file=sys.stderr)
+        return 3
+    except OSError as error:
+        print(f"mi_replica: {error}", file=sys.stderr)
+        return 4
+
+
+def check_program(options: argparse.Namespace) -> None:
     if shutil.which(options.program) is None:
         raise Gone(f"there is no program {options.program}: name it by --program FILE or the variable MI_SERVICE")
+
+
+async def begun(options: argparse.Namespace) -> int:
+    """Begins a ledger with a checkpoint's tables."""
+    check_program(options)
+    log = Log(options.etcd.split(","), options.name)
+    try:
+        made, identity = await begin(settings(options), options.begin, log)
+    finally:
+        log.close()
+    print(f"{options.name}: begun with the identity {identity}, behind entry {made.front.number}. Start its first member with --folder {options.folder}")
+    return 0
+
+
+async def serve(options: argparse.Namespace) -> int:
+    """A member until it is told to end. Its lease is given back then, so that another one leads at once."""
+    check_program(options)
     running = asyncio.ensure_future(Member(settings(options)).run())
     for it in ENDS:
         asyncio.get_running_loop().add_signal_handler(it, running.cancel)

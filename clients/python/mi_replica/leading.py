@@ -10,7 +10,7 @@ from typing import Callable, Deque, List, NamedTuple, Optional, Tuple
 
 from mi_client.commands import belongs_in_journal
 from mi_replica.clients import Client, Clients
-from mi_replica.lines import REVISION, UNDO, is_of_member, may_start
+from mi_replica.lines import NO_ROOM, REVISION, UNDO, is_of_member, may_start
 from mi_replica.etcd import Unreachable
 from mi_replica.front import Front
 from mi_replica.log import AGAIN_SECONDS, MOST_BYTES, Log, Term
@@ -88,6 +88,8 @@ class Leading:
         """Asks a batch. Its replies wait behind those before."""
         lines = [it for _, part in batch.parts for it in part]
         replies = await self._ask(batch, lines) if lines else []
+        if NO_ROOM in replies:  # (another member may have some)
+            raise Gone("the server has no room for its journal")
         at = 0
         for client, part in batch.parts:
             for line in part:

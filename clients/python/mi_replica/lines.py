@@ -17,6 +17,7 @@ JSON = b'{"error":"json","ok":false}'
 FORM = b'{"error":"form","ok":false}'
 BUSY = b'{"error":"busy","ok":false}'
 MEMORY = b'{"error":"memory","ok":false}'
+NO_ROOM = b'{"error":"journal","ok":false}'
 HELD = re.compile(rb'"held":(\d+)')
 
 

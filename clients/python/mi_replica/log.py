@@ -107,6 +107,11 @@ def clock() -> float:
     return time.clock_gettime(time.CLOCK_BOOTTIME) if hasattr(time, "CLOCK_BOOTTIME") else time.monotonic()
 
 
+def new_identity() -> str:
+    """Of a ledger that begins: random digits."""
+    return secrets.token_hex(SUM_DIGITS // 2)
+
+
 def leader_of(found: Sequence[Pair]) -> Optional[Leader]:
     return Leader(found[0].made, json.loads(found[0].value)) if found else None
 
@@ -288,14 +293,8 @@ class Log:
     async def agree(self, schema: str) -> str:
         """What identifies the ledger's schema: this one, where no member came before. The ledger is begun then, with an identity of its own.
         Raises OtherLedger."""
-        made = secrets.token_hex(SUM_DIGITS // 2)
-        begin = {self._identity: made.encode(), self._first: b"%020d" % 1, self._front: Front(0, made).written()}
-        asked = {
-            "compare": [is_new(self._schema)],
-            "success": [put(self._schema, schema.encode()), *(put(key, value) for key, value in begin.items())],
-            "failure": [ranged(self._schema), ranged(self._identity), ranged(self._front)],
-        }
-        answer = await self._until_answered(self._reading, "/v3/kv/txn", asked)
+        made = new_identity()
+        answer = await self._begun(made, schema, Front(0, made))
         if answer.get("succeeded"):
             self.identity = made
             return schema
@@ -304,6 +303,26 @@ class Log:
             raise OtherLedger(f"the ledger {self.name} has no identity or no front in etcd: an earlier mi_replica began it. Begin one of another name")
         self.identity = found[0].value.decode()
         return pairs(answer, 0)[0].value.decode()
+
+    async def begin_behind(self, identity: str, schema: str, front: Front) -> None:
+        """Begins a ledger of this identity whose log goes on from a front: the entries up to that have left it, and a checkpoint has them. Raises
+        OtherLedger where one of this name is there."""
+        answer = await self._begun(identity, schema, front)
+        # (it may have been begun by this request, when it wasn't answered)
+        if not answer.get("succeeded") and [it.value for it in pairs(answer, 1)] != [identity.encode()]:
+            raise OtherLedger(f"the ledger {self.name} is there already. Begin one of another name")
+
+    async def _begun(self, identity: str, schema: str, front: Front) -> Message:
+        """What etcd answers to a request that begins the ledger, where it has none."""
+        begin = {
+            self._schema: schema.encode(), self._identity: identity.encode(), self._first: b"%020d" % (front.number + 1), self._front: front.written()
+        }
+        asked = {
+            "compare": [is_new(self._schema)],
+            "success": [put(key, value) for key, value in begin.items()],
+            "failure": [ranged(self._schema), ranged(self._identity), ranged(self._front)],
+        }
+        return await self._until_answered(self._reading, "/v3/kv/txn", asked)
 
     async def say(self, name: str, said: Said, lease: int) -> None:
         told = put(self._members + name.encode(), json.dumps(said).encode(), lease)

@@ -14,13 +14,14 @@ import tempfile
 import time
 from typing import Any, Dict, List, NamedTuple, Optional, Sequence, Tuple
 
-from mi_replica.checkpoint import PIECE, Checkpoint, Damaged, Folder, batches, header
+from mi_replica.based import PIECE, Rebase
+from mi_replica.checkpoint import Checkpoint, Damaged, Folder, batches, header
 from mi_replica.clients import Clients
 from mi_replica.etcd import Rejected, Unreachable
 from mi_replica.front import SUM_DIGITS, Front
 from mi_replica.following import Behind, Diverged, Following, replay
 from mi_replica.leading import Leading
-from mi_replica.lines import MEMORY, REVISION, said
+from mi_replica.lines import MEMORY, NO_ROOM, REVISION, said
 from mi_replica.log import AGAIN_SECONDS, Lease, Log, Lost, OtherLedger, Term, clock
 from mi_replica.own import Gone, Own, own_of
 from mi_replica.tasks import end, first_ended
@@ -72,6 +73,11 @@ def schema_hash(path: Optional[str]) -> str:
         return hashlib.sha256(file.read()).hexdigest()[:16]
 
 
+def schema_of(header: bytes, path: Optional[str]) -> str:
+    """What identifies a schema: what a journal's header says, where the program tells that, else the file's bytes."""
+    return str(json.loads(header)["schema"]) if header else schema_hash(path)
+
+
 def note(text: str) -> None:
     print(f"{time.strftime('%H:%M:%S')} {text}", file=sys.stderr, flush=True)
 
@@ -96,6 +102,7 @@ class Member:
         self._checkpoint: Optional[Checkpoint] = None
         """One that it has loaded or written, so one that others may count on."""
         self._writing: Optional["asyncio.Future[None]"] = None
+        self._rebase: Optional[Rebase] = None
         self._rests_until = 0.0
         self._damage: Optional[Damaged] = None
         """What a checkpoint of its own turned out to be, while it ran."""
@@ -108,16 +115,19 @@ class Member:
         finally:
             server.close()
             self._clients.cut_all()
+            if self._rebase:
+                self._rebase.end()
             await self._lease.leave()
             self._log.close()
 
     async def _live(self) -> None:
-        self._header = await own_of(self._settings.program, self._settings.schema, self._settings.body).header()
-        self._schema = json.loads(self._header)["schema"] if self._header else schema_hash(self._settings.schema)
+        own = own_of(self._settings.program, self._settings.schema, self._settings.body)
+        self._header, self._rebase = await own.header(), own.rebase(note)
+        self._schema = schema_of(self._header, self._settings.schema)
         found = await self._log.agree(self._schema)
         if found != self._schema:
             raise OtherSchema(f"{self._settings.name} belongs to the schema {found}, and this one is {self._schema}")
-        self._folder = Folder(self._settings.folder or self._temporary.name, self._settings.name, self._log.identity)
+        self._folder = Folder(self._settings.folder or self._temporary.name, self._settings.name, self._log.identity, self._rebase)
         self._had = self._log.begin()
         try:
             while True:
@@ -144,7 +154,6 @@ class Member:
 
     async def _once(self, own: Own) -> None:
         """From a fresh server to the end of a term."""
-        await own.start()
         self._front = await self._load(own)
         self._had = max(self._had, self._front, key=lambda it: it.number)
         following = Following(own, self._log, self._clients, self._front, self._had)
@@ -167,28 +176,35 @@ class Member:
             await self._log.resign(term)
 
     async def _load(self, own: Own) -> Front:
-        """Asks the server the newest checkpoint, and answers up to where that goes. One that isn't what was written, or that the server refuses,
-        is set aside, so that the next server begins with what others have."""
-        if self._writing:
-            await asyncio.wait([self._writing])
-        fresh = json.loads((await own.ask([REVISION]))[0])
-        self._header = self._header or header(fresh["revision"], self._schema)
+        """Starts the server with the newest checkpoint's base, asks it the lines of that, and answers up to where they go. A checkpoint that isn't what was
+        written, or that the server refuses, is set aside, so that the next server begins with what others have."""
+        await self._written()
         newest = self._folder.newest()
         if self._tail and self._front.number > self._before[0].number:
             self._before = (self._front, self._tail)
         self._tail, self._tail_bytes, self._checkpoint, self._damage = [], 0, None, None
         if not newest:
+            await own.start()
+            await self._learn(own)
             return self._log.begin()
         try:
             await asyncio.get_running_loop().run_in_executor(None, newest.check)
+            await own.start(newest.path)
+            await self._learn(own)
             for lines in batches(newest.path):
                 await replay(own, lines, newest.path)
         except (Damaged, ValueError, Diverged) as error:
-            if isinstance(error, Diverged) and error.reply == MEMORY:
+            if isinstance(error, Diverged) and error.reply in (MEMORY, NO_ROOM):
                 raise
             raise Damaged(f"{error}; the checkpoint is set aside as {self._folder.set_aside(newest)}") from error
         self._checkpoint = newest
         return newest.front
+
+    async def _learn(self, own: Own) -> None:
+        """The first line of a journal over its schema, where the program hasn't told it: then the server has no base, and begins with the first revision."""
+        if not self._header:
+            fresh = json.loads((await own.ask([REVISION]))[0])
+            self._header = header(fresh["revision"], self._schema)
 
     async def _elected(self) -> Optional[Term]:
         """The term, where this member was elected."""
@@ -268,10 +284,16 @@ class Member:
         finally:
             self._writing = None
 
+    async def _written(self) -> None:
+        """Waits for a checkpoint that is being written, of which no base is made any more: nobody is served meanwhile."""
+        if self._writing:
+            if self._rebase:
+                self._rebase.hurry()
+            await asyncio.wait([self._writing])
+
     async def _save(self) -> None:
         """Writes a last checkpoint, of all that one of its servers has had: etcd has lost that, or may have."""
-        if self._writing:
-            await asyncio.wait([self._writing])
+        await self._written()
         front, entries = max((self._front, self._tail), self._before, key=lambda it: it[0].number)
         newest = self._folder.newest()
         if not self._settings.folder or not entries or newest and newest.front.number >= front.number:
@@ -326,8 +348,7 @@ class Member:
 
     async def _fetch(self, first: int) -> None:
         """Takes a checkpoint of another member that goes up to where the log begins, of the first that gives it."""
-        if self._writing:  # (which makes the older one that it writes the only one)
-            await asyncio.wait([self._writing])
+        await self._written()  # (which makes the older one that it writes the only one)
         try:
             told = await self._log.members()
         except (Unreachable, Rejected) as error:

@@ -1,19 +1,29 @@
 """A member's own server, which is asked by one connection for all that changes, and by another for what others look up meanwhile. There are
 two bodies: `Service` runs `mi_service`, which has as many connections as are wanted; `Piped` runs `mi_server` over its standard input,
-so there the two are one, and what the server would tell another connection is told here."""
+so there the two are one, and what the server would tell another connection is told here. `Service` reads checkpoints that have a base, by a
+journal of its own that is gone with it; what that takes is given back while it runs."""
 from __future__ import annotations
 
 import asyncio
 import contextlib
+import ctypes
 import os
+import shutil
 import subprocess
 import tempfile
-from typing import List, Optional, Sequence
+from typing import Callable, List, Optional, Sequence
 
 from mi_client.server import GUARD
 from mi_replica import lines as known
+from mi_replica.based import Rebase, copied, parts_of
+from mi_tools.journal_names import segment_path
 
 LARGEST_READ = 1 << 18
+SPARED = 8 << 20
+"""Behind so many bytes of lines the room is given back that a journal takes which nobody reads. So many at its end stay."""
+PUNCH_HOLE, KEEP_SIZE = 2, 1
+REFUSED = 3
+"""The status of a service that refuses a journal."""
 
 
 class Gone(Exception):
@@ -50,8 +60,14 @@ class Wire:
 class Own:
     """A server. `ask` is the connection that changes; `look` is another one, between two batches of the first."""
 
-    async def start(self) -> None:
+    async def start(self, checkpoint: Optional[str] = None) -> None:
+        """Begins with the base of a checkpoint, where one is named that has a base, else without any row. Its lines are asked by the caller. Raises
+        Gone, and ValueError where the base is refused."""
         raise NotImplementedError
+
+    def rebase(self, say: Callable[[str], None]) -> Optional[Rebase]:
+        """What makes bases of its checkpoints, and says where it can't; None where the program knows no bases."""
+        return None
 
     async def ask(self, lines: Sequence[bytes]) -> List[bytes]:
         """The replies of the connection that changes. Raises Gone."""
@@ -87,7 +103,9 @@ class Piped(Own):
         self._process: Optional[asyncio.subprocess.Process] = None
         self._lock = asyncio.Lock()
 
-    async def start(self) -> None:
+    async def start(self, checkpoint: Optional[str] = None) -> None:
+        if checkpoint and parts_of(checkpoint).base:
+            raise ValueError(f"{checkpoint} has a base, which mi_service alone reads")
         pipe = asyncio.subprocess.PIPE
         # (it ends with this process, since its input then ends; an interrupt at the terminal is for the member)
         self._process = await asyncio.create_subprocess_exec(*self._words, stdin=pipe, stdout=pipe, start_new_session=True)
@@ -128,9 +146,14 @@ class Service(Own):
         self._guard: Optional[subprocess.Popen[bytes]] = None
         self._wires: List[Wire] = []
         self._lock = asyncio.Lock()
+        self._journal: Optional[int] = None
+        """The file of its journal, which has no name any more."""
+        self._unspared, self._is_closed = 0, False
 
-    async def start(self) -> None:
-        port = await asyncio.get_running_loop().run_in_executor(None, self._started)
+    async def start(self, checkpoint: Optional[str] = None) -> None:
+        has_base = checkpoint is not None and parts_of(checkpoint).base > 0
+        loop = asyncio.get_running_loop()
+        port = await (loop.run_in_executor(None, self._started_on, checkpoint) if has_base else loop.run_in_executor(None, self._started))
         try:
             self._wires = [Wire(*await asyncio.open_connection("127.0.0.1", port)) for _ in range(2)]
         except OSError as error:
@@ -138,6 +161,8 @@ class Service(Own):
 
     def _started(self, *more: str) -> int:
         """Starts the program, and answers its port."""
+        if self._is_closed:
+            raise Gone(f"{self._program} isn't wanted any more")
         words = [self._program, "--listen", "0", *more] + (["--schema", self._schema] if self._schema else [])
         # (with SIGXFSZ ignored, as Python has it, so that a file without room is told in place of killing it)
         self._process = subprocess.Popen(
@@ -150,6 +175,28 @@ class Service(Own):
         if not said.startswith(b"listening "):
             raise Gone(f"{self._program} doesn't listen")
         return int(said.rpartition(b":")[2])
+
+    def _started_on(self, checkpoint: str) -> int:
+        """The same with the base of a checkpoint. It reads a copy, which is gone behind that."""
+        try:
+            folder = copied(checkpoint)
+        except OSError as error:
+            raise Gone(f"no copy of {checkpoint}: {error}") from error
+        try:
+            port = self._started("--journal", f"{folder}/journal", "--sync", "never")
+            self._journal = os.open(segment_path(f"{folder}/journal", parts_of(checkpoint).segment), os.O_RDWR)
+            return port
+        except Gone:
+            if self._process and self._process.wait() == REFUSED:
+                raise ValueError(f"{self._program} refuses the base of {checkpoint}") from None
+            raise
+        except OSError as error:
+            raise Gone(f"{self._program}: {error}") from error
+        finally:
+            shutil.rmtree(folder, ignore_errors=True)
+
+    def rebase(self, say: Callable[[str], None]) -> Optional[Rebase]:
+        return Rebase(self._program, self._schema, say)
 
     async def header(self) -> bytes:
         """The first line of a journal of this program over this schema."""
@@ -165,13 +212,27 @@ class Service(Own):
 
     async def ask(self, lines: Sequence[bytes]) -> List[bytes]:
         async with self._lock:
+            if self._journal is not None:
+                self._spare(self._journal, sum(map(len, lines)))
             return await self._wires[0].ask(lines)
+
+    def _spare(self, journal: int, size: int) -> None:
+        """Gives back the room that the journal takes, some bytes of lines at a time. Where the file system can't do that it grows."""
+        self._unspared += size
+        if self._unspared > SPARED:
+            self._unspared, end = 0, os.fstat(journal).st_size - SPARED
+            if end > 0:
+                give_back(journal, end)
 
     async def look(self, lines: Sequence[bytes]) -> List[bytes]:
         async with self._lock:
             return await self._wires[1].ask(lines)
 
     async def close(self) -> None:
+        self._is_closed = True
+        if self._journal is not None:
+            os.close(self._journal)
+            self._journal = None
         for wire in self._wires:
             wire.close()
         for ran in (self._guard, self._process):
@@ -181,6 +242,14 @@ class Service(Own):
         for it in (self._process and self._process.stdout, self._guard and self._guard.stdin):
             if it:
                 it.close()
+
+
+def give_back(handle: int, end: int) -> None:
+    """Lets a file take no room for its first bytes, which are zeros then."""
+    system = ctypes.CDLL(None)
+    call = getattr(system, "fallocate64", None) or getattr(system, "fallocate", None)
+    if call:
+        call(handle, PUNCH_HOLE | KEEP_SIZE, ctypes.c_int64(0), ctypes.c_int64(end))
 
 
 def own_of(program: str, schema: Optional[str], body: str = "") -> Own:

@@ -1,11 +1,12 @@
-"""How the files of a service's journal stand: its segments and its base, by their names and sizes. Of one file alone the header is read, and none
-is changed."""
+"""How the files of a service's journal stand: its segments and its base, by their names and sizes. Of a segment and of the base alone the first line is
+read, and no file is changed."""
 from __future__ import annotations
 
 import contextlib
+import json
 import os
 import time
-from typing import NamedTuple, Optional
+from typing import Iterable, NamedTuple, Optional
 
 from mi_tools.journal_names import base_path, numbers_of, segment_path
 from mi_tools.journals import number_in
@@ -28,6 +29,8 @@ class Files(NamedTuple):
     size: int
     """The bytes of all segments, with the room behind their text."""
     base: Optional[Base] = None
+    covered: int = 0
+    """How many of the segments the base covers, so that no start reads them."""
 
 
 def stat_of(path: str) -> Optional[os.stat_result]:
@@ -43,11 +46,21 @@ def base_of(journal: str) -> Optional[Base]:
     return None if found is None else Base(found.st_size, max(0, int(time.time() - found.st_mtime)))
 
 
+def covered_in(journal: str, numbers: Iterable[int]) -> int:
+    """How many of these segments the base covers, by its first line; 0 where that doesn't tell."""
+    try:
+        with open(base_path(journal), "rb") as file:
+            first = json.loads(file.readline(LONGEST_HEADER))["segment"]
+        return sum(it < first for it in numbers)
+    except (OSError, ValueError, KeyError, TypeError):
+        return 0
+
+
 def files_of(journal: str) -> Optional[Files]:
     """How the files stand, without those that go meanwhile; None where no segment is there. Raises OSError where they can't be seen."""
     stats = ((it, stat_of(segment_path(journal, it))) for it in numbers_of(journal))
     sizes = {it: found.st_size for it, found in stats if found is not None}
-    return Files(len(sizes), max(sizes), sum(sizes.values()), base_of(journal)) if sizes else None
+    return Files(len(sizes), max(sizes), sum(sizes.values()), base_of(journal), covered_in(journal, sizes)) if sizes else None
 
 
 def journal_of(segment: str) -> Optional[str]:

@@ -326,7 +326,8 @@ def journal_shown(size: int, synced: Optional[int], is_full: Optional[bool], roo
 def files_shown(it: Files) -> str:
     """How a journal's files stand: its segments, and its base with its age."""
     base = "none" if it.base is None else f"{amount(it.base.size)}, written {up(it.base.age)} ago"
-    return f"{it.segments}, the newest is number {it.newest}, {amount(it.size)} in all; base: {base}"
+    covered = f", of which the base covers {it.covered}" if it.covered else ""
+    return f"{it.segments}{covered}, the newest is number {it.newest}, {amount(it.size)} in all; base: {base}"
 
 
 def shown_status(told: Dict[str, Any], room: Optional[int], files: Optional[Files]) -> str:

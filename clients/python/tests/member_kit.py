@@ -30,9 +30,31 @@ def free_port() -> int:
 
 
 def lines_in(folder: str) -> List[bytes]:
-    """The lines of the one checkpoint of a folder."""
-    path, = [f"{folder}/{it}" for it in os.listdir(folder) if it.endswith(".journal")]
+    """The lines of the one checkpoint of a folder, which no base has."""
+    path, = [f"{folder}/{it}" for it in os.listdir(folder) if it.endswith((".journal", ".checkpoint"))]
     return [line for some in batches(path) for line in some]
+
+
+def checkpoints_in(folder: str) -> List[str]:
+    return sorted(it for it in os.listdir(folder) if it.endswith((".journal", ".checkpoint")))
+
+
+def text_in(path: str) -> bytes:
+    with open(path, "rb") as file:
+        return file.read()
+
+
+def put(path: str, text: bytes) -> str:
+    with open(path, "wb") as file:
+        file.write(text)
+    return path
+
+
+def script(test: unittest.TestCase, text: str) -> str:
+    """A program that stands in for the service."""
+    path = kit.written(test, f"#!/bin/sh\n{text}\n", "mi_service")
+    os.chmod(path, 0o700)
+    return path
 
 
 def changed(path: str, change: Callable[[bytes], bytes]) -> None:
@@ -47,10 +69,11 @@ def changed(path: str, change: Callable[[bytes], bytes]) -> None:
 class Running:
     """A member of the ledger `led` that runs, and its client. What it notes is kept."""
 
-    def __init__(self, etcd: FakeEtcd, folder: str, checkpoint: int = 1) -> None:
+    def __init__(self, etcd: FakeEtcd, folder: str, checkpoint: int = 1, service: str = "") -> None:
+        """Its own server is this service where one is named, else `mi_server`."""
         self.port = free_port()
-        settings = Settings([NOWHERE], "led", kit.program(), self.port, folder=folder, checkpoint=checkpoint, body="pipes")
-        self.member = Member(settings)
+        program, body = (service, "service") if service else (kit.program(), "pipes")
+        self.member = Member(Settings([NOWHERE], "led", program, self.port, folder=folder, checkpoint=checkpoint, body=body))
         etcd.serve(*etcds(self.member._log), self.member._lease._etcd)
         self.task = asyncio.ensure_future(self.member.run())
 
@@ -125,6 +148,9 @@ class Running:
 
 
 class Test(unittest.TestCase):
+    service = ""
+    """The service that members have, where it isn't `mi_server`."""
+
     def setUp(self) -> None:
         self.etcd, self.notes = FakeEtcd(), []  # type: FakeEtcd, List[str]
         self.folder = f"{kit.folder(self)}/m"
@@ -137,7 +163,7 @@ class Test(unittest.TestCase):
 
     @contextlib.asynccontextmanager
     async def running(self, folder: str = "", checkpoint: int = 1) -> AsyncIterator[Running]:
-        made = Running(self.etcd, folder or self.folder, checkpoint)
+        made = Running(self.etcd, folder or self.folder, checkpoint, self.service)
         try:
             yield made
         finally:

@@ -170,12 +170,12 @@ class Reading(Test):
             await self.with_checkpoint(b"a")
             async with self.running() as it:
                 await it.ask(SIZE)
-                own = mock.Mock()
-                own.ask = mock.AsyncMock(side_effect=[[b'{"depth":0,"held":0,"ok":true,"revision":0}'], [known.MEMORY]])
                 before = os.listdir(self.folder)
-                with self.assertRaises(Diverged):
-                    await it.member._load(own)
-                self.assertEqual(os.listdir(self.folder), before)
+                for refusal in (known.MEMORY, known.NO_ROOM):
+                    own = mock.Mock(start=mock.AsyncMock(), ask=mock.AsyncMock(side_effect=[[refusal]]))
+                    with self.assertRaises(Diverged):
+                        await it.member._load(own)
+                    self.assertEqual(os.listdir(self.folder), before)
 
         self.play(act)
 
