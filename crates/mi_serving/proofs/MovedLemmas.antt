@@ -44,31 +44,30 @@ table_refused to catalog images revision n e s f same is why (inr says) told = i
 module _ {F : Type 0} (is_locked : F → Type 0) (is_seen : List ℕ → F → Type 0) (is_newest : List ℕ → ℕ → Type 0) (contents stays : F → Option (List ℕ)) where
   -- what was asked, put under the new catalog and begun with was moved
   pub has_moved : (from to : CatalogShape) (words : JournalWords) (path file : List ℕ) (r : Result (Unit {0}) Fault) (schema : JournalSchema)
-      (position place : Option Position) (old : HubState) (asked : Asked F) (end : HeldDatabase) (d : Database) → place ≡ position
+      (position place : Option Position) (old : HubState) (asked : Asked F) (end : HeldDatabase) (d new : Database) → place ≡ position
       → file ≡ string_bytes words.file → d ≡ end.database → IsSchemaOf from schema
       → StandsAt is_seen contents from (string_bytes schema.hash) (Some (string_bytes words.file)) position old
-      → IsAskedBehind is_locked is_seen (is_newest file) contents file schema place old.held asked end → depth end.database ≡ 0
-      → OnOk r ((new : Database) × IsUnder d to new × (s : JournalSchema) × IsSchemaOf new.catalog s
-      × IsBegun is_locked is_seen (is_newest path) contents stays path s new)
+      → IsAskedBehind is_locked is_seen (is_newest file) contents file schema place old.held asked end → depth end.database ≡ 0 → IsUnder d to new
+      → OnOk r ((s : JournalSchema) × IsSchemaOf new.catalog s × IsBegun is_locked is_seen (is_newest path) contents stays path s new)
       → OnOk r (HasMoved is_locked is_seen is_newest contents stays from to words path)
-  has_moved from to words path file (Ok done) schema position place old asked end d a b e of stands behind settled begun = record {
+  has_moved from to words path file (Ok done) schema position place old asked end d new a b e of stands behind settled under begun = record {
     schema = schema;
     position = position;
     old = old;
     asked = asked;
     end = end;
-    new = begun.0;
-    new_schema = begun.2;
+    new = new;
+    new_schema = begun.0;
     of_catalog = of;
     stands = stands;
     behind = subst (λ f. IsAskedBehind is_locked is_seen (is_newest f) contents f schema position old.held asked end) b
         (subst (λ p. IsAskedBehind is_locked is_seen (is_newest file) contents file schema p old.held asked end) a behind);
     settled = settled;
-    under = subst (λ (k : Database). IsUnder k to begun.0) e begun.1;
-    of_new = subst (λ (k : CatalogShape). IsSchemaOf k begun.2) (ap (λ (k : Database). k.catalog) begun.1.is) begun.3;
-    begun = begun.4;
+    under = subst (λ (k : Database). IsUnder k to new) e under;
+    of_new = subst (λ (k : CatalogShape). IsSchemaOf k begun.0) (ap (λ (k : Database). k.catalog) under.is) begun.1;
+    begun = begun.2;
   }
-  has_moved from to words path file (Err fault) schema position place old asked end d a b e of stands behind settled begun = tt
+  has_moved from to words path file (Err fault) schema position place old asked end d new a b e of stands behind settled under begun = tt
 
   -- a journal of the named files' catalogs was moved
   pub moved_of_files : {G : Type 0} (remaining : G → Option (List ℕ)) (named same : Bool) (from to : CatalogShape) (words : JournalWords)

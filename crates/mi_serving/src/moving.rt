@@ -7,7 +7,6 @@ ghost use Rattle.mi_catalog.specs.Shape.{CatalogShape, index_at};
 ghost use Rattle.mi_container.specs.Restore.{image_table};
 ghost use Rattle.mi_database.specs.LinkedData.{meaning};
 ghost use Rattle.mi_database.specs.Restored.{restored_database};
-ghost use Rattle.mi_model.specs.Database.{Database};
 ghost use Rattle.mi_program.specs.Source.{IsCatalog};
 ghost use Rattle.mi_recovery.specs.declared.place.JournalSchema.{JournalSchema as SchemaOf};
 ghost use Rattle.mi_rebase.specs.Rebase.{IsBegun};
@@ -227,48 +226,6 @@ fn begin<P: JournalFiles, D: Imaged>(
     }
 }
 
-/// Says what is dropped of a catalog's tables under that of a database, and begins a journal at a path with the database's tables. It is lent them:
-/// so no way out of it has their drop.
-fn begin_told<P: JournalFiles, D: Imaged, W: Write>(
-    alloc: Global,
-    files: &P,
-    path: &str,
-    from: &Catalog,
-    database: &D,
-    output: &mut W,
-) -> Result<(), Fault>
-    ensures { OnOk result ((schema : SchemaOf) × IsSchemaOf (D.state database.now).catalog schema
-        × IsBegun (λ file. P.File.is_locked file ≡ true) (P.is_seen files.now) (P.is_newest files.now path.now) P.File.contents P.File.stays path.now schema
-        (D.state database.now)) }
-{
-    tell_dropped(alloc, from, database.catalog(), output)?;
-    begin(alloc, files, path, database)
-}
-
-/// Begins a journal at a path with the tables of a database under another catalog, behind what is said of those that are dropped.
-fn begin_under<R: AllocGlobal + RandomSource, P: JournalFiles, D: Imaged, W: Write>(
-    rt: &R,
-    files: &P,
-    path: &str,
-    database: &D,
-    to: &Catalog,
-    output: &mut W,
-) -> Result<(), Fault>
-    ensures { OnOk result ((new : Database) × IsUnder (D.state database.now) to.now new × (schema : SchemaOf) × IsSchemaOf new.catalog schema
-        × IsBegun (λ file. P.File.is_locked file ≡ true) (P.is_seen files.now) (P.is_newest files.now path.now) P.File.contents P.File.stays path.now schema
-        new) }
-{
-    let tables = tables_under(rt, database, to)?;
-    begin_told(
-        rt.alloc(),
-        files,
-        path,
-        database.catalog(),
-        &tables,
-        output,
-    )
-}
-
 /// Puts the tables of a journal under another catalog: a journal at that path begins with them. The old journal is asked to its end, and this process
 /// alone has it meanwhile. None of its files changes; where none is there, an empty one is made, and the new journal has empty tables. What is dropped
 /// is said before that begins.
@@ -299,10 +256,13 @@ pub(crate) fn moved<R: AllocGlobal + RandomSource, P: JournalFiles, W: Write>(
     let Ok(schema) = journal_schema(alloc, &from) else {
         return Err(Fault::from(Failure::Memory));
     };
-    let (mut hub, position) = standing(rt, files, Some(journal), from, &schema)?;
+    let (hub, position) = standing(rt, files, Some(journal), from, &schema)?;
+    let mut hub = hub;
     let old = journal.file.as_str();
     let _asked = settled(alloc, files, &mut hub, old, &schema, position.as_ref())?;
-    begin_under(rt, files, path, hub.database(), to, output)
+    let tables = tables_under(rt, hub.database(), to)?;
+    tell_dropped(alloc, hub.database().catalog(), to, output)?;
+    begin(alloc, files, path, &tables)
 }
 
 /// The catalog that the new schema's file describes. A failure tells that file.
