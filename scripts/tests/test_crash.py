@@ -185,8 +185,8 @@ class AgainstAStandIn(unittest.TestCase):
             self.assertEqual(status, 0, said)
 
     def is_found(self, plant, script, part, why):
-        """Some plants show at times only, by how clients come and are killed: so one of five seeds is to find it."""
-        for seed in range(1, 6):
+        """Some plants show at times only, by how clients come and are killed: so one of twelve seeds is to find it."""
+        for seed in range(1, 13):
             more = ("--rounds", "3", "--seed", str(seed)) if script is crash else ()
             status, said = self.ran(script, plant, "--part", part, *more)
             if status:
