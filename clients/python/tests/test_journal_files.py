@@ -119,9 +119,10 @@ class Standing(InAFolder):
     def test_segments_that_the_base_covers(self) -> None:
         for number in (2, 3, 5):
             newest = self.write(segment_path(self.journal, number), later(number))
+        locked = self.locked(newest)
         for first, covered in ((b'{"base":1,"line":0,"segment":5}\n', 2), (b'{"base":1,"line":7,"segment":3}\n', 1), (b"[]\n", 0), (b'{"segment":"5"}', 0)):
             self.write(base_path(self.journal), first)
-            found = files_beside(self.locked(newest)) if not covered else files_of(self.journal)
+            found = files_beside(locked) if not covered else files_of(self.journal)
             assert found
             self.assertEqual((found.segments, found.newest, found.covered), (3, 5, covered))
         self.assertIn("\nsegments: 3, of which the base covers 2, the newest is number 5, 70 B in all; base: none\n",
