@@ -113,7 +113,7 @@ STAGES = [
     ("chains", r"mi_chain::|mi_index::\w+::\w*chains?\w*|core::hash::|mi_order::\w*hash|siphasher|SipHash"),
     ("list", r"mi_list::|mi_index::\w+::\w*list\w*"),
     ("ids", r"mi_ids::|indexmap::"),
-    ("journal", r"mi_journal::|mi_inverses::|mi_database::"),
+    ("journal", r"mi_journal::|mi_database::"),
     ("container", r"mi_multi::|mi_index::|mi_node::|mi_container::|mi_order::|mi_value::"),
     ("commands", r"mi_commands::|mi_query::|mi_hub::|mi_program::|mi_server::"),
 ]

@@ -1,10 +1,10 @@
--- The connection beside those of a row: it is read, a line of it is answered, and what it is owed is sent.
+-- The connection beside those of a list: it is read, a line of it is answered, and what it is owed is sent.
 -- Cited by `Beside::judge`, `Beside::serve`, `beside::answer`, `beside::attend` and `beside::turn_away`.
 use Rattle.std.proofs.Common.{◌≡◌, ◌⊎◌, inl, inr, ◌<◌, ◌≤◌, ℕ, Bool, true, false, not, cond, List, [], ◌∷◌, ◌++◌, length, Option, Some, None, refl, sym, ap, subst, ◌∙◌, append-nil, arith}
 use Rattle.std.specs.Io.KnownBytes.{Consumes, Keeps, IsAtEnd}
 use Rattle.mi_hub.specs.Ended.{ended}
 use Rattle.mi_hub.specs.OneLine.{IsWholeLine}
-use Rattle.mi_ledger.specs.HeldReplies.{bytes_of}
+use Rattle.mi_durable.specs.HeldReplies.{bytes_of}
 use Rattle.mi_clients.specs.Client.{owed, Owes, IsServed, HasRoom, HasNoLine, MayAsk, IsAsked, IsOver, IsWhole, IsAsFar, HasSent, Hears, AsksWhatCame, ends_after}
 use Rattle.mi_clients.specs.Beside.{is_other, shut, IsFarBehind, Tells, Answers, Attended, InPlace, Stays, IsJudgedBeside, JudgedThere}
 use Rattle.mi_clients.specs.ServiceLines.{is_service}
@@ -13,7 +13,7 @@ use Rattle.mi_clients.specs.Lines.{Ends}
 use Rattle.mi_clients.specs.Output.{unsent, Sends}
 use Rattle.mi_clients.specs.declared.client.Client.{Client}
 use Rattle.mi_clients.specs.declared.client.Phase.{Phase}
-use Rattle.mi_clients.specs.declared.client.Phase.TheVariants.{Open, Ended, Asked, Broken}
+use Rattle.mi_clients.specs.declared.client.Phase.TheVariants.{Open, Ended, Drained, Broken}
 use Rattle.mi_clients.specs.declared.client.TheConstants.{MOST_UNSENT}
 use Rattle.mi_clients.specs.declared.input.Input.{Input}
 use Rattle.mi_clients.proofs.ServedLemmas.{whether, ended_open, asked_open, broken_open, owes_none, served_then, served_by, served_owes, served_sends, came_sent}
@@ -158,7 +158,7 @@ module _ {S : Type 0} where
   module _ (contents remaining : S → Option (List ℕ)) (status schema : List ℕ) (a b c d e : Client S) where
     pub attended : AsksWhatCame remaining [] a b → IsServed contents [] a b → b.held ≡ a.held → b.ends ≡ a.ends → owed b ≡ owed a
         → Answers status schema b c
-        → (d ≡ c) ⊎ ((d.phase ≡ Asked) × IsWhole c) → d.input ≡ c.input → d.conn ≡ c.conn → d.stream ≡ c.stream → d.held ≡ c.held
+        → (d ≡ c) ⊎ ((d.phase ≡ Drained) × IsWhole c) → d.input ≡ c.input → d.conn ≡ c.conn → d.stream ≡ c.stream → d.held ≡ c.held
         → d.output ≡ c.output → d.ends ≡ c.ends
         → Sends contents d.stream e.stream (owed d) (owed e) → Keeps (remaining d.stream) (remaining e.stream) → IsAsFar d e → e.input ≡ d.input
         → e.conn ≡ d.conn → e.held ≡ d.held → e.ends ≡ d.ends → HasSent e → Attended contents remaining status schema a e
@@ -195,7 +195,7 @@ module _ {S : Type 0} where
         goes_broken : d.phase ≡ Broken → e.phase ≡ Broken
         goes_broken is = elim far [ inl broken ↦ broken | inr same ↦ same ∙ is ]
 
-        settled_broken : (d ≡ c) ⊎ ((d.phase ≡ Asked) × IsWhole c) → c.phase ≡ Broken → d.phase ≡ Broken
+        settled_broken : (d ≡ c) ⊎ ((d.phase ≡ Drained) × IsWhole c) → c.phase ≡ Broken → d.phase ≡ Broken
         settled_broken (inl same) is = ap (λ (x : Client S). x.phase) same ∙ is
         settled_broken (inr all) is = absurd (broken_ended c.phase is all.1.0)
 
@@ -203,10 +203,10 @@ module _ {S : Type 0} where
         was_open_there (inl broken) is = absurd (broken_open e.phase broken is)
         was_open_there (inr same) is = sym same ∙ is
 
-        stays_shut : (d ≡ c) ⊎ ((d.phase ≡ Asked) × IsWhole c) → is_other p.line ≡ true → d.phase ≡ Open → ⊥
+        stays_shut : (d ≡ c) ⊎ ((d.phase ≡ Drained) × IsWhole c) → is_other p.line ≡ true → d.phase ≡ Open → ⊥
         stays_shut (inr all) other is = asked_open d.phase all.0 is
         stays_shut (inl same) other is = behind_shut p.line b c p.far other (ap (λ (x : Client S). x.phase) (sym same) ∙ is)
 
-        was_open : (d ≡ c) ⊎ ((d.phase ≡ Asked) × IsWhole c) → IsFarBehind p.line b c → d.phase ≡ Open → b.phase ≡ Open
+        was_open : (d ≡ c) ⊎ ((d.phase ≡ Drained) × IsWhole c) → IsFarBehind p.line b c → d.phase ≡ Open → b.phase ≡ Open
         was_open (inr all) q is = absurd (asked_open d.phase all.0 is)
         was_open (inl same) q is = behind_open p.line b c q (ap (λ (x : Client S). x.phase) (sym same) ∙ is)

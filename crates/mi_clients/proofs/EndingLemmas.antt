@@ -1,19 +1,19 @@
--- Those of a row that have asked to end others, and those that are ended; `ending` cites them.
+-- Those of a list that have asked to end others, and those that are ended; `ending` cites them.
 -- Cited by `ending::end_asked`, `ending::end_one` and `ending::next_end`.
 use Rattle.std.proofs.Common.{◌≡◌, ◌⊎◌, cond, inl, inr, ◌+◌, ◌<◌, ◌≤◌, ℕ, zero, suc, List, [], ◌∷◌, length, slice_set, true, false, Option, Some, None, refl, sym, ap, ◌∙◌, subst, arith}
 use Rattle.std.specs.Prelude.{slice_index_or, MatchOption, is_some}
 use Rattle.std.specs.List.{AllZip}
-use Rattle.mi_clients.specs.Row.{ids}
+use Rattle.mi_clients.specs.Clients.{ids}
 use Rattle.mi_clients.specs.Ending.{forgotten, NoneEnds, TakesEnd, IsEnded, EachEnded, HasAsked, IsBroken, IsAsBefore}
 use Rattle.mi_clients.specs.declared.client.Phase.TheVariants.{Broken}
 use Rattle.mi_clients.specs.declared.client.Client.{Client}
-use Rattle.mi_clients.proofs.RowLemmas.{DoneTo, done_all}
+use Rattle.mi_clients.proofs.ClientsLemmas.{DoneTo, done_all}
 
 -- of the first i nothing is noted
 abbrev pub NoneTo : {S : Type 0} → ℕ → List (Client S) → Type 0
-NoneTo zero row = Unit {0}
+NoneTo zero clients = Unit {0}
 NoneTo (suc i) [] = Unit {0}
-NoneTo (suc i) (c ∷ row) = (c.ends ≡ None) × NoneTo i row
+NoneTo (suc i) (c ∷ clients) = (c.ends ≡ None) × NoneTo i clients
 
 same_number : (n m : ℕ) → ◌≡◌ {A = Option ℕ} (Some n) (Some m) → n ≡ m
 same_number n m h = cc
@@ -39,39 +39,39 @@ none_noted None is = refl
 none_noted (Some n) is = absurd (cc)
 
 module _ {S : Type 0} where
-  pub none_more : (i : ℕ) (row : List (Client S)) (d : Client S) → i < length row → (slice_index_or row i d).ends ≡ None → NoneTo i row → NoneTo (i + 1) row
-  none_more i row d lt none p = subst (λ n. NoneTo n row) (next i) (go i row lt none p)
+  pub none_more : (i : ℕ) (clients : List (Client S)) (d : Client S) → i < length clients → (slice_index_or clients i d).ends ≡ None → NoneTo i clients → NoneTo (i + 1) clients
+  none_more i clients d lt none p = subst (λ n. NoneTo n clients) (next i) (go i clients lt none p)
     where
       next : (i : ℕ) → suc i ≡ i + 1
       next i = omega arith
 
-      go : (i : ℕ) (row : List (Client S)) → i < length row → (slice_index_or row i d).ends ≡ None → NoneTo i row → NoneTo (suc i) row
+      go : (i : ℕ) (clients : List (Client S)) → i < length clients → (slice_index_or clients i d).ends ≡ None → NoneTo i clients → NoneTo (suc i) clients
       go i [] lt none p = tt
-      go zero (c ∷ row) lt none p = (none, tt)
-      go (suc i) (c ∷ row) lt none p = (p.0, go i row (omega arith) none p.1)
+      go zero (c ∷ clients) lt none p = (none, tt)
+      go (suc i) (c ∷ clients) lt none p = (p.0, go i clients (omega arith) none p.1)
 
-  pub none_all : (i : ℕ) (row : List (Client S)) → length row ≤ i → NoneTo i row → NoneEnds row
+  pub none_all : (i : ℕ) (clients : List (Client S)) → length clients ≤ i → NoneTo i clients → NoneEnds clients
   none_all i [] le p = λ k d lt. absurd (omega arith)
-  none_all zero (c ∷ row) le p = absurd (omega arith)
-  none_all (suc i) (c ∷ row) le p = λ k d lt. at (none_all i row (omega arith) p.1) k d lt
+  none_all zero (c ∷ clients) le p = absurd (omega arith)
+  none_all (suc i) (c ∷ clients) le p = λ k d lt. at (none_all i clients (omega arith) p.1) k d lt
     where
-      at : NoneEnds row → (k : ℕ) (d : Client S) → k < length (c ∷ row) → (slice_index_or (c ∷ row) k d).ends ≡ None
+      at : NoneEnds clients → (k : ℕ) (d : Client S) → k < length (c ∷ clients) → (slice_index_or (c ∷ clients) k d).ends ≡ None
       at more zero d lt = p.0
       at more (suc k) d lt = more k d (omega arith)
 
   -- which stands in the place of a missing one doesn't matter where none is missing
-  pub same_place : (i : ℕ) (row : List (Client S)) (d e : Client S) → i < length row → slice_index_or row i d ≡ slice_index_or row i e
+  pub same_place : (i : ℕ) (clients : List (Client S)) (d e : Client S) → i < length clients → slice_index_or clients i d ≡ slice_index_or clients i e
   same_place i [] d e lt = absurd (omega arith)
-  same_place zero (c ∷ row) d e lt = refl
-  same_place (suc i) (c ∷ row) d e lt = same_place i row d e (omega arith)
+  same_place zero (c ∷ clients) d e lt = refl
+  same_place (suc i) (c ∷ clients) d e lt = same_place i clients d e (omega arith)
 
   -- the first of which something is noted
-  pub takes_first : (n i : ℕ) (row : List (Client S)) (d x : Client S) → i < length row → NoneTo i row → (slice_index_or row i d).ends ≡ Some n
-      → x ≡ forgotten (slice_index_or row i d) → TakesEnd n row (slice_set row i x)
+  pub takes_first : (n i : ℕ) (clients : List (Client S)) (d x : Client S) → i < length clients → NoneTo i clients → (slice_index_or clients i d).ends ≡ Some n
+      → x ≡ forgotten (slice_index_or clients i d) → TakesEnd n clients (slice_set clients i x)
   takes_first n i [] d x lt none noted same = absurd (omega arith)
-  takes_first n zero (c ∷ row) d x lt none noted same = inl (noted, ap (λ y. y ∷ row) same)
-  takes_first n (suc i) (c ∷ row) d x lt none noted same =
-      inr (none.0, slice_set row i x, refl, takes_first n i row d x (omega arith) none.1 noted same)
+  takes_first n zero (c ∷ clients) d x lt none noted same = inl (noted, ap (λ y. y ∷ clients) same)
+  takes_first n (suc i) (c ∷ clients) d x lt none noted same =
+      inr (none.0, slice_set clients i x, refl, takes_first n i clients d x (omega arith) none.1 noted same)
 
   -- one that is ended keeps its number
   ended_conn : (n : ℕ) (a b : Client S) → IsEnded n a b → b.conn ≡ a.conn
@@ -89,20 +89,20 @@ module _ {S : Type 0} where
   ended_ids n (x ∷ a) [] p = absurd p
   ended_ids n (x ∷ a) (y ∷ b) p = ap (λ k. k ∷ ids b) (ended_conn n x y p.0) ∙ ap (λ ks. x.conn ∷ ks) (ended_ids n a b p.1)
 
-  -- so is a row of which one is noted no more
+  -- so is a list of which one is noted no more
   pub takes_ids : (n : ℕ) (a b : List (Client S)) → TakesEnd n a b → ids b ≡ ids a
   takes_ids n [] b p = absurd p
   takes_ids n (x ∷ a) b (inl p) = ap ids p.1
   takes_ids n (x ∷ a) b (inr p) = ap ids p.2 ∙ ap (λ ks. x.conn ∷ ks) (takes_ids n a p.1 p.3)
 
-  pub ended_all : (n : ℕ) (olds row items : List (Client S)) (i : ℕ) → length row ≤ i → items ≡ row → DoneTo (IsEnded n) i olds row → EachEnded n olds items
-  ended_all n olds row items i le is done = subst (AllZip (IsEnded n) olds) (sym is) (done_all (IsEnded n) olds row i le done)
+  pub ended_all : (n : ℕ) (olds clients items : List (Client S)) (i : ℕ) → length clients ≤ i → items ≡ clients → DoneTo (IsEnded n) i olds clients → EachEnded n olds items
+  ended_all n olds clients items i le is done = subst (AllZip (IsEnded n) olds) (sym is) (done_all (IsEnded n) olds clients i le done)
 
   -- ---- how many have asked
 
   abbrev pub asked_count : List (Client S) → ℕ
   asked_count [] = 0
-  asked_count (c ∷ row) = cond (is_some c.ends) 1 0 + asked_count row
+  asked_count (c ∷ clients) = cond (is_some c.ends) 1 0 + asked_count clients
 
   pub takes_one : (n : ℕ) (a b : List (Client S)) → TakesEnd n a b → asked_count a ≡ asked_count b + 1
   takes_one n [] b p = absurd p
@@ -131,10 +131,10 @@ module _ {S : Type 0} where
     | inr there ↦ inr (subst (HasAsked n) (sym p.2) (inr there))
   ]
 
-  pub none_asked : (n : ℕ) (row : List (Client S)) → NoneEnds row → HasAsked n row → ⊥
+  pub none_asked : (n : ℕ) (clients : List (Client S)) → NoneEnds clients → HasAsked n clients → ⊥
   none_asked n [] none asked = asked
-  none_asked n (c ∷ row) none (inl is) = some_none n (sym (none 0 c (omega arith)) ∙ is)
-  none_asked n (c ∷ row) none (inr more) = none_asked n row (λ k d lt. none (suc k) d (omega arith)) more
+  none_asked n (c ∷ clients) none (inl is) = some_none n (sym (none 0 c (omega arith)) ∙ is)
+  none_asked n (c ∷ clients) none (inr more) = none_asked n clients (λ k d lt. none (suc k) d (omega arith)) more
 
   pub takes_from : (n m : ℕ) (a b : List (Client S)) → TakesEnd m a b → HasAsked n b → HasAsked n a
   takes_from n m [] b p asked = absurd p

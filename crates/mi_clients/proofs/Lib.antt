@@ -1,5 +1,5 @@
 pub mod StepLemmas
-pub mod RowLemmas
+pub mod ClientsLemmas
 mod SinceLemmas
 pub mod ServedLemmas
 pub mod StreamLemmas

@@ -1,5 +1,5 @@
--- What connections are owed and sent, one step behind another, and over a row.
--- Cited by `asking::ask_lines`, `asking::part`, `asking::settle`, `beside::attend`, `row::admit`, 11 more and `mi_serving`.
+-- What connections are owed and sent, one step behind another, and over a list.
+-- Cited by `asking::ask_lines`, `asking::disconnect`, `asking::finish`, `beside::attend`, `clients::connect`, 11 more and `mi_serving`.
 use Rattle.std.proofs.Common.{◌≡◌, ◌⊎◌, inl, inr, ℕ, zero, suc, ◌<◌, List, [], ◌∷◌, ◌++◌, length, nat_eq, cond, ◌≤◌, Option, Some, None, false, refl, sym, ap, ◌∙◌, subst}
 use Rattle.std.proofs.Common.{Result, Ok, Err}
 use Rattle.std.proofs.Common.{append-nil, append_assoc, arith}
@@ -15,18 +15,18 @@ use Rattle.mi_hub.specs.Ended.{ended}
 use Rattle.mi_clients.specs.Lines.{SameLines, Ends}
 use Rattle.mi_clients.specs.Heard.{heard}
 use Rattle.mi_clients.specs.Output.{Sends}
-use Rattle.mi_ledger.specs.HeldReplies.{bytes_of}
-use Rattle.mi_clients.specs.Row.{ids, inputs, IsNoneOf, AllDiffer, EachServed, EachAsked, EachUnread, StayersAsked, EachAsFar, OpenOnlyAsk, AllOnlyAsk, StayersOnlyAsk, EachWoken, IsNew, Joins, LetsGo, NoneIsOver, Serves}
+use Rattle.mi_durable.specs.HeldReplies.{bytes_of}
+use Rattle.mi_clients.specs.Clients.{ids, inputs, IsNoneOf, AllDiffer, EachServed, EachAsked, EachUnread, StayersAsked, EachAsFar, OpenOnlyAsk, AllOnlyAsk, StayersOnlyAsk, EachWoken, IsNew, Joins, LetsGo, NoneIsOver, Serves}
 use Rattle.mi_clients.specs.Steps.{Step, comes, asks, denies, tells, undoes, goes, reply_to, given_to, GivesOnly, GivesNone, AreAsks, AreUndos}
 use Rattle.mi_clients.specs.Steps.{line_by, asked_by, told_line, told_by, AsksOnly, AsksNone, OnlyAsks, LeavesOthers}
 use Rattle.mi_clients.specs.declared.client.Client.{Client}
 use Rattle.mi_clients.specs.declared.input.Input.{Input}
 use Rattle.mi_clients.specs.declared.client.Phase.{Phase}
-use Rattle.mi_clients.specs.declared.client.Phase.TheVariants.{Open, Ended, Asked, Broken}
+use Rattle.mi_clients.specs.declared.client.Phase.TheVariants.{Open, Ended, Drained, Broken}
 use Rattle.mi_clients.proofs.InputLemmas.{unended_back}
 use Rattle.mi_clients.proofs.SinceLemmas.{knows_front, knows_behind}
 use Rattle.mi_clients.proofs.StepLemmas.{none_more}
-use Rattle.mi_clients.proofs.RowLemmas.{same_test, turned, none_at, front_none, back_none}
+use Rattle.mi_clients.proofs.ClientsLemmas.{same_test, turned, none_at, front_none, back_none}
 
 -- what follows from two facts of an Ok
 pub on_ok_both : {T E P Q R : Type 0} (r : Result T E) → (P → Q → R) → OnOk r P → OnOk r Q → OnOk r R
@@ -299,7 +299,7 @@ whole_then l m (inr none) (inr all) more = inr (ap (λ t. t ++ l) all ∙ none)
 heads : (x y : Input) (xs ys : List Input) → x ∷ xs ≡ y ∷ ys → x ≡ y
 heads x y xs ys e = cc
 
-pub asked_open : (p : Phase) → p ≡ Asked → p ≡ Open → ⊥
+pub asked_open : (p : Phase) → p ≡ Drained → p ≡ Open → ⊥
 asked_open p h k = cc
 
 pub broken_open : (p : Phase) → p ≡ Broken → p ≡ Open → ⊥
@@ -346,7 +346,7 @@ module _ {S : Type 0} where
   }
 
   -- one whose sessions may have been undone is asked still
-  pub asked_still : (a b : Client S) {X : Type 0} → (b ≡ a) ⊎ ((b.phase ≡ Asked) × X) → IsAsked a → IsAsked b
+  pub asked_still : (a b : Client S) {X : Type 0} → (b ≡ a) ⊎ ((b.phase ≡ Drained) × X) → IsAsked a → IsAsked b
   asked_still a b (inl same) p = subst (λ (x : Client S). IsAsked x) (sym same) p
   asked_still a b (inr all) p = inr (inl (b.all_asked all.0))
 
@@ -367,24 +367,24 @@ module _ {S : Type 0} where
   far_then a b c (inl broken) (inr same) = inl (same ∙ broken)
   far_then a b c (inr before) (inr same) = inr (same ∙ before)
 
-  not_ended : (c d : Client S) {X : Type 0} → (d ≡ c) ⊎ ((d.phase ≡ Asked) × X) → d.phase ≡ Open → c.phase ≡ Open
+  not_ended : (c d : Client S) {X : Type 0} → (d ≡ c) ⊎ ((d.phase ≡ Drained) × X) → d.phase ≡ Open → c.phase ≡ Open
   not_ended c d (inl same) is = ap (λ (x : Client S). x.phase) (sym same) ∙ is
   not_ended c d (inr all) is = absurd (asked_open d.phase all.0 is)
 
   -- one that is open then was open before
-  pub open_before : (b c d : Client S) {X : Type 0} → IsAsFar b c → (d ≡ c) ⊎ ((d.phase ≡ Asked) × X) → d.phase ≡ Open → b.phase ≡ Open
+  pub open_before : (b c d : Client S) {X : Type 0} → IsAsFar b c → (d ≡ c) ⊎ ((d.phase ≡ Drained) × X) → d.phase ≡ Open → b.phase ≡ Open
   open_before b c d (inl broken) settled is = absurd (broken_open c.phase broken (not_ended c d settled is))
   open_before b c d (inr same) settled is = sym same ∙ not_ended c d settled is
 
   -- one that goes on then went on before
   pub went_on : (b c d : Client S) (taken : List ℕ) {X : Type 0} → waiting b.input ≡ taken ++ waiting c.input → IsAsFar b c
-      → (d ≡ c) ⊎ ((d.phase ≡ Asked) × X) → d.input ≡ c.input → GoesOn d → GoesOn b
+      → (d ≡ c) ⊎ ((d.phase ≡ Drained) × X) → d.input ≡ c.input → GoesOn d → GoesOn b
   went_on b c d taken waits far settled input (inl is) = inl (open_before b c d far settled is)
   went_on b c d taken waits far settled input (inr some) =
       inr (λ none. some (ap (λ i. ended (waiting i)) input ∙ unended_back taken (waiting c.input) (ap ended (sym waits) ∙ none)))
 
   -- and no session of it was undone
-  pub on_alone : (c d : Client S) (ys : List Step) {X : Type 0} → (d ≡ c) ⊎ ((d.phase ≡ Asked) × X) → (¬ IsWhole c → ys ≡ [])
+  pub on_alone : (c d : Client S) (ys : List Step) {X : Type 0} → (d ≡ c) ⊎ ((d.phase ≡ Drained) × X) → (¬ IsWhole c → ys ≡ [])
       → d.input ≡ c.input → GoesOn d → ys ≡ []
   on_alone c d ys settled none input (inl is) = none (λ whole. ended_open c.phase whole.0 (not_ended c d settled is))
   on_alone c d ys settled none input (inr some) = none (λ whole. some (ap (λ i. ended (waiting i)) input ∙ c.lines whole.1))
@@ -396,7 +396,7 @@ module _ {S : Type 0} where
       ⊎ ((b.phase ≡ Ended) × (piece ≡ []) × IsAtEnd (remaining b.stream) × Ends (waiting a.input) (waiting b.input)))
       → (b.phase ≡ Open → a.phase ≡ Open) → c.input.is_first ≡ b.input.is_first
       → waiting b.input ≡ taken ++ waiting c.input → AsksWithin b xs → AreAsks b.conn xs taken given → IsAsFar b c → Owes given b c → Owes [] c d
-      → d.input ≡ c.input → (d ≡ c) ⊎ ((d.phase ≡ Asked) × X) → t ≡ taken → b.input.lines ≡ a.input.lines
+      → d.input ≡ c.input → (d ≡ c) ⊎ ((d.phase ≡ Drained) × X) → t ≡ taken → b.input.lines ≡ a.input.lines
       → c.input.lines ≡ count_on b.input.lines taken → AsksWhatCame remaining t a d
   came_whole remaining a b c d xs taken given t piece read shut came opens first waits within own far owes more input settled is kept counts = (
     piece,
@@ -500,30 +500,30 @@ module _ {S : Type 0} where
               (served_then given [] a c d (served_then [] given a b c first (served_owes given b c second)) (served_owes [] c d third)),
         )
 
--- ---- a row
+-- ---- a list
 
 none_front : (k : ℕ) (xs ys : List ℕ) → IsNoneOf k (xs ++ ys) → IsNoneOf k xs
 none_front k [] ys p = tt
 none_front k (x ∷ xs) ys p = (p.0, none_front k xs ys p.1)
 
--- c stands in the row
+-- c stands in the list
 abbrev pub IsIn : {S : Type 0} → Client S → List (Client S) → Type 0
 IsIn c [] = ⊥
-IsIn c (x ∷ row) = (x ≡ c) ⊎ IsIn c row
+IsIn c (x ∷ clients) = (x ≡ c) ⊎ IsIn c clients
 
 module _ {S : Type 0} where
-  in_at : (row : List (Client S)) (c : Client S) (k : ℕ) → k < length row → slice_index_or row k c ≡ c → IsIn c row
+  in_at : (clients : List (Client S)) (c : Client S) (k : ℕ) → k < length clients → slice_index_or clients k c ≡ c → IsIn c clients
   in_at [] c k lt is = absurd (omega arith)
-  in_at (x ∷ row) c zero lt is = inl is
-  in_at (x ∷ row) c (suc k) lt is = inr (in_at row c k (omega arith) is)
+  in_at (x ∷ clients) c zero lt is = inl is
+  in_at (x ∷ clients) c (suc k) lt is = inr (in_at clients c k (omega arith) is)
 
-  pub in_from : (row : List (Client S)) (c : Client S) → Contains row c → IsIn c row
-  in_from row c p = in_at row c p.0 p.1 p.2
+  pub in_from : (clients : List (Client S)) (c : Client S) → Contains clients c → IsIn c clients
+  in_from clients c p = in_at clients c p.0 p.1 p.2
 
-  pub in_to : (row : List (Client S)) (c : Client S) → IsIn c row → Contains row c
+  pub in_to : (clients : List (Client S)) (c : Client S) → IsIn c clients → Contains clients c
   in_to [] c p = absurd p
-  in_to (x ∷ row) c (inl is) = (zero, omega arith, is)
-  in_to (x ∷ row) c (inr p) = let q = in_to row c p in (suc q.0, omega (arith, q.1), q.2)
+  in_to (x ∷ clients) c (inl is) = (zero, omega arith, is)
+  in_to (x ∷ clients) c (inr p) = let q = in_to clients c p in (suc q.0, omega (arith, q.1), q.2)
 
   pub in_join : (a b : List (Client S)) (c : Client S) → IsIn c (a ++ b) → IsIn c a ⊎ IsIn c b
   in_join [] b c p = inr p
@@ -535,19 +535,19 @@ module _ {S : Type 0} where
   in_front (x ∷ a) b c (inl is) = inl is
   in_front (x ∷ a) b c (inr p) = inr (in_front a b c p)
 
-  in_less : (row : List (Client S)) (i : ℕ) (c : Client S) → IsIn c (remove row i) → IsIn c row
+  in_less : (clients : List (Client S)) (i : ℕ) (c : Client S) → IsIn c (remove clients i) → IsIn c clients
   in_less [] zero c p = absurd p
   in_less [] (suc i) c p = absurd p
-  in_less (y ∷ row) zero c p = inr p
-  in_less (y ∷ row) (suc i) c (inl is) = inl is
-  in_less (y ∷ row) (suc i) c (inr p) = inr (in_less row i c p)
+  in_less (y ∷ clients) zero c p = inr p
+  in_less (y ∷ clients) (suc i) c (inl is) = inl is
+  in_less (y ∷ clients) (suc i) c (inr p) = inr (in_less clients i c p)
 
-  in_more : (row : List (Client S)) (i : ℕ) (d c : Client S) → i < length row → IsIn c row → IsIn c (remove row i) ⊎ (slice_index_or row i d ≡ c)
+  in_more : (clients : List (Client S)) (i : ℕ) (d c : Client S) → i < length clients → IsIn c clients → IsIn c (remove clients i) ⊎ (slice_index_or clients i d ≡ c)
   in_more [] i d c lt p = absurd p
-  in_more (y ∷ row) zero d c lt (inl is) = inr is
-  in_more (y ∷ row) zero d c lt (inr p) = inl p
-  in_more (y ∷ row) (suc i) d c lt (inl is) = inl (inl is)
-  in_more (y ∷ row) (suc i) d c lt (inr p) = elim (in_more row i d c (omega arith) p) [ inl q ↦ inl (inr q) | inr is ↦ inr is ]
+  in_more (y ∷ clients) zero d c lt (inl is) = inr is
+  in_more (y ∷ clients) zero d c lt (inr p) = inl p
+  in_more (y ∷ clients) (suc i) d c lt (inl is) = inl (inl is)
+  in_more (y ∷ clients) (suc i) d c lt (inr p) = elim (in_more clients i d c (omega arith) p) [ inl q ↦ inl (inr q) | inr is ↦ inr is ]
 
   -- what holds of two rows, place by place
   pub zip_from : (R : Client S → Client S → Type 0) (a b : List (Client S)) (new : Client S) → AllZip R a b → IsIn new b → (old : Client S) × IsIn old a × R old new
@@ -563,27 +563,27 @@ module _ {S : Type 0} where
   zip_both P Q (x ∷ a) [] p q = absurd p
   zip_both P Q (x ∷ a) (y ∷ b) p q = ((p.0, q.0), zip_both P Q a b p.1 q.1)
 
-  -- what holds of each that stands in a row
-  all_from : (P : Client S → Type 0) (row : List (Client S)) → ((c : Client S) → Contains row c → P c) → All P row
-  all_from P row f = λ k d within.
-      let c = slice_index_or row k d in f c (k, within, get_or_default row k c d within)
+  -- what holds of each that stands in a list
+  all_from : (P : Client S → Type 0) (clients : List (Client S)) → ((c : Client S) → Contains clients c → P c) → All P clients
+  all_from P clients f = λ k d within.
+      let c = slice_index_or clients k d in f c (k, within, get_or_default clients k c d within)
 
   pub all_left : (P : Client S → Type 0) (olds news : List (Client S)) → LetsGo olds news → All P olds → All P news
   all_left P olds news left all = all_from P news (λ c h. let there = left.from c h in subst P there.2 (all there.0 c there.1))
 
-  -- ---- how far a row is
+  -- ---- how far a list is
 
-  pub far_none : (row : List (Client S)) → EachAsFar row row
+  pub far_none : (clients : List (Client S)) → EachAsFar clients clients
   far_none [] = tt
-  far_none (y ∷ row) = (inr refl, far_none row)
+  far_none (y ∷ clients) = (inr refl, far_none clients)
 
-  pub far_set : (olds row : List (Client S)) (i : ℕ) (d x : Client S) → i < length row → IsAsFar (slice_index_or row i d) x → EachAsFar olds row
-      → EachAsFar olds (slice_set row i x)
+  pub far_set : (olds clients : List (Client S)) (i : ℕ) (d x : Client S) → i < length clients → IsAsFar (slice_index_or clients i d) x → EachAsFar olds clients
+      → EachAsFar olds (slice_set clients i x)
   far_set [] [] i d x lt one p = absurd (omega arith)
-  far_set [] (y ∷ row) i d x lt one p = absurd p
+  far_set [] (y ∷ clients) i d x lt one p = absurd p
   far_set (o ∷ olds) [] i d x lt one p = absurd p
-  far_set (o ∷ olds) (y ∷ row) zero d x lt one p = (far_then o y x p.0 one, p.1)
-  far_set (o ∷ olds) (y ∷ row) (suc i) d x lt one p = (p.0, far_set olds row i d x (omega arith) one p.1)
+  far_set (o ∷ olds) (y ∷ clients) zero d x lt one p = (far_then o y x p.0 one, p.1)
+  far_set (o ∷ olds) (y ∷ clients) (suc i) d x lt one p = (p.0, far_set olds clients i d x (omega arith) one p.1)
 
   -- ---- what came of each
 
@@ -616,59 +616,59 @@ module _ {S : Type 0} where
   known_behind remaining = λ xs ys old new none p.
       (taken_behind (λ t o y. AsksWhatCame remaining t o y) xs ys old new none p.0, knows_behind xs ys old new none p.1)
 
-  -- of the first so many of a row this holds with what each asks in these steps, and the others are as they were and ask nothing
+  -- of the first so many of a list this holds with what each asks in these steps, and the others are as they were and ask nothing
   abbrev pub AskedTo : (List Step → Client S → Client S → Type 0) → List Step → ℕ → List (Client S) → List (Client S) → Type 0
-  AskedTo Came steps zero olds row = (row ≡ olds) × AllQuiet steps (ids olds)
+  AskedTo Came steps zero olds clients = (clients ≡ olds) × AllQuiet steps (ids olds)
   AskedTo Came steps (suc i) [] [] = Unit {0}
-  AskedTo Came steps (suc i) [] (y ∷ row) = ⊥
+  AskedTo Came steps (suc i) [] (y ∷ clients) = ⊥
   AskedTo Came steps (suc i) (o ∷ olds) [] = ⊥
-  AskedTo Came steps (suc i) (o ∷ olds) (y ∷ row) =
-      (y.conn ≡ o.conn) × Came steps o y × AskedTo Came steps i olds row
+  AskedTo Came steps (suc i) (o ∷ olds) (y ∷ clients) =
+      (y.conn ≡ o.conn) × Came steps o y × AskedTo Came steps i olds clients
 
-  pub asked_to_none : (Came : List Step → Client S → Client S → Type 0) (row : List (Client S)) → AskedTo Came [] 0 row row
-  asked_to_none Came row = (refl, quiet_none (ids row))
+  pub asked_to_none : (Came : List Step → Client S → Client S → Type 0) (clients : List (Client S)) → AskedTo Came [] 0 clients clients
+  asked_to_none Came clients = (refl, quiet_none (ids clients))
 
-  pub asked_to_set : (Came : List Step → Client S → Client S → Type 0) → Front Came → Behind Came → (xs ys : List Step) (olds row : List (Client S)) (i : ℕ) (d x : Client S) → AllDiffer (ids row)
-      → i < length row → AsksOnly (slice_index_or row i d).conn ys → x.conn ≡ (slice_index_or row i d).conn
-      → Came ys (slice_index_or row i d) x → AskedTo Came xs i olds row
-      → AskedTo Came (xs ++ ys) (suc i) olds (slice_set row i x)
+  pub asked_to_set : (Came : List Step → Client S → Client S → Type 0) → Front Came → Behind Came → (xs ys : List Step) (olds clients : List (Client S)) (i : ℕ) (d x : Client S) → AllDiffer (ids clients)
+      → i < length clients → AsksOnly (slice_index_or clients i d).conn ys → x.conn ≡ (slice_index_or clients i d).conn
+      → Came ys (slice_index_or clients i d) x → AskedTo Came xs i olds clients
+      → AskedTo Came (xs ++ ys) (suc i) olds (slice_set clients i x)
   asked_to_set Came front behind xs ys olds [] i d x differ lt only same came p = absurd (omega arith)
-  asked_to_set Came front behind xs ys olds (y ∷ row) zero d x differ lt only same came p =
-      let quiet : AllQuiet xs (ids (y ∷ row)) = subst (λ os. AllQuiet xs (ids os)) (sym p.0) p.1 in
-      subst (λ os. AskedTo Came (xs ++ ys) 1 os (x ∷ row)) p.0 (
+  asked_to_set Came front behind xs ys olds (y ∷ clients) zero d x differ lt only same came p =
+      let quiet : AllQuiet xs (ids (y ∷ clients)) = subst (λ os. AllQuiet xs (ids os)) (sym p.0) p.1 in
+      subst (λ os. AskedTo Came (xs ++ ys) 1 os (x ∷ clients)) p.0 (
         same,
         front xs ys y x quiet.0 came,
-        (refl, quiet_more y.conn xs ys (ids row) quiet.1 only differ.0),
+        (refl, quiet_more y.conn xs ys (ids clients) quiet.1 only differ.0),
       )
-  asked_to_set Came front behind xs ys [] (y ∷ row) (suc i) d x differ lt only same came p = absurd p
-  asked_to_set Came front behind xs ys (o ∷ olds) (y ∷ row) (suc i) d x differ lt only same came p = (
+  asked_to_set Came front behind xs ys [] (y ∷ clients) (suc i) d x differ lt only same came p = absurd p
+  asked_to_set Came front behind xs ys (o ∷ olds) (y ∷ clients) (suc i) d x differ lt only same came p = (
     p.0,
     behind xs ys o y
-        (only o.conn (subst (λ k. nat_eq (slice_index_or row i d).conn k ≡ false) p.0 (none_at y.conn row i d (omega arith) differ.0))) p.1,
-    asked_to_set Came front behind xs ys olds row i d x differ.1 (omega arith) only same came p.2,
+        (only o.conn (subst (λ k. nat_eq (slice_index_or clients i d).conn k ≡ false) p.0 (none_at y.conn clients i d (omega arith) differ.0))) p.1,
+    asked_to_set Came front behind xs ys olds clients i d x differ.1 (omega arith) only same came p.2,
   )
 
-  pub asked_to_all : (Came : List Step → Client S → Client S → Type 0) (steps : List Step) (olds row : List (Client S)) (i : ℕ) → AskedTo Came steps i olds row
-      → length row ≤ i → AllZip (λ x y. Came steps x y) olds row
+  pub asked_to_all : (Came : List Step → Client S → Client S → Type 0) (steps : List Step) (olds clients : List (Client S)) (i : ℕ) → AskedTo Came steps i olds clients
+      → length clients ≤ i → AllZip (λ x y. Came steps x y) olds clients
   asked_to_all Came steps olds [] zero p le = subst (λ os. AllZip (λ x y. Came steps x y) os []) p.0 tt
-  asked_to_all Came steps olds (y ∷ row) zero p le = absurd (omega arith)
+  asked_to_all Came steps olds (y ∷ clients) zero p le = absurd (omega arith)
   asked_to_all Came steps [] [] (suc i) p le = tt
-  asked_to_all Came steps [] (y ∷ row) (suc i) p le = absurd p
+  asked_to_all Came steps [] (y ∷ clients) (suc i) p le = absurd p
   asked_to_all Came steps (o ∷ olds) [] (suc i) p le = absurd p
-  asked_to_all Came steps (o ∷ olds) (y ∷ row) (suc i) p le = (p.1, asked_to_all Came steps olds row i p.2 (omega arith))
+  asked_to_all Came steps (o ∷ olds) (y ∷ clients) (suc i) p le = (p.1, asked_to_all Came steps olds clients i p.2 (omega arith))
 
-  pub unread_none : (remaining : S → Option (List ℕ)) (row : List (Client S)) → EachUnread remaining row row
+  pub unread_none : (remaining : S → Option (List ℕ)) (clients : List (Client S)) → EachUnread remaining clients clients
   unread_none remaining [] = tt
-  unread_none remaining (y ∷ row) = (Keeps-refl _, unread_none remaining row)
+  unread_none remaining (y ∷ clients) = (Keeps-refl _, unread_none remaining clients)
 
-  pub unread_set : (remaining : S → Option (List ℕ)) (olds row : List (Client S)) (i : ℕ) (d x : Client S) → i < length row
-      → Keeps (remaining (slice_index_or row i d).stream) (remaining x.stream) → EachUnread remaining olds row
-      → EachUnread remaining olds (slice_set row i x)
+  pub unread_set : (remaining : S → Option (List ℕ)) (olds clients : List (Client S)) (i : ℕ) (d x : Client S) → i < length clients
+      → Keeps (remaining (slice_index_or clients i d).stream) (remaining x.stream) → EachUnread remaining olds clients
+      → EachUnread remaining olds (slice_set clients i x)
   unread_set remaining [] [] i d x lt one p = absurd (omega arith)
-  unread_set remaining [] (y ∷ row) i d x lt one p = absurd p
+  unread_set remaining [] (y ∷ clients) i d x lt one p = absurd p
   unread_set remaining (o ∷ olds) [] i d x lt one p = absurd p
-  unread_set remaining (o ∷ olds) (y ∷ row) zero d x lt one p = (Keeps-trans _ _ _ p.0 one, p.1)
-  unread_set remaining (o ∷ olds) (y ∷ row) (suc i) d x lt one p = (p.0, unread_set remaining olds row i d x (omega arith) one p.1)
+  unread_set remaining (o ∷ olds) (y ∷ clients) zero d x lt one p = (Keeps-trans _ _ _ p.0 one, p.1)
+  unread_set remaining (o ∷ olds) (y ∷ clients) (suc i) d x lt one p = (p.0, unread_set remaining olds clients i d x (omega arith) one p.1)
 
   -- one was asked what came of it, and then replies are sent
   pub came_sent : (remaining : S → Option (List ℕ)) (taken : List ℕ) (x y z : Client S) → AsksWhatCame remaining taken x y
@@ -708,7 +708,7 @@ module _ {S : Type 0} where
       end_kept (Some v) (Some w) None piece p q e = absurd q
       end_kept (Some v) (Some w) (Some u) piece p q e = q ∙ e
 
-  -- the same of a row, of which others go
+  -- the same of a list, of which others go
   each_came_sent : (contents remaining : S → Option (List ℕ)) (steps : List Step) (a b d : List (Client S)) → EachAsked remaining steps a b
       → EachServed contents [] b d → EachServed contents steps a b → EachUnread remaining b d → inputs d ≡ inputs b → EachAsFar b d
       → AllZip (λ old new. (new.conn ≡ old.conn) × CameKnown remaining steps old new) a d
@@ -753,17 +753,17 @@ module _ {S : Type 0} where
     has_lines = q.has_lines ∙ p.has_lines;
   }
 
-  pub each_woken_none : (row : List (Client S)) → EachWoken row row
+  pub each_woken_none : (clients : List (Client S)) → EachWoken clients clients
   each_woken_none [] = tt
-  each_woken_none (y ∷ row) = (woken_same y, each_woken_none row)
+  each_woken_none (y ∷ clients) = (woken_same y, each_woken_none clients)
 
-  pub each_woken_set : (olds row : List (Client S)) (i : ℕ) (d x : Client S) → i < length row → IsWoken (slice_index_or row i d) x → EachWoken olds row
-      → EachWoken olds (slice_set row i x)
+  pub each_woken_set : (olds clients : List (Client S)) (i : ℕ) (d x : Client S) → i < length clients → IsWoken (slice_index_or clients i d) x → EachWoken olds clients
+      → EachWoken olds (slice_set clients i x)
   each_woken_set [] [] i d x lt one p = absurd (omega arith)
-  each_woken_set [] (y ∷ row) i d x lt one p = absurd p
+  each_woken_set [] (y ∷ clients) i d x lt one p = absurd p
   each_woken_set (o ∷ olds) [] i d x lt one p = absurd p
-  each_woken_set (o ∷ olds) (y ∷ row) zero d x lt one p = (woken_then o y x p.0 one, p.1)
-  each_woken_set (o ∷ olds) (y ∷ row) (suc i) d x lt one p = (p.0, each_woken_set olds row i d x (omega arith) one p.1)
+  each_woken_set (o ∷ olds) (y ∷ clients) zero d x lt one p = (woken_then o y x p.0 one, p.1)
+  each_woken_set (o ∷ olds) (y ∷ clients) (suc i) d x lt one p = (p.0, each_woken_set olds clients i d x (omega arith) one p.1)
 
   pub each_woken_then : (a b c : List (Client S)) → EachWoken a b → EachWoken b c → EachWoken a c
   each_woken_then [] [] c p q = q
@@ -774,52 +774,52 @@ module _ {S : Type 0} where
 
   -- ---- those that go on only ask
 
-  pub opens_none : (row : List (Client S)) → OpenOnlyAsk [] row
+  pub opens_none : (clients : List (Client S)) → OpenOnlyAsk [] clients
   opens_none [] = tt
-  opens_none (y ∷ row) = (λ is. tt, opens_none row)
+  opens_none (y ∷ clients) = (λ is. tt, opens_none clients)
 
   -- another one asks, or goes
-  opens_other : (xs ys : List Step) (conn : ℕ) (row : List (Client S)) → LeavesOthers conn ys → IsNoneOf conn (ids row) → OpenOnlyAsk xs row
-      → OpenOnlyAsk (xs ++ ys) row
+  opens_other : (xs ys : List Step) (conn : ℕ) (clients : List (Client S)) → LeavesOthers conn ys → IsNoneOf conn (ids clients) → OpenOnlyAsk xs clients
+      → OpenOnlyAsk (xs ++ ys) clients
   opens_other xs ys conn [] others none p = tt
-  opens_other xs ys conn (y ∷ row) others none p = (
+  opens_other xs ys conn (y ∷ clients) others none p = (
     λ is. only_then y.conn xs ys (p.0 is) (others y.conn (turned y.conn conn none.0)),
-    opens_other xs ys conn row others none.1 p.1,
+    opens_other xs ys conn clients others none.1 p.1,
   )
 
   -- one is served
-  pub opens_set : (xs ys : List Step) (row : List (Client S)) (i : ℕ) (d x : Client S) → AllDiffer (ids row) → i < length row
-      → LeavesOthers (slice_index_or row i d).conn ys → x.conn ≡ (slice_index_or row i d).conn
-      → (GoesOn x → GoesOn (slice_index_or row i d)) → (GoesOn x → OnlyAsks (slice_index_or row i d).conn ys)
-      → OpenOnlyAsk xs row → OpenOnlyAsk (xs ++ ys) (slice_set row i x)
+  pub opens_set : (xs ys : List Step) (clients : List (Client S)) (i : ℕ) (d x : Client S) → AllDiffer (ids clients) → i < length clients
+      → LeavesOthers (slice_index_or clients i d).conn ys → x.conn ≡ (slice_index_or clients i d).conn
+      → (GoesOn x → GoesOn (slice_index_or clients i d)) → (GoesOn x → OnlyAsks (slice_index_or clients i d).conn ys)
+      → OpenOnlyAsk xs clients → OpenOnlyAsk (xs ++ ys) (slice_set clients i x)
   opens_set xs ys [] i d x differ lt others same before own p = absurd (omega arith)
-  opens_set xs ys (y ∷ row) zero d x differ lt others same before own p = (
+  opens_set xs ys (y ∷ clients) zero d x differ lt others same before own p = (
     λ is. subst (λ k. OnlyAsks k (xs ++ ys)) (sym same) (only_then y.conn xs ys (p.0 (before is)) (own is)),
-    opens_other xs ys y.conn row others differ.0 p.1,
+    opens_other xs ys y.conn clients others differ.0 p.1,
   )
-  opens_set xs ys (y ∷ row) (suc i) d x differ lt others same before own p = (
-    λ is. only_then y.conn xs ys (p.0 is) (others y.conn (none_at y.conn row i d (omega arith) differ.0)),
-    opens_set xs ys row i d x differ.1 (omega arith) others same before own p.1,
+  opens_set xs ys (y ∷ clients) (suc i) d x differ lt others same before own p = (
+    λ is. only_then y.conn xs ys (p.0 is) (others y.conn (none_at y.conn clients i d (omega arith) differ.0)),
+    opens_set xs ys clients i d x differ.1 (omega arith) others same before own p.1,
   )
 
   -- one goes
-  pub opens_less : (xs ys : List Step) (row : List (Client S)) (i : ℕ) (d : Client S) → AllDiffer (ids row) → i < length row
-      → LeavesOthers (slice_index_or row i d).conn ys → OpenOnlyAsk xs row → OpenOnlyAsk (xs ++ ys) (remove row i)
+  pub opens_less : (xs ys : List Step) (clients : List (Client S)) (i : ℕ) (d : Client S) → AllDiffer (ids clients) → i < length clients
+      → LeavesOthers (slice_index_or clients i d).conn ys → OpenOnlyAsk xs clients → OpenOnlyAsk (xs ++ ys) (remove clients i)
   opens_less xs ys [] i d differ lt others p = absurd (omega arith)
-  opens_less xs ys (y ∷ row) zero d differ lt others p = opens_other xs ys y.conn row others differ.0 p.1
-  opens_less xs ys (y ∷ row) (suc i) d differ lt others p = (
-    λ is. only_then y.conn xs ys (p.0 is) (others y.conn (none_at y.conn row i d (omega arith) differ.0)),
-    opens_less xs ys row i d differ.1 (omega arith) others p.1,
+  opens_less xs ys (y ∷ clients) zero d differ lt others p = opens_other xs ys y.conn clients others differ.0 p.1
+  opens_less xs ys (y ∷ clients) (suc i) d differ lt others p = (
+    λ is. only_then y.conn xs ys (p.0 is) (others y.conn (none_at y.conn clients i d (omega arith) differ.0)),
+    opens_less xs ys clients i d differ.1 (omega arith) others p.1,
   )
 
-  opens_at : (steps : List Step) (row : List (Client S)) (c : Client S) → OpenOnlyAsk steps row → IsIn c row → GoesOn c → OnlyAsks c.conn steps
+  opens_at : (steps : List Step) (clients : List (Client S)) (c : Client S) → OpenOnlyAsk steps clients → IsIn c clients → GoesOn c → OnlyAsks c.conn steps
   opens_at steps [] c p h = absurd h
-  opens_at steps (y ∷ row) c p (inl is) = subst (λ (x : Client S). GoesOn x → OnlyAsks x.conn steps) is p.0
-  opens_at steps (y ∷ row) c p (inr h) = opens_at steps row c p.1 h
+  opens_at steps (y ∷ clients) c p (inl is) = subst (λ (x : Client S). GoesOn x → OnlyAsks x.conn steps) is p.0
+  opens_at steps (y ∷ clients) c p (inr h) = opens_at steps clients c p.1 h
 
-  opens_from : (steps : List Step) (row : List (Client S)) → ((c : Client S) → IsIn c row → GoesOn c → OnlyAsks c.conn steps) → OpenOnlyAsk steps row
+  opens_from : (steps : List Step) (clients : List (Client S)) → ((c : Client S) → IsIn c clients → GoesOn c → OnlyAsks c.conn steps) → OpenOnlyAsk steps clients
   opens_from steps [] f = tt
-  opens_from steps (y ∷ row) f = (f y (inl refl), opens_from steps row (λ c h. f c (inr h)))
+  opens_from steps (y ∷ clients) f = (f y (inl refl), opens_from steps clients (λ c h. f c (inr h)))
 
   -- replies are sent
   opens_sent : (contents : S → Option (List ℕ)) (xs : List Step) (b d : List (Client S)) → EachServed contents [] b d → EachAsFar b d
@@ -846,36 +846,36 @@ module _ {S : Type 0} where
   opens_all contents xs ys b d e sent far same p left q = opens_from (xs ++ ys) e (λ c h on.
       only_then c.conn xs ys (opens_at xs d c (opens_sent contents xs b d sent far same p) (in_from d c (left.from c (in_to e c h))) on) (opens_at ys e c q h on))
 
-  -- one that stands in a row of which each only asks
-  only_at : (steps : List Step) (row : List (Client S)) (c : Client S) → AllOnlyAsk steps (ids row) → IsIn c row → OnlyAsks c.conn steps
+  -- one that stands in a list of which each only asks
+  only_at : (steps : List Step) (clients : List (Client S)) (c : Client S) → AllOnlyAsk steps (ids clients) → IsIn c clients → OnlyAsks c.conn steps
   only_at steps [] c p h = absurd h
-  only_at steps (y ∷ row) c p (inl is) = subst (λ (x : Client S). OnlyAsks x.conn steps) is p.0
-  only_at steps (y ∷ row) c p (inr h) = only_at steps row c p.1 h
+  only_at steps (y ∷ clients) c p (inl is) = subst (λ (x : Client S). OnlyAsks x.conn steps) is p.0
+  only_at steps (y ∷ clients) c p (inr h) = only_at steps clients c p.1 h
 
-  -- ---- those that stay in the row
+  -- ---- those that stay in the list
 
   module _ (contents : S → Option (List ℕ)) where
-    pub each_none : (steps : List Step) (row : List (Client S)) → GivesNone steps → EachServed contents steps row row
+    pub each_none : (steps : List Step) (clients : List (Client S)) → GivesNone steps → EachServed contents steps clients clients
     each_none steps [] none = tt
-    each_none steps (y ∷ row) none = (served_same contents y (given_to y.conn steps) (none y.conn), each_none steps row none)
+    each_none steps (y ∷ clients) none = (served_same contents y (given_to y.conn steps) (none y.conn), each_none steps clients none)
 
-    each_other : (steps : List Step) (conn : ℕ) (row : List (Client S)) → GivesOnly conn steps → IsNoneOf conn (ids row)
-        → EachServed contents steps row row
+    each_other : (steps : List Step) (conn : ℕ) (clients : List (Client S)) → GivesOnly conn steps → IsNoneOf conn (ids clients)
+        → EachServed contents steps clients clients
     each_other steps conn [] only p = tt
-    each_other steps conn (y ∷ row) only p = (
+    each_other steps conn (y ∷ clients) only p = (
       served_same contents y (given_to y.conn steps) (only y.conn (turned y.conn conn p.0)),
-      each_other steps conn row only p.1,
+      each_other steps conn clients only p.1,
     )
 
     -- one is served, and the others are given nothing
-    pub each_set : (steps : List Step) (row : List (Client S)) (i : ℕ) (d x : Client S) → AllDiffer (ids row) → i < length row
-        → GivesOnly (slice_index_or row i d).conn steps
-        → IsServed contents (given_to (slice_index_or row i d).conn steps) (slice_index_or row i d) x → EachServed contents steps row (slice_set row i x)
+    pub each_set : (steps : List Step) (clients : List (Client S)) (i : ℕ) (d x : Client S) → AllDiffer (ids clients) → i < length clients
+        → GivesOnly (slice_index_or clients i d).conn steps
+        → IsServed contents (given_to (slice_index_or clients i d).conn steps) (slice_index_or clients i d) x → EachServed contents steps clients (slice_set clients i x)
     each_set steps [] i d x differ lt only p = absurd (omega arith)
-    each_set steps (y ∷ row) zero d x differ lt only p = (p, each_other steps y.conn row only differ.0)
-    each_set steps (y ∷ row) (suc i) d x differ lt only p = (
-      served_same contents y (given_to y.conn steps) (only y.conn (none_at y.conn row i d (omega arith) differ.0)),
-      each_set steps row i d x differ.1 (omega arith) only p,
+    each_set steps (y ∷ clients) zero d x differ lt only p = (p, each_other steps y.conn clients only differ.0)
+    each_set steps (y ∷ clients) (suc i) d x differ lt only p = (
+      served_same contents y (given_to y.conn steps) (only y.conn (none_at y.conn clients i d (omega arith) differ.0)),
+      each_set steps clients i d x differ.1 (omega arith) only p,
     )
 
     pub each_then : (xs ys : List Step) (a b c : List (Client S)) → EachServed contents xs a b → EachServed contents ys b c
@@ -923,7 +923,7 @@ module _ {S : Type 0} where
         within_length s m l all is = omega (arith, ap length is, length-append s (m ++ l), length-append m l)
     asks_one steps old mid new p (inr (inr (inr told))) q same sound = inr (inr (subst (λ k. ¬ (told_by k steps ≡ [])) p.conn told))
 
-    -- The same of a row.
+    -- The same of a list.
     each_asked : (xs : List Step) (a b d : List (Client S)) → EachServed contents xs a b → All (λ c. IsHeard xs c) b → EachServed contents [] b d → inputs d ≡ inputs b
         → AllZip (λ old new. ¬ (new.phase ≡ Broken) → AsksAll xs old new) a d
     each_asked xs [] [] [] p q r same = tt
@@ -958,19 +958,19 @@ module _ {S : Type 0} where
 
   -- ---- those that go
 
-  over_none : (row : List (Client S)) (c : Client S) → NoneIsOver row → Contains row c → ¬ IsOver c
-  over_none row c stay h = λ over. stay h.0 c h.1 (subst (λ (x : Client S). IsOver x) (sym h.2) over)
+  over_none : (clients : List (Client S)) (c : Client S) → NoneIsOver clients → Contains clients c → ¬ IsOver c
+  over_none clients c stay h = λ over. stay h.0 c h.1 (subst (λ (x : Client S). IsOver x) (sym h.2) over)
 
-  pub lets_none : (row : List (Client S)) → LetsGo row row
-  lets_none row = record { from = λ c h. h; to = λ c h. inl h }
+  pub lets_none : (clients : List (Client S)) → LetsGo clients clients
+  lets_none clients = record { from = λ c h. h; to = λ c h. inl h }
 
-  pub lets_one : (olds row : List (Client S)) (i : ℕ) (d : Client S) → LetsGo olds row → i < length row → IsOver (slice_index_or row i d)
-      → LetsGo olds (remove row i)
-  lets_one olds row i d p lt over = record {
-    from = λ c h. p.from c (in_to row c (in_less row i c (in_from (remove row i) c h)));
+  pub lets_one : (olds clients : List (Client S)) (i : ℕ) (d : Client S) → LetsGo olds clients → i < length clients → IsOver (slice_index_or clients i d)
+      → LetsGo olds (remove clients i)
+  lets_one olds clients i d p lt over = record {
+    from = λ c h. p.from c (in_to clients c (in_less clients i c (in_from (remove clients i) c h)));
     to = λ c h. elim (p.to c h) [
-      | inl here ↦ elim (in_more row i d c lt (in_from row c here)) [
-        | inl stays ↦ inl (in_to (remove row i) c stays)
+      | inl here ↦ elim (in_more clients i d c lt (in_from clients c here)) [
+        | inl stays ↦ inl (in_to (remove clients i) c stays)
         | inr is ↦ inr (subst (λ (x : Client S). IsOver x) is over)
       ]
       | inr gone ↦ inr gone
@@ -998,15 +998,15 @@ module _ {S : Type 0} where
   nobody : (c : Client S) → Contains [] c → ⊥
   nobody c h = in_from [] c h
 
-  pub joins_none : (row : List (Client S)) → Joins row row
-  joins_none row = ([], sym (append-nil row), λ c h. absurd (nobody c h))
+  pub joins_none : (clients : List (Client S)) → Joins clients clients
+  joins_none clients = ([], sym (append-nil clients), λ c h. absurd (nobody c h))
 
-  pub joins_one : (row : List (Client S)) (comer : Client S) → IsNew comer row → Joins row (row ++ comer ∷ [])
-  joins_one row comer new = (
+  pub joins_one : (clients : List (Client S)) (comer : Client S) → IsNew comer clients → Joins clients (clients ++ comer ∷ [])
+  joins_one clients comer new = (
     comer ∷ [],
     refl,
     λ c h. elim (in_from (comer ∷ []) c h) [
-      | inl is ↦ subst (λ (x : Client S). IsNew x row) is new
+      | inl is ↦ subst (λ (x : Client S). IsNew x clients) is new
       | inr none ↦ absurd none
     ],
   )

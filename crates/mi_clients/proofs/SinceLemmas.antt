@@ -1,12 +1,12 @@
 -- With which of its lines a connection last began to hold sessions, over steps one behind another.
--- Cited by `asking::ask_lines`, `row::serve`, `ServedLemmas` and `TellLemmas`.
+-- Cited by `asking::ask_lines`, `clients::serve`, `ServedLemmas` and `TellLemmas`.
 use Rattle.std.proofs.Common.{◌≡◌, ℕ, List, [], ◌∷◌, ◌++◌, Bool, true, false, ◌&&◌, cond, nat_eq, refl, sym, ap, ◌∙◌}
 use Rattle.mi_clients.specs.Client.{KnowsSince}
 use Rattle.mi_clients.specs.Input.{count_on}
 use Rattle.mi_clients.specs.Steps.{Step, comes, asks, denies, tells, undoes, goes, line_by, asked_by, begins_by, since_after, AllTell}
 use Rattle.mi_clients.specs.declared.client.Client.{Client}
 use Rattle.mi_clients.proofs.InputLemmas.{count_join}
-use Rattle.mi_clients.proofs.RowLemmas.{front_none, back_none}
+use Rattle.mi_clients.proofs.ClientsLemmas.{front_none, back_none}
 
 pub since_join : (k n s : ℕ) (xs ys : List Step)
     → since_after k n s (xs ++ ys) ≡ since_after k (count_on n (asked_by k xs)) (since_after k n s xs) ys

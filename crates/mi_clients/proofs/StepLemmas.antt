@@ -1,5 +1,5 @@
--- Steps one behind another, and the steps that calls of a ledger are.
--- Cited by `asking::ask_line`, `asking::ask_lines`, `asking::part`, `asking::settle`, `asking::undo_all`, 10 more and `mi_serving`.
+-- Steps one behind another, and the steps that calls of a durable hub are.
+-- Cited by `asking::ask_line`, `asking::ask_lines`, `asking::disconnect`, `asking::finish`, `asking::undo_all`, 10 more and `mi_serving`.
 use Rattle.std.proofs.Common.{◌≡◌, ℕ, List, [], ◌∷◌, ◌++◌, codes, Bool, true, false, not, ◌&&◌, cond, nat_eq, inl, inr, Option, Some, Result, Ok, refl, sym, ap, ◌∙◌, subst, append-nil, append_assoc}
 use Rattle.std.specs.Io.KnownBytes.{Appends, Keeps}
 use Rattle.std.proofs.KnownBytes.{Appends-nil, Appends-kept, Appends-trans, Keeps-refl}
@@ -13,17 +13,17 @@ use Rattle.mi_replay.specs.Acts.{Act, leaves}
 use Rattle.mi_replay.specs.Journal.{JournalOf}
 use Rattle.mi_replay.specs.RunActs.{ActsOfDone}
 use Rattle.mi_replay.proofs.JoinLemmas.{journals_join}
-use Rattle.mi_ledger.specs.Journals.{Journals, Asks, IsWholeLine}
-use Rattle.mi_ledger.proofs.JournalLemmas.{asked_attached}
-use Rattle.mi_ledger.specs.Ledger.{holder_conn, is_conn}
+use Rattle.mi_durable.specs.Journals.{Journals, Asks, IsWholeLine}
+use Rattle.mi_durable.proofs.JournalLemmas.{asked_attached}
+use Rattle.mi_durable.specs.Durable.{holder_conn, is_conn}
 use Rattle.mi_clients.specs.Input.{count_on}
-use Rattle.mi_ledger.specs.Room.{IsTurnedAway}
-use Rattle.mi_ledger.specs.declared.fault.LedgerFault.{LedgerFault}
-use Rattle.mi_ledger.specs.declared.ledger.Admitted.{Admitted}
-use Rattle.mi_ledger.specs.declared.ledger.Admitted.TheVariants.{Asked, TurnedAway}
+use Rattle.mi_durable.specs.Room.{IsTurnedAway}
+use Rattle.mi_durable.specs.declared.fault.DurableFault.{DurableFault}
+use Rattle.mi_durable.specs.declared.durable.Admitted.{Admitted}
+use Rattle.mi_durable.specs.declared.durable.Admitted.TheVariants.{Asked, TurnedAway}
 use Rattle.mi_model.specs.Database.{depth}
 use Rattle.mi_clients.specs.ServiceLines.{is_service}
-use Rattle.mi_clients.proofs.RowLemmas.{same_test}
+use Rattle.mi_clients.proofs.ClientsLemmas.{same_test}
 use Rattle.mi_clients.specs.Steps.{Step, comes, asks, denies, tells, undoes, goes, undo_bytes, begins_in, StepDone, DoneBy, Makes, IsAskOf, is_denial, since_after, AreAsks, AreUndos}
 
 -- ---- nothing
@@ -171,11 +171,11 @@ kept_since conn old new same =
     ap (λ (s : HubState). not (is_conn (holder_conn old.held.holder) conn) && is_conn (holder_conn s.held.holder) conn) same
     ∙ held_still (is_conn (holder_conn old.held.holder) conn)
 
--- a line that a ledger was asked is done, or turned away
+-- a line that a durable hub was asked is done, or turned away
 pub line_step : (conn : ℕ) (line before after : List ℕ) (old new : HubState) (a b : Option (List ℕ)) (lacks : Bool) (r : Admitted)
     → is_service line ≡ false
-    → (◌≡◌ {A = Result Admitted LedgerFault} (Ok r) (Ok Asked) → (out : List ℕ) × (after ≡ before ++ out) × Asks conn line old new a b out)
-    → (◌≡◌ {A = Result Admitted LedgerFault} (Ok r) (Ok TurnedAway) → (out : List ℕ) × (after ≡ before ++ out)
+    → (◌≡◌ {A = Result Admitted DurableFault} (Ok r) (Ok Asked) → (out : List ℕ) × (after ≡ before ++ out) × Asks conn line old new a b out)
+    → (◌≡◌ {A = Result Admitted DurableFault} (Ok r) (Ok TurnedAway) → (out : List ℕ) × (after ≡ before ++ out)
     × IsTurnedAway (depth old.held.database) line out × (lacks ≡ true) × (new ≡ old) × (b ≡ a))
     → (out : List ℕ) × (after ≡ before ++ out) × (step : Step) × IsAskOf conn line out step × Makes (step ∷ []) old new a b
     × (is_denial step ≡ true → lacks ≡ true)
@@ -191,8 +191,8 @@ line_step conn line before after old new a b lacks TurnedAway other asked away =
 -- and leaves who is attached
 pub line_attached : (conn : ℕ) (line before after : List ℕ) (old new : HubState) (a b : Option (List ℕ)) (lacks : Bool) (r : Admitted)
     → rest_at conn old.attached ≡ Some (Some [])
-    → (◌≡◌ {A = Result Admitted LedgerFault} (Ok r) (Ok Asked) → (out : List ℕ) × (after ≡ before ++ out) × Asks conn line old new a b out)
-    → (◌≡◌ {A = Result Admitted LedgerFault} (Ok r) (Ok TurnedAway) → (out : List ℕ) × (after ≡ before ++ out)
+    → (◌≡◌ {A = Result Admitted DurableFault} (Ok r) (Ok Asked) → (out : List ℕ) × (after ≡ before ++ out) × Asks conn line old new a b out)
+    → (◌≡◌ {A = Result Admitted DurableFault} (Ok r) (Ok TurnedAway) → (out : List ℕ) × (after ≡ before ++ out)
     × IsTurnedAway (depth old.held.database) line out × (lacks ≡ true) × (new ≡ old) × (b ≡ a))
     → new.attached ≡ old.attached
 line_attached conn line before after old new a b lacks Asked here asked away =

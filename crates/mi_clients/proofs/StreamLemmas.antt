@@ -1,16 +1,16 @@
 -- The streams of connections: each keeps its own, and one that has failed breaks its connection.
--- Cited by `laws::numbers_keep_streams`, `row::ask_all`, `row::send_all`, `row::serve`, `row::serve_all`, 2 more and `mi_serving`.
+-- Cited by `laws::numbers_keep_streams`, `clients::ask_all`, `clients::send_all`, `clients::serve`, `clients::serve_all`, 2 more and `mi_serving`.
 use Rattle.std.proofs.Common.{◌≡◌, inl, inr, ℕ, ℤ, ◌<◌, ◌≤◌, List, [], ◌∷◌, ◌++◌, length, map, Bool, true, false, cond, nat_eq, refl, sym, ap, ◌∙◌, subst, arith}
 use Rattle.std.specs.Prelude.{⊤, Option}
 use Rattle.std.specs.List.{All, AllZip, Contains}
 use Rattle.mi_clients.specs.Client.{Owes, IsAsFar, IsWhole, IsWoken, BreaksWith, IsSame, IsRead, woken, told}
-use Rattle.mi_clients.specs.Row.{ids, IsNoneOf, AllDiffer, EachWoken, EachSame, EachRead, EachUncounted, LetsGo, NoneIsOver, NoneIsWhole, AllBreakWith, NoneHasFailed}
+use Rattle.mi_clients.specs.Clients.{ids, IsNoneOf, AllDiffer, EachWoken, EachSame, EachRead, EachUncounted, LetsGo, NoneIsOver, NoneIsWhole, AllBreakWith, NoneHasFailed}
 use Rattle.mi_clients.specs.Laws.{NumbersKeepStreams}
-use Rattle.mi_clients.specs.Row.{StayersSame, SameStreams, StayersRead}
+use Rattle.mi_clients.specs.Clients.{StayersSame, SameStreams, StayersRead}
 use Rattle.mi_clients.specs.declared.client.Client.{Client}
 use Rattle.mi_clients.specs.declared.client.Phase.{Phase}
 use Rattle.mi_clients.specs.declared.client.Phase.TheVariants.{Ended, Broken}
-use Rattle.mi_clients.proofs.RowLemmas.{true_false, DoneTo, done_all, zip_weaker, zip_then, zip_all, zip_map}
+use Rattle.mi_clients.proofs.ClientsLemmas.{true_false, DoneTo, done_all, zip_weaker, zip_then, zip_all, zip_map}
 use Rattle.mi_clients.proofs.ServedLemmas.{IsIn, in_from, in_to, in_join, zip_from, all_left, woken_same}
 
 broken_ended : (p : Phase) → p ≡ Broken → p ≡ Ended → ⊥
@@ -57,16 +57,16 @@ module _ {S : Type 0} where
     whole_before a c far lines,
   )
 
-  -- ---- a row
+  -- ---- a list
 
   module _ (handle : S → ℤ) (reads : S → Option ℕ) (has_failed : S → Bool) where
     -- all were served
-    pub attended_all : (olds row items : List (Client S)) (i : ℕ) → length row ≤ i → items ≡ row
-        → DoneTo (λ x y. Attended handle reads has_failed x y) i olds row
+    pub attended_all : (olds clients items : List (Client S)) (i : ℕ) → length clients ≤ i → items ≡ clients
+        → DoneTo (λ x y. Attended handle reads has_failed x y) i olds clients
         → NoneIsWhole items × EachSame handle olds items × EachRead reads olds items × (AllBreakWith has_failed olds → AllBreakWith has_failed items)
-    attended_all olds row items i le is done =
+    attended_all olds clients items i le is done =
         let R : Client S → Client S → Type 0 = λ x y. Attended handle reads has_failed x y in
-        let all : AllZip R olds items = subst (AllZip R olds) (sym is) (done_all R olds row i le done) in (
+        let all : AllZip R olds items = subst (AllZip R olds) (sym is) (done_all R olds clients i le done) in (
           zip_all (λ x. ⊤) (λ x. ¬ IsWhole x) olds items (zip_weaker R (λ x y. ⊤ → ¬ IsWhole y) (λ x y p t. p.3) olds items all) (λ k d within. tt),
           zip_weaker R (λ x y. IsSame handle x y) (λ x y p. p.0) olds items all,
           zip_weaker R (λ x y. IsRead reads x y) (λ x y p. p.1) olds items all,
@@ -75,13 +75,13 @@ module _ {S : Type 0} where
         )
 
     -- the replies of all were sent
-    pub written_all : (olds row items : List (Client S)) (i : ℕ) → length row ≤ i → items ≡ row
-        → DoneTo (λ x y. Written handle reads has_failed x y) i olds row
+    pub written_all : (olds clients items : List (Client S)) (i : ℕ) → length clients ≤ i → items ≡ clients
+        → DoneTo (λ x y. Written handle reads has_failed x y) i olds clients
         → (NoneIsWhole olds → NoneIsWhole items) × EachSame handle olds items × EachUncounted reads olds items
         × (AllBreakWith has_failed olds → AllBreakWith has_failed items)
-    written_all olds row items i le is done =
+    written_all olds clients items i le is done =
         let R : Client S → Client S → Type 0 = λ x y. Written handle reads has_failed x y in
-        let all : AllZip R olds items = subst (AllZip R olds) (sym is) (done_all R olds row i le done) in (
+        let all : AllZip R olds items = subst (AllZip R olds) (sym is) (done_all R olds clients i le done) in (
           zip_all (λ x. ¬ IsWhole x) (λ x. ¬ IsWhole x) olds items (zip_weaker R (λ x y. ¬ IsWhole x → ¬ IsWhole y) (λ x y p. p.3) olds items all),
           zip_weaker R (λ x y. IsSame handle x y) (λ x y p. p.0) olds items all,
           zip_weaker R (λ x y. reads y.stream ≡ reads x.stream) (λ x y p. p.1) olds items all,
@@ -97,9 +97,9 @@ module _ {S : Type 0} where
       by_test true = record { conn = refl; stream = refl; input = refl; held = refl; output = refl; phase = refl; has_lines = refl }
       by_test false = woken_same c
 
-  each_told : (conn : ℕ) (r w closing : Bool) (row : List (Client S)) → EachWoken row (map (told conn r w closing) row)
+  each_told : (conn : ℕ) (r w closing : Bool) (clients : List (Client S)) → EachWoken clients (map (told conn r w closing) clients)
   each_told conn r w closing [] = tt
-  each_told conn r w closing (x ∷ row) = (told_woken conn r w closing x, each_told conn r w closing row)
+  each_told conn r w closing (x ∷ clients) = (told_woken conn r w closing x, each_told conn r w closing clients)
 
   woken_ids : (a b : List (Client S)) → EachWoken a b → ids b ≡ ids a
   woken_ids [] [] p = refl
@@ -108,19 +108,19 @@ module _ {S : Type 0} where
   woken_ids (x ∷ a) (y ∷ b) p = ap (λ k. k ∷ ids b) p.0.conn ∙ ap (λ ks. x.conn ∷ ks) (woken_ids a b p.1)
 
   -- all were told
-  pub told_all : (conn : ℕ) (r w closing : Bool) (olds row items : List (Client S)) (i : ℕ) → length row ≤ i → items ≡ row
-      → DoneTo (λ x y. y ≡ told conn r w closing x) i olds row
+  pub told_all : (conn : ℕ) (r w closing : Bool) (olds clients items : List (Client S)) (i : ℕ) → length clients ≤ i → items ≡ clients
+      → DoneTo (λ x y. y ≡ told conn r w closing x) i olds clients
       → (items ≡ map (told conn r w closing) olds) × (ids items ≡ ids olds) × EachWoken olds items
-  told_all conn r w closing olds row items i le is done =
+  told_all conn r w closing olds clients items i le is done =
       let is_told : items ≡ map (told conn r w closing) olds =
-      is ∙ zip_map (told conn r w closing) olds row (done_all (λ x y. y ≡ told conn r w closing x) olds row i le done) in
+      is ∙ zip_map (told conn r w closing) olds clients (done_all (λ x y. y ≡ told conn r w closing x) olds clients i le done) in
       let all : EachWoken olds items = subst (EachWoken olds) (sym is_told) (each_told conn r w closing olds) in
       (is_told, woken_ids olds items all, all)
 
-  -- ---- those that stay in the row
+  -- ---- those that stay in the list
 
   module _ (R : Client S → Client S → Type 0) where
-    -- all of a row have become so, and some have gone
+    -- all of a list have become so, and some have gone
     stayers : (a d e : List (Client S)) → AllZip R a d → LetsGo d e → (new : Client S) → Contains e new → (old : Client S) × Contains a old × R old new
     stayers a d e each left new here =
         let r = zip_from R a d new each (in_from d new (left.from new here)) in
@@ -154,15 +154,15 @@ module _ {S : Type 0} where
       λ k x within failed. stay k x within (inl (breaks k x within failed))
 
   -- and where none has failed each breaks with its own
-  pub none_failed_break : (has_failed : S → Bool) (row : List (Client S)) → NoneHasFailed has_failed row → AllBreakWith has_failed row
-  none_failed_break has_failed row none = λ k x within failed. absurd (none k x within failed)
+  pub none_failed_break : (has_failed : S → Bool) (clients : List (Client S)) → NoneHasFailed has_failed clients → AllBreakWith has_failed clients
+  none_failed_break has_failed clients none = λ k x within failed. absurd (none k x within failed)
 
   -- ---- over several turns
 
   module _ (handle : S → ℤ) where
-    -- a row that nothing was done to
-    pub streams_none : (last : ℕ) (row : List (Client S)) → SameStreams handle last row row
-    streams_none last row = λ new here. inl (new, here, (refl, refl))
+    -- a list that nothing was done to
+    pub streams_none : (last : ℕ) (clients : List (Client S)) → SameStreams handle last clients clients
+    streams_none last clients = λ new here. inl (new, here, (refl, refl))
 
     pub streams_then : (last more : ℕ) (a b c : List (Client S)) → last ≤ more → SameStreams handle last a b → SameStreams handle more b c
         → SameStreams handle last a c
@@ -184,31 +184,31 @@ module _ {S : Type 0} where
         inl (r.0, in_to a r.0 r.1, (r.2.conn, ap handle r.2.stream))
 
     -- one comes, whose number wasn't given yet
-    pub streams_comes : (last : ℕ) (row : List (Client S)) (client : Client S) → last < client.conn → SameStreams handle last row (row ++ client ∷ [])
-    streams_comes last row client above = λ new here. elim (in_join row (client ∷ []) new (in_from (row ++ client ∷ []) new here)) [
-      | inl old ↦ inl (new, in_to row new old, (refl, refl))
+    pub streams_comes : (last : ℕ) (clients : List (Client S)) (client : Client S) → last < client.conn → SameStreams handle last clients (clients ++ client ∷ [])
+    streams_comes last clients client above = λ new here. elim (in_join clients (client ∷ []) new (in_from (clients ++ client ∷ []) new here)) [
+      | inl old ↦ inl (new, in_to clients new old, (refl, refl))
       | inr comer ↦ elim comer [
         | inl is ↦ inr (subst (λ (x : Client S). last < x.conn) is above)
         | inr none ↦ absurd none
       ]
     ]
 
-    none_in : (k : ℕ) (row : List (Client S)) (c : Client S) → IsNoneOf k (ids row) → IsIn c row → nat_eq c.conn k ≡ false
+    none_in : (k : ℕ) (clients : List (Client S)) (c : Client S) → IsNoneOf k (ids clients) → IsIn c clients → nat_eq c.conn k ≡ false
     none_in k [] c none here = absurd here
-    none_in k (x ∷ row) c none (inl is) = subst (λ (y : Client S). nat_eq y.conn k ≡ false) is none.0
-    none_in k (x ∷ row) c none (inr here) = none_in k row c none.1 here
+    none_in k (x ∷ clients) c none (inl is) = subst (λ (y : Client S). nat_eq y.conn k ≡ false) is none.0
+    none_in k (x ∷ clients) c none (inr here) = none_in k clients c none.1 here
 
-    -- no two of a row have one number
-    alone : (row : List (Client S)) (b c : Client S) → AllDiffer (ids row) → IsIn b row → IsIn c row → b.conn ≡ c.conn → b ≡ c
+    -- no two of a list have one number
+    alone : (clients : List (Client S)) (b c : Client S) → AllDiffer (ids clients) → IsIn b clients → IsIn c clients → b.conn ≡ c.conn → b ≡ c
     alone [] b c differ h k same = absurd h
-    alone (x ∷ row) b c differ (inl is) (inl also) same = sym is ∙ also
-    alone (x ∷ row) b c differ (inl is) (inr k) same =
+    alone (x ∷ clients) b c differ (inl is) (inl also) same = sym is ∙ also
+    alone (x ∷ clients) b c differ (inl is) (inr k) same =
         absurd (true_false (nat_eq c.conn x.conn) (equal_test c.conn x.conn (sym same ∙ ap (λ (y : Client S). y.conn) (sym is)))
-        (none_in x.conn row c differ.0 k))
-    alone (x ∷ row) b c differ (inr h) (inl also) same =
+        (none_in x.conn clients c differ.0 k))
+    alone (x ∷ clients) b c differ (inr h) (inl also) same =
         absurd (true_false (nat_eq b.conn x.conn) (equal_test b.conn x.conn (same ∙ ap (λ (y : Client S). y.conn) (sym also)))
-        (none_in x.conn row b differ.0 h))
-    alone (x ∷ row) b c differ (inr h) (inr k) same = alone row b c differ.1 h k same
+        (none_in x.conn clients b differ.0 h))
+    alone (x ∷ clients) b c differ (inr h) (inr k) same = alone clients b c differ.1 h k same
 
     pub numbers_keep : NumbersKeepStreams handle
     numbers_keep = λ last olds news differ given p old new there here same. elim (p new here) [

@@ -1,5 +1,5 @@
--- What the service tells, one step behind another, and over a row.
--- Cited by `Client::service_line`, `asking::ask_line`, `beside::answer`, `beside::turn_away`, `row::ask_all`, 12 more and `mi_serving`.
+-- What the service tells, one step behind another, and over a list.
+-- Cited by `Client::service_line`, `asking::ask_line`, `beside::answer`, `beside::turn_away`, `clients::ask_all`, 12 more and `mi_serving`.
 use Rattle.std.proofs.Common.{◌≡◌, ◌⊎◌, inl, inr, ℕ, ℤ, ◌<◌, List, [], ◌∷◌, ◌++◌, length, codes, nat_eq, cond, Bool, true, false, Option, is_some, Result, Ok, Err, refl, sym, ap, ◌∙◌, subst, append-nil, append_assoc, arith}
 use Rattle.std.specs.Prelude.{IfOk, IfSome, OnOk, is_ok}
 use Rattle.std.specs.Result.{result_ok}
@@ -8,9 +8,9 @@ use Rattle.std.specs.Io.KnownBytes.{Consumes, IsAtEnd}
 use Rattle.mi_hub.specs.Ended.{ended}
 use Rattle.mi_hub.specs.Run.{HubState}
 use Rattle.mi_replay.specs.Acts.{Act}
-use Rattle.mi_ledger.specs.HeldReplies.{bytes_of}
-use Rattle.mi_ledger.specs.Journals.{IsWholeLine}
-use Rattle.mi_ledger.specs.Ledger.{holder_conn}
+use Rattle.mi_durable.specs.HeldReplies.{bytes_of}
+use Rattle.mi_durable.specs.Journals.{IsWholeLine}
+use Rattle.mi_durable.specs.Durable.{holder_conn}
 use Rattle.mi_model.specs.Database.{Database}
 use Rattle.mi_log.specs.declared.log.LogState.{LogState}
 use Rattle.mi_clients.specs.Output.{unsent}
@@ -20,7 +20,7 @@ use Rattle.mi_clients.specs.Heard.{heard}
 use Rattle.mi_clients.specs.Input.{waiting, count_on}
 use Rattle.mi_clients.specs.Lines.{SameLines, Ends}
 use Rattle.mi_clients.specs.Client.{owed, Owes, HasRoom, MayTell, IsAsked, IsHeard, AsksWhatCame, KnowsSince, IsAsFar, ends_after, Takes, GoesOn, IsWhole, BreaksWith, IsSame, IsRead, IsServed}
-use Rattle.mi_clients.specs.Row.{EachServed, EachAsked, EachTakes, EachSame, EachRead, OpenOnlyAsk, NoneIsWhole, AllBreakWith, TellsWhatIs, Joins}
+use Rattle.mi_clients.specs.Clients.{EachServed, EachAsked, EachTakes, EachSame, EachRead, OpenOnlyAsk, NoneIsWhole, AllBreakWith, TellsWhatIs, Joins}
 use Rattle.mi_clients.specs.Steps.{Step, comes, asks, denies, tells, undoes, goes, given_to, asked_by, told_by, reply_to, GivesOnly, GivesNone, AsksOnly, AsksNone, OnlyAsks}
 use Rattle.mi_clients.specs.Steps.{AreAsks, AreUndos, AreTells, AllTell, TellsNone, TellsSo, DoneBy, Makes}
 use Rattle.mi_clients.specs.declared.client.Client.{Client}
@@ -28,7 +28,7 @@ use Rattle.mi_clients.specs.declared.client.Phase.{Phase}
 use Rattle.mi_clients.specs.declared.client.Phase.TheVariants.{Open, Broken}
 use Rattle.mi_clients.proofs.SinceLemmas.{knows_front, knows_told}
 use Rattle.mi_clients.proofs.InputLemmas.{unended_back, same_front, first_newline, count_join}
-use Rattle.mi_clients.proofs.RowLemmas.{same_test, true_false, front_none, back_none, zip_weaker, zip_then, zip_all}
+use Rattle.mi_clients.proofs.ClientsLemmas.{same_test, true_false, front_none, back_none, zip_weaker, zip_then, zip_all}
 use Rattle.mi_clients.proofs.StepLemmas.{makes_then}
 use Rattle.mi_clients.proofs.ServedLemmas.{IsIn, in_from, in_to, in_join, zip_both, new_before, asked_join, told_join, only_then, given_behind, served_by}
 use Rattle.mi_clients.proofs.StreamLemmas.{whole_before}
@@ -111,16 +111,16 @@ told_some_of P Q (Ok x) p f = f x p
 told_some_of P Q (Err e) p f = tt
 
 -- the parts of a status, one behind another
-pub status_joined : {S : Type 0} (row : List (Client S)) (s : HubState) (j : LogState) (up : ℕ) (ms : List (Option ℕ)) (h : Option ℕ) (d : Database) (old a b new : List ℕ)
+pub status_joined : {S : Type 0} (clients : List (Client S)) (s : HubState) (j : LogState) (up : ℕ) (ms : List (Option ℕ)) (h : Option ℕ) (d : Database) (old a b new : List ℕ)
     → h ≡ holder_conn s.held.holder → d ≡ s.held.database → a ≡ old ++ codes "{\"connections\":["
-    → b ≡ a ++ listed (connection_text h) 0 row → new ≡ b ++ database_text h j up ms d → new ≡ old ++ status_line row s j up ms
-status_joined row s j up ms h d old a b new eh ed ea eb en =
+    → b ≡ a ++ listed (connection_text h) 0 clients → new ≡ b ++ database_text h j up ms d → new ≡ old ++ status_line clients s j up ms
+status_joined clients s j up ms h d old a b new eh ed ea eb en =
     let k = codes "{\"connections\":[" in
-    let cs = listed (connection_text h) 0 row in
+    let cs = listed (connection_text h) 0 clients in
     let db = database_text h j up ms d in
     en ∙ ap (λ t. t ++ db) (eb ∙ ap (λ t. t ++ cs) ea) ∙ append_assoc (old ++ k) cs db ∙ append_assoc old k (cs ++ db)
-    ∙ ap (λ x. old ++ (k ++ (listed (connection_text x) 0 row ++ database_text x j up ms d))) eh
-    ∙ ap (λ x. old ++ (k ++ (listed (connection_text (holder_conn s.held.holder)) 0 row ++ database_text (holder_conn s.held.holder) j up ms x))) ed
+    ∙ ap (λ x. old ++ (k ++ (listed (connection_text x) 0 clients ++ database_text x j up ms d))) eh
+    ∙ ap (λ x. old ++ (k ++ (listed (connection_text (holder_conn s.held.holder)) 0 clients ++ database_text (holder_conn s.held.holder) j up ms x))) ed
 
 -- ---- steps in which nothing is told
 
@@ -393,7 +393,7 @@ module _ {S : Type 0} where
       came_more remaining taken more x y z p q.stream q.waits q.first q.counts (was_open y z q.far)
       (λ is. (still_broken y z q.far is, (q.other (λ may. may.0.0 is)).1))
 
-  -- ---- a row
+  -- ---- a list
 
   pub each_heard : (xs ys : List Step) (b m : List (Client S)) → All (λ c. IsAsked c) b → EachTakes ys b m → AllTell ys → All (λ c. IsHeard (xs ++ ys) c) m
   each_heard xs ys b m asked takes all =
@@ -464,11 +464,11 @@ module _ {S : Type 0} where
       appended = p.appended;
       stays = p.stays;
       makes = p.makes;
-      row = p.row;
+      clients = p.clients;
       attends = p.attends;
       from = p.from;
       status = p.status;
-      «is» = subst (λ b. IsStatus p.appended p.stays b seconds p.row p.hub p.status) (sym same) p.«is»;
+      «is» = subst (λ b. IsStatus p.appended p.stays b seconds p.clients p.hub p.status) (sym same) p.«is»;
       told = so_join p.status schema xs ys p.told (quiet_so p.status schema ys quiet);
     }
 
@@ -484,7 +484,7 @@ module _ {S : Type 0} where
       appended = p.appended;
       stays = p.stays;
       makes = makes_then xs p.first start mid p.hub before between p.appended makes p.makes;
-      row = p.row;
+      clients = p.clients;
       attends = p.attends;
       from = λ c h. let r = p.from c h in (
         r.0,

@@ -1,5 +1,5 @@
 -- A holder's sessions are undone one by one: what its leaving would leave stays the same, and is there once it holds none.
--- Cited by `asking::part` and `asking::undo_all`.
+-- Cited by `asking::disconnect` and `asking::undo_all`.
 use Rattle.std.proofs.Common.{◌≡◌, inl, inr, ℕ, suc, ◌-◌, ◌<◌, List, [], ◌∷◌, Bool, true, false, not, cond, nat_eq, nat_le, codes}
 use Rattle.std.proofs.Common.{Option, Some, None, Result, Ok, Err, refl, sym, ap, ◌∙◌, subst, arith}
 use Rattle.mi_value.specs.declared.refusal.Refusal.TheVariants.{Busy}
@@ -21,10 +21,10 @@ use Rattle.mi_hub.specs.Run.{HubState, piece, cut, Done}
 use Rattle.mi_hub.specs.Served.{InTurn}
 use Rattle.mi_hub.proofs.LineLemmas.{lines_from-nothing}
 use Rattle.mi_replay.specs.Journal.{undo_line}
-use Rattle.mi_ledger.specs.Ledger.{holder_conn}
+use Rattle.mi_durable.specs.Durable.{holder_conn}
 use Rattle.mi_hub.proofs.OneLineLemmas.{whole_line}
 use Rattle.mi_clients.specs.Steps.{undo_bytes, HoldsSome}
-use Rattle.mi_clients.proofs.RowLemmas.{test_of, is_same}
+use Rattle.mi_clients.proofs.ClientsLemmas.{test_of, is_same}
 
 -- ---- what the line is answered
 

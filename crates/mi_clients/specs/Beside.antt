@@ -1,8 +1,8 @@
--- The connection beside those of a row. It asks "{\"service\":\"status\"}⏎{\"cmd\":\"start\"}⏎": it is told the status, and then that there is no place
+-- The connection beside those of a list. It asks "{\"service\":\"status\"}⏎{\"cmd\":\"start\"}⏎": it is told the status, and then that there is no place
 -- for it. No more of it is read, and it goes once it has taken both.
 use Rattle.std.specs.Prelude.{◌≡◌, ◌⊎◌, ◌<◌, ℕ, List, [], ◌∷◌, length, ◌++◌, Bool, true, false, not, IsFalse, Option, Some, None, option_and_then, if◌then◌else◌}
 use Rattle.mi_hub.specs.OneLine.{IsWholeLine}
-use Rattle.mi_ledger.specs.HeldReplies.{bytes_of}
+use Rattle.mi_durable.specs.HeldReplies.{bytes_of}
 use Rattle.mi_clients.specs.Client.{owed, Owes, IsServed, IsAsFar, IsOver, HasNoLine, HasRoom, HasSent, AsksWhatCame, ends_after}
 use Rattle.mi_clients.specs.Ending.{EachEnded}
 use Rattle.mi_clients.specs.Input.{waiting, count_on}
@@ -10,7 +10,7 @@ use Rattle.mi_clients.specs.ServiceLines.{is_service, places_line, told_beside}
 use Rattle.mi_clients.specs.Silence.{IsSilent, IsJudged}
 use Rattle.mi_clients.specs.declared.client.Client.{Client}
 use Rattle.mi_clients.specs.declared.client.Phase.{Phase}
-use Rattle.mi_clients.specs.declared.client.Phase.TheVariants.{Open, Ended, Asked, Broken}
+use Rattle.mi_clients.specs.declared.client.Phase.TheVariants.{Open, Ended, Drained, Broken}
 use Rattle.mi_clients.specs.declared.client.TheConstants.{MOST_UNSENT}
 
 -- A text is told to a line, or there is neither.
@@ -85,7 +85,7 @@ pub record IsTurnedAway {S : Type 0} (old new : Client S) : Type 0 where
   pub held : new.held ≡ old.held
   pub ends : new.ends ≡ old.ends
 
--- What becomes of it at this second: it is turned away where nothing was told to it before, and else judged as one of a row is.
+-- What becomes of it at this second: it is turned away where nothing was told to it before, and else judged as one of a list is.
 abbrev pub IsJudgedBeside : {S : Type 0} → Option ℕ → ℕ → Client S → Client S → Type 0
 IsJudgedBeside limit now old new = (IsIdler limit now old × IsTurnedAway old new) ⊎ (¬ IsIdler limit now old × IsJudged limit now old new)
 
@@ -94,7 +94,7 @@ abbrev pub JudgedThere : {S : Type 0} → Option ℕ → ℕ → Option (Client 
 JudgedThere limit now None new = new ≡ None
 JudgedThere {S} limit now (Some old) new = (c : Client S) × (new ≡ Some c) × IsJudgedBeside limit now old c
 
--- of a row the connection of this number was given up, where one is named
+-- of a list the connection of this number was given up, where one is named
 abbrev pub EndedAs : {S : Type 0} → Option ℕ → List (Client S) → List (Client S) → Type 0
 EndedAs None olds news = news ≡ olds
 EndedAs (Some n) olds news = EachEnded n olds news

@@ -1,7 +1,7 @@
 -- What a connection is to be sent, and what becomes of that while some steps are made.
 use Rattle.std.specs.Prelude.{◌≡◌, ◌⊎◌, ◌≤◌, ◌<◌, ◌==◌, ◌||◌, ℕ, ℤ, Bool, true, List, [], ◌∷◌, ◌++◌, length, IsTrue, IsFalse, Option, IfSome, IsSome, if◌then◌else◌}
 use Rattle.std.specs.Io.KnownBytes.{Appends, Consumes, IsAtEnd}
-use Rattle.mi_ledger.specs.HeldReplies.{bytes_of}
+use Rattle.mi_durable.specs.HeldReplies.{bytes_of}
 use Rattle.mi_clients.specs.Output.{unsent, HoldsNothing}
 use Rattle.mi_clients.specs.Input.{waiting, count_on}
 use Rattle.mi_clients.specs.Lines.{SameLines, Ends}
@@ -9,10 +9,10 @@ use Rattle.mi_clients.specs.Heard.{heard, still_first, is_last}
 use Rattle.mi_clients.specs.Stream.{one_more}
 use Rattle.mi_clients.specs.ServiceLines.{is_service, ended_in}
 use Rattle.mi_clients.specs.Steps.{Step, IsAskOf, given_to, told_by, since_after}
-use Rattle.mi_ledger.specs.Journals.{IsWholeLine}
+use Rattle.mi_durable.specs.Journals.{IsWholeLine}
 use Rattle.mi_hub.specs.Ended.{ended}
 use Rattle.mi_clients.specs.declared.client.Client.{Client}
-use Rattle.mi_clients.specs.declared.client.Phase.TheVariants.{Open, Ended, Asked, Broken}
+use Rattle.mi_clients.specs.declared.client.Phase.TheVariants.{Open, Ended, Drained, Broken}
 use Rattle.mi_clients.specs.declared.client.TheConstants.{MOST_UNSENT}
 
 -- the replies that its stream hasn't taken: those that were handed out, and then those that are held
@@ -42,7 +42,7 @@ pub record IsServed {S : Type 0} (contents : S → Option (List ℕ)) (given : L
 
 -- it is over, and to be let go: its stream has failed, or all its lines are asked and it is owed nothing
 abbrev pub IsOver : {S : Type 0} → Client S → Type 0
-IsOver c = (c.phase ≡ Broken) ⊎ ((c.phase ≡ Asked) × (owed c ≡ []))
+IsOver c = (c.phase ≡ Broken) ⊎ ((c.phase ≡ Drained) × (owed c ≡ []))
 
 -- so little of its replies is unsent that a line may be asked
 abbrev pub HasRoom : {S : Type 0} → Client S → Type 0

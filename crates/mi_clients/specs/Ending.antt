@@ -9,34 +9,34 @@ use Rattle.mi_clients.specs.declared.client.Phase.TheVariants.{Broken}
 abbrev pub forgotten : {S : Type 0} → Client S → Client S
 forgotten c = record c { ends = None }
 
--- of none of a row anything is noted
+-- of none of a list anything is noted
 abbrev pub NoneEnds : {S : Type 0} → List (Client S) → Type 0
-NoneEnds row = All (λ c. c.ends ≡ None) row
+NoneEnds clients = All (λ c. c.ends ≡ None) clients
 
--- the first of a row of which something is noted has asked to end this number; that is forgotten, and nothing else is another
+-- the first of a list of which something is noted has asked to end this number; that is forgotten, and nothing else is another
 abbrev pub TakesEnd : {S : Type 0} → ℕ → List (Client S) → List (Client S) → Type 0
 TakesEnd n [] news = ⊥
-TakesEnd {S} n (c ∷ row) news =
-    ((c.ends ≡ Some n) × (news ≡ forgotten c ∷ row))
-    ⊎ ((c.ends ≡ None) × (rest : List (Client S)) × (news ≡ c ∷ rest) × TakesEnd n row rest)
+TakesEnd {S} n (c ∷ clients) news =
+    ((c.ends ≡ Some n) × (news ≡ forgotten c ∷ clients))
+    ⊎ ((c.ends ≡ None) × (rest : List (Client S)) × (news ≡ c ∷ rest) × TakesEnd n clients rest)
 
 -- it is given up where it has this number, and else as it was
 abbrev pub IsEnded : {S : Type 0} → ℕ → Client S → Client S → Type 0
 IsEnded n old new = ((old.conn ≡ n) × IsGivenUp old new) ⊎ (¬ (old.conn ≡ n) × (new ≡ old))
 
--- so is each of a row
+-- so is each of a list
 abbrev pub EachEnded : {S : Type 0} → ℕ → List (Client S) → List (Client S) → Type 0
 EachEnded n olds news = AllZip (λ old new. IsEnded n old new) olds news
 
--- some of a row has asked to end this number
+-- some of a list has asked to end this number
 abbrev pub HasAsked : {S : Type 0} → ℕ → List (Client S) → Type 0
 HasAsked n [] = ⊥
-HasAsked n (c ∷ row) = (c.ends ≡ Some n) ⊎ HasAsked n row
+HasAsked n (c ∷ clients) = (c.ends ≡ Some n) ⊎ HasAsked n clients
 
--- the connection of this number is broken, where it is in a row
+-- the connection of this number is broken, where it is in a list
 abbrev pub IsBroken : {S : Type 0} → ℕ → List (Client S) → Type 0
 IsBroken n [] = Unit {0}
-IsBroken n (c ∷ row) = (c.conn ≡ n → c.phase ≡ Broken) × IsBroken n row
+IsBroken n (c ∷ clients) = (c.conn ≡ n → c.phase ≡ Broken) × IsBroken n clients
 
 -- it is as far as it was, and its stream is the same
 abbrev pub IsAsBefore : {S : Type 0} → ℕ → List (Client S) → List (Client S) → Type 0

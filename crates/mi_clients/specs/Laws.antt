@@ -6,7 +6,7 @@ use Rattle.mi_commands.specs.Holder.{HeldDatabase}
 use Rattle.mi_hub.specs.Run.{HubState}
 use Rattle.mi_replay.specs.Replayed.{replayed}
 use Rattle.mi_clients.specs.Steps.{Step, Makes, HoldsSome}
-use Rattle.mi_clients.specs.Row.{ids, AllDiffer, SameStreams}
+use Rattle.mi_clients.specs.Clients.{ids, AllDiffer, SameStreams}
 use Rattle.mi_clients.specs.declared.client.Client.{Client}
 
 -- so it is behind all steps of a service

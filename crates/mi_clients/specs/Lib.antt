@@ -9,7 +9,7 @@ pub mod Output
 pub mod Stream
 pub mod Client
 pub mod Status
-pub mod Row
+pub mod Clients
 pub mod Silence
 pub mod Ending
 pub mod Beside

@@ -37,6 +37,6 @@ IsJudged limit now old new =
     (IsTrue old.has_come × IsNoted now old new)
     ⊎ (IsFalse old.has_come × ((IsSilent limit now old × IsGivenUp old new) ⊎ (¬ IsSilent limit now old × (new ≡ old))))
 
--- so is each of a row judged, where this connection holds sessions
+-- so is each of a list judged, where this connection holds sessions
 abbrev pub EachJudged : {S : Type 0} → Limits → Option ℕ → ℕ → List (Client S) → List (Client S) → Type 0
 EachJudged limits holder now olds news = AllZip (λ old new. IsJudged (limit_of limits holder old.conn) now old new) olds news

@@ -10,7 +10,7 @@ use Rattle.mi_model.specs.Database.{Database, table_of, depth}
 use Rattle.mi_model.specs.Table.{size}
 use Rattle.mi_hub.specs.Run.{HubState}
 use Rattle.mi_log.specs.declared.log.LogState.{LogState}
-use Rattle.mi_ledger.specs.Ledger.{holder_conn, is_conn}
+use Rattle.mi_durable.specs.Durable.{holder_conn, is_conn}
 use Rattle.mi_clients.specs.Client.{owed}
 use Rattle.mi_clients.specs.declared.client.Client.{Client}
 
@@ -85,14 +85,14 @@ database_text holder j seconds memories d =
 
 -- the status of a service with these connections over this hub, of its journal, and of its tables' memory, so many seconds after its start
 abbrev pub status_line : {S : Type 0} → List (Client S) → HubState → LogState → ℕ → List (Option ℕ) → List ℕ
-status_line row s j seconds memories =
-    codes "{\"connections\":[" ++ (listed (connection_text (holder_conn s.held.holder)) 0 row
+status_line clients s j seconds memories =
+    codes "{\"connections\":[" ++ (listed (connection_text (holder_conn s.held.holder)) 0 clients
     ++ database_text (holder_conn s.held.holder) j seconds memories s.held.database)
 
 -- a line tells that status by some memory of each table: how much it is isn't said by any definition
 abbrev pub TellsStatus : {S : Type 0} → List (Client S) → HubState → LogState → ℕ → List ℕ → Type 0
-TellsStatus row s j seconds line =
-    (memories : List (Option ℕ)) × (length memories ≡ length s.held.database.catalog.tables) × (line ≡ status_line row s j seconds memories)
+TellsStatus clients s j seconds line =
+    (memories : List (Option ℕ)) × (length memories ≡ length s.held.database.catalog.tables) × (line ≡ status_line clients s j seconds memories)
 
 -- what is told where memory for a status is refused
 abbrev pub memory_line : List ℕ
@@ -109,5 +109,5 @@ IsStateOf appended stays lacks j = (j.is_full ≡ lacks) × Counts appended j.by
 -- a line tells that status, so many seconds after the start, with a journal to which this was appended, of which this stays, and that lacks room
 -- or doesn't; or that memory for it is refused
 abbrev pub IsStatus : {S : Type 0} → Option (List ℕ) → Option (List ℕ) → Bool → ℕ → List (Client S) → HubState → List ℕ → Type 0
-IsStatus appended stays lacks seconds row s line =
-    ((j : LogState) × IsStateOf appended stays lacks j × TellsStatus row s j seconds line) ⊎ (line ≡ memory_line)
+IsStatus appended stays lacks seconds clients s line =
+    ((j : LogState) × IsStateOf appended stays lacks j × TellsStatus clients s j seconds line) ⊎ (line ≡ memory_line)

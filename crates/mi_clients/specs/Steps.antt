@@ -5,9 +5,9 @@ use Rattle.mi_commands.specs.declared.holder.Holder.{Holder}
 use Rattle.mi_hub.specs.Run.{HubState, Event, attach, piece, cut, Done}
 use Rattle.mi_replay.specs.Acts.{Act}
 use Rattle.mi_replay.specs.RunActs.{ActsOfDone}
-use Rattle.mi_ledger.specs.Journals.{Journals}
-use Rattle.mi_ledger.specs.Ledger.{holder_conn, is_conn}
-use Rattle.mi_ledger.specs.Room.{IsTurnedAway}
+use Rattle.mi_durable.specs.Journals.{Journals}
+use Rattle.mi_durable.specs.Durable.{holder_conn, is_conn}
+use Rattle.mi_durable.specs.Room.{IsTurnedAway}
 use Rattle.mi_model.specs.Database.{depth}
 use Rattle.mi_clients.specs.Input.{count_on}
 use Rattle.mi_clients.specs.ServiceLines.{is_service, told_to}

@@ -1,12 +1,12 @@
-//! The lines of one connection, asked of the ledger. It reads and writes no stream.
+//! The lines of one connection, asked of the durable hub. It reads and writes no stream.
 ghost use Rattle.std.specs.Prelude.{◌≡◌, ◌⊎◌, ◌<◌, ◌++◌, ℕ, List, [], ◌∷◌, Some, Err, true, false, not, ◌&&◌, length, IsTrue, IsFalse, OnOk, OnErr, IfOk, IsOk};
 ghost use Rattle.std.specs.Io.KnownBytes.{Keeps};
 ghost use Rattle.mi_commands.specs.Holder.{held_by, released};
 ghost use Rattle.mi_hub.specs.Connections.{rest_at, others};
-ghost use Rattle.mi_ledger.specs.Ledger.{hub_of, log_of, IsSettled, holder_conn, is_conn};
+ghost use Rattle.mi_durable.specs.Durable.{hub_of, log_of, IsSettled, holder_conn, is_conn};
 ghost use Rattle.mi_clients.specs.Steps.{Step, Makes, IsAskOf, is_denial, since_after, GivesNone, AsksNone, AreAsks, AreUndos, LeavesOthers, HoldsSome};
 ghost use Rattle.mi_clients.specs.Input.{waiting, count_on};
-ghost use Rattle.mi_ledger.specs.HeldReplies.{bytes_of};
+ghost use Rattle.mi_durable.specs.HeldReplies.{bytes_of};
 ghost use Rattle.mi_clients.specs.Output.{unsent};
 ghost use Rattle.mi_clients.specs.Client.{owed, Owes, IsWhole, IsAsked, IsAtService, IsAsFar, AsksWithin, MayAsk};
 ghost use Rattle.mi_hub.specs.Ended.{ended};
@@ -14,7 +14,7 @@ ghost use Rattle.mi_clients.specs.declared.client.Phase.TheVariants as phases;
 
 use crate::client::{Client, Phase};
 use crate::service_lines::is_service;
-use mi_ledger::{HeldReplies, Ledger, LedgerFault, is_holder};
+use mi_durable::{Durable, DurableFault, HeldReplies, is_holder};
 use mi_log::Log;
 use mi_sessions::Sessions;
 use mi_value::limits::MAX_SESSIONS;
@@ -49,61 +49,61 @@ pub(crate) fn take_held<S>(client: &mut Client<S>) -> HeldReplies
 
 /// Hands the replies of a connection out, once all that was appended stays. One whose replies have no room is broken.
 pub fn release<D: Sessions + Drop, L: Log + Drop, S>(
-    ledger: &mut Ledger<D, L>,
+    durable: &mut Durable<D, L>,
     client: &mut Client<S>,
-) -> Result<(), LedgerFault>
-    requires settled { IsSettled L.appended L.synced ledger.old }
-    ensures stays { OnOk result ((client.new ≡ client.old) ⊎ Keeps (L.appended (log_of ledger.new)) (L.synced (log_of ledger.new))) }
+) -> Result<(), DurableFault>
+    requires settled { IsSettled L.appended L.synced durable.old }
+    ensures stays { OnOk result ((client.new ≡ client.old) ⊎ Keeps (L.appended (log_of durable.new)) (L.synced (log_of durable.new))) }
     ensures owes { OnOk result (Owes [] client.old client.new) }
     ensures phase { OnOk result ((client.new.phase ≡ phases.Broken) ⊎ (client.new.phase ≡ client.old.phase)) }
     ensures input { OnOk result (client.new.input ≡ client.old.input) }
     ensures has_lines { OnOk result (client.new.has_lines ≡ client.old.has_lines) }
     ensures none { OnOk result (bytes_of client.new.held ≡ []) }
     ensures unsent { OnErr result (client.new.output ≡ client.old.output) }
-    ensures hub { hub_of ledger.new ≡ hub_of ledger.old }
-    ensures appended { Keeps (L.appended (log_of ledger.old)) (L.appended (log_of ledger.new)) }
-    ensures room { OnOk result (L.lacks_room (log_of ledger.new) ≡ L.lacks_room (log_of ledger.old)) }
-    ensures failed { OnErr result ((result ≡ Err LedgerFault.Journal) × (L.has_failed (log_of ledger.new) ≡ true)) }
-    ensures settled { IsSettled L.appended L.synced ledger.new }
+    ensures hub { hub_of durable.new ≡ hub_of durable.old }
+    ensures appended { Keeps (L.appended (log_of durable.old)) (L.appended (log_of durable.new)) }
+    ensures room { OnOk result (L.lacks_room (log_of durable.new) ≡ L.lacks_room (log_of durable.old)) }
+    ensures failed { OnErr result ((result ≡ Err DurableFault.Journal) × (L.has_failed (log_of durable.new) ≡ true)) }
+    ensures settled { IsSettled L.appended L.synced durable.new }
 {
     if client.held.is_empty() {
         return Ok(());
     }
     let held = take_held(client);
-    let bytes = ledger.release(held)?;
+    let bytes = durable.release(held)?;
     hand_out(client, bytes);
     Ok(())
 }
 
 /// The same where that is done for each line.
 fn release_each<D: Sessions + Drop, L: Log + Drop, S>(
-    ledger: &mut Ledger<D, L>,
+    durable: &mut Durable<D, L>,
     client: &mut Client<S>,
     each: bool,
-) -> Result<(), LedgerFault>
-    requires settled { IsSettled L.appended L.synced ledger.old }
-    ensures stays { OnOk result ((client.new ≡ client.old) ⊎ Keeps (L.appended (log_of ledger.new)) (L.synced (log_of ledger.new))) }
+) -> Result<(), DurableFault>
+    requires settled { IsSettled L.appended L.synced durable.old }
+    ensures stays { OnOk result ((client.new ≡ client.old) ⊎ Keeps (L.appended (log_of durable.new)) (L.synced (log_of durable.new))) }
     ensures owes { OnOk result (Owes [] client.old client.new) }
     ensures phase { OnOk result ((client.new.phase ≡ phases.Broken) ⊎ (client.new.phase ≡ client.old.phase)) }
     ensures input { OnOk result (client.new.input ≡ client.old.input) }
-    ensures hub { hub_of ledger.new ≡ hub_of ledger.old }
-    ensures appended { Keeps (L.appended (log_of ledger.old)) (L.appended (log_of ledger.new)) }
-    ensures room { OnOk result (L.lacks_room (log_of ledger.new) ≡ L.lacks_room (log_of ledger.old)) }
-    ensures failed { OnErr result ((result ≡ Err LedgerFault.Journal) × (L.has_failed (log_of ledger.new) ≡ true)) }
-    ensures settled { IsSettled L.appended L.synced ledger.new }
+    ensures hub { hub_of durable.new ≡ hub_of durable.old }
+    ensures appended { Keeps (L.appended (log_of durable.old)) (L.appended (log_of durable.new)) }
+    ensures room { OnOk result (L.lacks_room (log_of durable.new) ≡ L.lacks_room (log_of durable.old)) }
+    ensures failed { OnErr result ((result ≡ Err DurableFault.Journal) × (L.has_failed (log_of durable.new) ≡ true)) }
+    ensures settled { IsSettled L.appended L.synced durable.new }
 {
     if each {
-        release(ledger, client)
+        release(durable, client)
     } else {
         Ok(())
     }
 }
 
 /// Whether a connection holds sessions.
-fn holds_some<D: Sessions + Drop, L: Log + Drop>(ledger: &Ledger<D, L>, conn: u64) -> bool
-    ensures { result ≡ is_conn (holder_conn (hub_of ledger.now).held.holder) conn }
+fn holds_some<D: Sessions + Drop, L: Log + Drop>(durable: &Durable<D, L>, conn: u64) -> bool
+    ensures { result ≡ is_conn (holder_conn (hub_of durable.now).held.holder) conn }
 {
-    is_holder(ledger.hub().holder(), conn)
+    is_holder(durable.hub().holder(), conn)
 }
 
 /// Whether a connection begins to hold sessions: it held none before, and holds some.
@@ -124,28 +124,28 @@ enum Found {
     Service,
 }
 
-/// Asks the first whole line of a connection that waits, where it is none of the service's own. It is turned away where the ledger has no
+/// Asks the first whole line of a connection that waits, where it is none of the service's own. It is turned away where the durable hub has no
 /// room for it.
 fn ask_line<D: Sessions + Drop, L: Log + Drop, S>(
-    ledger: &mut Ledger<D, L>,
+    durable: &mut Durable<D, L>,
     client: &mut Client<S>,
-) -> Result<Found, LedgerFault>
-    requires here { rest_at client.old.conn (hub_of ledger.old).attached ≡ Some (Some []) }
+) -> Result<Found, DurableFault>
+    requires here { rest_at client.old.conn (hub_of durable.old).attached ≡ Some (Some []) }
     requires lines { IsTrue client.old.has_lines }
     ensures one { IfOk result (λ found. found ≡ Found.Asked → (line : List ℕ) × (out : List ℕ) × (step : Step)
         × IsAskOf client.old.conn line out step × (0 < length line)
         × (waiting client.old.input ≡ line ++ waiting client.new.input) × (owed client.new ≡ owed client.old ++ out)
-        × Makes (step ∷ []) (hub_of ledger.old) (hub_of ledger.new) (L.appended (log_of ledger.old)) (L.appended (log_of ledger.new))
-        × (is_denial step ≡ true → L.lacks_room (log_of ledger.new) ≡ true)
+        × Makes (step ∷ []) (hub_of durable.old) (hub_of durable.new) (L.appended (log_of durable.old)) (L.appended (log_of durable.new))
+        × (is_denial step ≡ true → L.lacks_room (log_of durable.new) ≡ true)
         × (client.new.input.lines ≡ count_on client.old.input.lines line)
         × (client.new.input.since ≡ since_after client.old.conn client.old.input.lines client.old.input.since (step ∷ []))) }
-    ensures none { IfOk result (λ found. found ≡ Found.Nothing → (client.new ≡ client.old) × (ledger.new ≡ ledger.old) × (ended (waiting client.old.input) ≡ [])) }
-    ensures service { IfOk result (λ found. found ≡ Found.Service → (client.new ≡ client.old) × (ledger.new ≡ ledger.old) × IsAtService client.old) }
+    ensures none { IfOk result (λ found. found ≡ Found.Nothing → (client.new ≡ client.old) × (durable.new ≡ durable.old) × (ended (waiting client.old.input) ≡ [])) }
+    ensures service { IfOk result (λ found. found ≡ Found.Service → (client.new ≡ client.old) × (durable.new ≡ durable.old) × IsAtService client.old) }
     ensures same { OnOk result ((client.new.conn ≡ client.old.conn) × (client.new.phase ≡ client.old.phase) × (client.new.stream ≡ client.old.stream)) }
     ensures first { OnOk result (client.new.input.is_first ≡ client.old.input.is_first) }
-    ensures attached { OnOk result ((hub_of ledger.new).attached ≡ (hub_of ledger.old).attached) }
-    ensures failed { result ≡ Err LedgerFault.Journal → L.has_failed (log_of ledger.new) ≡ true }
-    ensures settled { IsSettled L.appended L.synced ledger.old → IsSettled L.appended L.synced ledger.new }
+    ensures attached { OnOk result ((hub_of durable.new).attached ≡ (hub_of durable.old).attached) }
+    ensures failed { result ≡ Err DurableFault.Journal → L.has_failed (log_of durable.new) ≡ true }
+    ensures settled { IsSettled L.appended L.synced durable.old → IsSettled L.appended L.synced durable.new }
 {
     let Some(line) = client.input.line() else {
         return Ok(Found::Nothing);
@@ -153,9 +153,9 @@ fn ask_line<D: Sessions + Drop, L: Log + Drop, S>(
     if is_service(line) {
         return Ok(Found::Service);
     }
-    let held = holds_some(ledger, client.conn);
-    ledger.ask_in_room(client.alloc, client.conn, line, &mut client.held)?;
-    let holds = holds_some(ledger, client.conn);
+    let held = holds_some(durable, client.conn);
+    durable.ask_in_room(client.alloc, client.conn, line, &mut client.held)?;
+    let holds = holds_some(durable, client.conn);
     let begins = begins_to_hold(held, holds);
     let count = line.len();
     client.input.pass(count, begins);
@@ -165,16 +165,16 @@ fn ask_line<D: Sessions + Drop, L: Log + Drop, S>(
 /// Asks the lines of a connection that have come, as long as its replies have room: all of them, unless it breaks, or the room ends, or the
 /// next is the service's own. With `each` a reply is handed out, behind a sync, before the next line is asked.
 pub fn ask_lines<D: Sessions + Drop, L: Log + Drop, S>(
-    ledger: &mut Ledger<D, L>,
+    durable: &mut Durable<D, L>,
     client: &mut Client<S>,
     each: bool,
-) -> Result<(), LedgerFault>
-    requires here { rest_at client.old.conn (hub_of ledger.old).attached ≡ Some (Some []) }
-    requires settled { IsSettled L.appended L.synced ledger.old }
+) -> Result<(), DurableFault>
+    requires here { rest_at client.old.conn (hub_of durable.old).attached ≡ Some (Some []) }
+    requires settled { IsSettled L.appended L.synced durable.old }
     ensures asks { OnOk result ((steps : List Step) × (taken : List ℕ) × (given : List ℕ) × AreAsks client.old.conn steps taken given
         × (waiting client.old.input ≡ taken ++ waiting client.new.input)
         × Owes given client.old client.new
-        × Makes steps (hub_of ledger.old) (hub_of ledger.new) (L.appended (log_of ledger.old)) (L.appended (log_of ledger.new))
+        × Makes steps (hub_of durable.old) (hub_of durable.new) (L.appended (log_of durable.old)) (L.appended (log_of durable.new))
         × AsksWithin client.old steps
         × (client.new.input.lines ≡ count_on client.old.input.lines taken)
         × (client.new.input.since ≡ since_after client.old.conn client.old.input.lines client.old.input.since steps)) }
@@ -182,13 +182,13 @@ pub fn ask_lines<D: Sessions + Drop, L: Log + Drop, S>(
     ensures phase { OnOk result (IsAsFar client.old client.new) }
     ensures first { OnOk result (client.new.input.is_first ≡ client.old.input.is_first) }
     ensures idle { ¬ MayAsk client.old → IsOk result × (client.new ≡ client.old) }
-    ensures attached { OnOk result ((hub_of ledger.new).attached ≡ (hub_of ledger.old).attached) }
-    ensures failed { result ≡ Err LedgerFault.Journal → L.has_failed (log_of ledger.new) ≡ true }
-    ensures settled { OnOk result (IsSettled L.appended L.synced ledger.new) }
+    ensures attached { OnOk result ((hub_of durable.new).attached ≡ (hub_of durable.old).attached) }
+    ensures failed { result ≡ Err DurableFault.Journal → L.has_failed (log_of durable.new) ≡ true }
+    ensures settled { OnOk result (IsSettled L.appended L.synced durable.new) }
 {
     'lines: while client.may_ask() {
-        match ask_line(ledger, client)? {
-            Found::Asked => release_each(ledger, client, each)?,
+        match ask_line(durable, client)? {
+            Found::Asked => release_each(durable, client, each)?,
             Found::Nothing => {
                 client.has_lines = false;
                 return Ok(());
@@ -203,78 +203,78 @@ pub fn ask_lines<D: Sessions + Drop, L: Log + Drop, S>(
 /// changes.
 pub fn undo_all<D: Sessions + Drop, L: Log + Drop>(
     alloc: Global,
-    ledger: &mut Ledger<D, L>,
+    durable: &mut Durable<D, L>,
     conn: u64,
-) -> Result<(), LedgerFault>
-    requires here { rest_at conn (hub_of ledger.old).attached ≡ Some (Some []) }
+) -> Result<(), DurableFault>
+    requires here { rest_at conn (hub_of durable.old).attached ≡ Some (Some []) }
     ensures undoes { OnOk result ((steps : List Step) × AreUndos conn steps
-        × Makes steps (hub_of ledger.old) (hub_of ledger.new) (L.appended (log_of ledger.old)) (L.appended (log_of ledger.new))) }
-    ensures none { OnOk result (held_by conn (hub_of ledger.new).held.holder ≡ 0) }
-    ensures left { OnOk result (HoldsSome (hub_of ledger.old).held.holder → (hub_of ledger.new).held ≡ released conn (hub_of ledger.old).held) }
-    ensures still { ¬ (holder_conn (hub_of ledger.old).held.holder ≡ Some conn) → ledger.new ≡ ledger.old }
-    ensures room { OnOk result (L.lacks_room (log_of ledger.new) ≡ L.lacks_room (log_of ledger.old)) }
-    ensures makes_stay { L.makes_stay (log_of ledger.new) ≡ L.makes_stay (log_of ledger.old) }
-    ensures attached { OnOk result ((hub_of ledger.new).attached ≡ (hub_of ledger.old).attached) }
-    ensures failed { result ≡ Err LedgerFault.Journal → L.has_failed (log_of ledger.new) ≡ true }
-    ensures settled { IsSettled L.appended L.synced ledger.old → IsSettled L.appended L.synced ledger.new }
+        × Makes steps (hub_of durable.old) (hub_of durable.new) (L.appended (log_of durable.old)) (L.appended (log_of durable.new))) }
+    ensures none { OnOk result (held_by conn (hub_of durable.new).held.holder ≡ 0) }
+    ensures left { OnOk result (HoldsSome (hub_of durable.old).held.holder → (hub_of durable.new).held ≡ released conn (hub_of durable.old).held) }
+    ensures still { ¬ (holder_conn (hub_of durable.old).held.holder ≡ Some conn) → durable.new ≡ durable.old }
+    ensures room { OnOk result (L.lacks_room (log_of durable.new) ≡ L.lacks_room (log_of durable.old)) }
+    ensures makes_stay { L.makes_stay (log_of durable.new) ≡ L.makes_stay (log_of durable.old) }
+    ensures attached { OnOk result ((hub_of durable.new).attached ≡ (hub_of durable.old).attached) }
+    ensures failed { result ≡ Err DurableFault.Journal → L.has_failed (log_of durable.new) ≡ true }
+    ensures settled { IsSettled L.appended L.synced durable.old → IsSettled L.appended L.synced durable.new }
 {
     let mut unheard = HeldReplies::new(alloc);
     'sessions: for _session in 0..=MAX_SESSIONS {
-        if !ledger.holds(conn) {
+        if !durable.holds(conn) {
             return Ok(());
         }
-        ledger.ask(conn, UNDO, &mut unheard)?;
+        durable.ask(conn, UNDO, &mut unheard)?;
     }
-    Err(LedgerFault::Memory)
+    Err(DurableFault::Memory)
 }
 
 /// Once all lines of a connection are asked whose bytes have ended, its sessions are undone. Before that nothing changes.
-pub fn settle<D: Sessions + Drop, L: Log + Drop, S>(
-    ledger: &mut Ledger<D, L>,
+pub fn finish<D: Sessions + Drop, L: Log + Drop, S>(
+    durable: &mut Durable<D, L>,
     client: &mut Client<S>,
-) -> Result<(), LedgerFault>
-    requires here { rest_at client.old.conn (hub_of ledger.old).attached ≡ Some (Some []) }
+) -> Result<(), DurableFault>
+    requires here { rest_at client.old.conn (hub_of durable.old).attached ≡ Some (Some []) }
     ensures undoes { OnOk result ((steps : List Step) × AreUndos client.old.conn steps × Owes [] client.old client.new
-        × Makes steps (hub_of ledger.old) (hub_of ledger.new) (L.appended (log_of ledger.old)) (L.appended (log_of ledger.new))
+        × Makes steps (hub_of durable.old) (hub_of durable.new) (L.appended (log_of durable.old)) (L.appended (log_of durable.new))
         × (¬ IsWhole client.old → steps ≡ [])) }
-    ensures still { IsWhole client.old ⊎ (ledger.new ≡ ledger.old) }
+    ensures still { IsWhole client.old ⊎ (durable.new ≡ durable.old) }
     ensures none { OnOk result ((client.new ≡ client.old)
-        ⊎ ((client.new.phase ≡ phases.Asked) × (IsWhole client.old × (held_by client.new.conn (hub_of ledger.new).held.holder ≡ 0)))) }
+        ⊎ ((client.new.phase ≡ phases.Drained) × (IsWhole client.old × (held_by client.new.conn (hub_of durable.new).held.holder ≡ 0)))) }
     ensures whole { OnOk result (¬ IsWhole client.new) }
     ensures idle { ¬ IsWhole client.old → IsOk result }
-    ensures left { OnOk result (IsWhole client.old → HoldsSome (hub_of ledger.old).held.holder
-        → (client.new.phase ≡ phases.Asked) × ((hub_of ledger.new).held ≡ released client.old.conn (hub_of ledger.old).held)) }
+    ensures left { OnOk result (IsWhole client.old → HoldsSome (hub_of durable.old).held.holder
+        → (client.new.phase ≡ phases.Drained) × ((hub_of durable.new).held ≡ released client.old.conn (hub_of durable.old).held)) }
     ensures input { OnOk result (client.new.input ≡ client.old.input) }
-    ensures attached { OnOk result ((hub_of ledger.new).attached ≡ (hub_of ledger.old).attached) }
-    ensures failed { result ≡ Err LedgerFault.Journal → L.has_failed (log_of ledger.new) ≡ true }
-    ensures settled { IsSettled L.appended L.synced ledger.old → IsSettled L.appended L.synced ledger.new }
+    ensures attached { OnOk result ((hub_of durable.new).attached ≡ (hub_of durable.old).attached) }
+    ensures failed { result ≡ Err DurableFault.Journal → L.has_failed (log_of durable.new) ≡ true }
+    ensures settled { IsSettled L.appended L.synced durable.old → IsSettled L.appended L.synced durable.new }
 {
     if client.phase == Phase::Ended && !client.has_lines {
-        undo_all(client.alloc, ledger, client.conn)?;
-        client.phase = Phase::Asked;
+        undo_all(client.alloc, durable, client.conn)?;
+        client.phase = Phase::Drained;
     }
     Ok(())
 }
 
 /// A connection goes away: the sessions that it holds are undone.
-pub fn part<D: Sessions + Drop, L: Log + Drop>(
+pub fn disconnect<D: Sessions + Drop, L: Log + Drop>(
     alloc: Global,
-    ledger: &mut Ledger<D, L>,
+    durable: &mut Durable<D, L>,
     conn: u64,
-) -> Result<(), LedgerFault>
-    requires here { rest_at conn (hub_of ledger.old).attached ≡ Some (Some []) }
+) -> Result<(), DurableFault>
+    requires here { rest_at conn (hub_of durable.old).attached ≡ Some (Some []) }
     ensures goes { OnOk result ((steps : List Step) × GivesNone steps
-        × Makes steps (hub_of ledger.old) (hub_of ledger.new) (L.appended (log_of ledger.old)) (L.appended (log_of ledger.new))
+        × Makes steps (hub_of durable.old) (hub_of durable.new) (L.appended (log_of durable.old)) (L.appended (log_of durable.new))
         × LeavesOthers conn steps × AsksNone steps) }
-    ensures left { OnOk result (HoldsSome (hub_of ledger.old).held.holder → (hub_of ledger.new).held ≡ released conn (hub_of ledger.old).held) }
-    ensures still { OnOk result (¬ (holder_conn (hub_of ledger.old).held.holder ≡ Some conn) → (hub_of ledger.new).held ≡ (hub_of ledger.old).held) }
-    ensures attached { OnOk result ((hub_of ledger.new).attached ≡ others conn (hub_of ledger.old).attached) }
-    ensures room { OnOk result (L.lacks_room (log_of ledger.new) ≡ L.lacks_room (log_of ledger.old)) }
-    ensures makes_stay { L.makes_stay (log_of ledger.new) ≡ L.makes_stay (log_of ledger.old) }
-    ensures failed { result ≡ Err LedgerFault.Journal → L.has_failed (log_of ledger.new) ≡ true }
-    ensures settled { IsSettled L.appended L.synced ledger.old → IsSettled L.appended L.synced ledger.new }
+    ensures left { OnOk result (HoldsSome (hub_of durable.old).held.holder → (hub_of durable.new).held ≡ released conn (hub_of durable.old).held) }
+    ensures still { OnOk result (¬ (holder_conn (hub_of durable.old).held.holder ≡ Some conn) → (hub_of durable.new).held ≡ (hub_of durable.old).held) }
+    ensures attached { OnOk result ((hub_of durable.new).attached ≡ others conn (hub_of durable.old).attached) }
+    ensures room { OnOk result (L.lacks_room (log_of durable.new) ≡ L.lacks_room (log_of durable.old)) }
+    ensures makes_stay { L.makes_stay (log_of durable.new) ≡ L.makes_stay (log_of durable.old) }
+    ensures failed { result ≡ Err DurableFault.Journal → L.has_failed (log_of durable.new) ≡ true }
+    ensures settled { IsSettled L.appended L.synced durable.old → IsSettled L.appended L.synced durable.new }
 {
-    undo_all(alloc, ledger, conn)?;
-    ledger.leave(conn);
+    undo_all(alloc, durable, conn)?;
+    durable.leave(conn);
     Ok(())
 }

@@ -1,9 +1,9 @@
-//! The place beside those of a row. A connection there is attached to no hub, so none of its lines can reach the tables: it is served the
+//! The place beside those of a list. A connection there is attached to no hub, so none of its lines can reach the tables: it is served the
 //! service's own lines alone, and turned away behind any other.
 ghost use Rattle.std.specs.Prelude.{◌≡◌, ◌<◌, ◌⊎◌, ◌↔◌, List, [], ℕ, Some, None, true, length, not, is_some, option_map, IsTrue, IsFalse, IfSome, if◌then◌else◌};
-ghost use Rattle.mi_ledger.specs.HeldReplies.{bytes_of};
-ghost use Rattle.mi_ledger.specs.Ledger.{hub_of, log_of};
-ghost use Rattle.mi_clients.specs.Row.{ids, IsNew};
+ghost use Rattle.mi_durable.specs.HeldReplies.{bytes_of};
+ghost use Rattle.mi_durable.specs.Durable.{hub_of, log_of};
+ghost use Rattle.mi_clients.specs.Clients.{ids, IsNew};
 ghost use Rattle.mi_clients.specs.Status.{IsStateOf, IsStatus, TellsStatus};
 ghost use Rattle.mi_log.specs.declared.log.LogState.{LogState};
 ghost use Rattle.std.specs.String.{string_bytes};
@@ -19,12 +19,12 @@ use crate::ending::end_one;
 use crate::schema_line::SchemaLine;
 use crate::service_lines::{PLACES, ended_in, is_service, told_beside};
 use crate::telling::{MEMORY, put_behind, status_now};
-use mi_ledger::Ledger;
+use mi_durable::Durable;
 use mi_log::Log;
 use mi_sessions::Sessions;
 use std::alloc::Global;
 
-/// The place beside those of a row, for one connection.
+/// The place beside those of a list, for one connection.
 #[derive(Drop)]
 pub struct Beside<S> {
     client: Option<Client<S>>,
@@ -67,35 +67,35 @@ fn answer<S>(client: &mut Client<S>, status: &[u8], schema: &SchemaLine)
 /// The line of the status, where a connection beside the others asks the service something. None where memory for it is refused.
 fn asked_status<D: Sessions + Drop, L: Log + Drop, S>(
     alloc: Global,
-    ledger: &Ledger<D, L>,
-    row: &[Client<S>],
+    durable: &Durable<D, L>,
+    clients: &[Client<S>],
     client: &Client<S>,
     seconds: u64,
 ) -> Option<String>
     ensures { IfSome result (λ line. (journal : LogState)
-        × IsStateOf (L.appended (log_of ledger.now)) (L.synced (log_of ledger.now)) (L.lacks_room (log_of ledger.now)) journal
-        × TellsStatus row.now (hub_of ledger.now) journal seconds (string_bytes line)) }
+        × IsStateOf (L.appended (log_of durable.now)) (L.synced (log_of durable.now)) (L.lacks_room (log_of durable.now)) journal
+        × TellsStatus clients.now (hub_of durable.now) journal seconds (string_bytes line)) }
 {
     if client.service_line().is_none() {
         return None;
     }
-    status_now(alloc, ledger, row, seconds)
+    status_now(alloc, durable, clients, seconds)
 }
 
-/// The same by the status of a row, a hub and its journal, so many seconds after the start.
+/// The same by the status of a list, a hub and its journal, so many seconds after the start.
 fn answer_now<D: Sessions + Drop, L: Log + Drop, S>(
     alloc: Global,
-    ledger: &Ledger<D, L>,
-    row: &[Client<S>],
+    durable: &Durable<D, L>,
+    clients: &[Client<S>],
     client: &mut Client<S>,
     schema: &SchemaLine,
     seconds: u64,
 )
-    ensures { (status : List ℕ) × IsStatus (L.appended (log_of ledger.now)) (L.synced (log_of ledger.now)) (L.lacks_room (log_of ledger.now)) seconds row.now
-        (hub_of ledger.now) status
+    ensures { (status : List ℕ) × IsStatus (L.appended (log_of durable.now)) (L.synced (log_of durable.now)) (L.lacks_room (log_of durable.now)) seconds clients.now
+        (hub_of durable.now) status
         × Answers status (line_of schema.now) client.old client.new }
 {
-    let line = asked_status(alloc, ledger, row, client, seconds);
+    let line = asked_status(alloc, durable, clients, client, seconds);
     match &line {
         Some(line) => answer(client, line.as_bytes(), schema),
         None => answer(client, MEMORY, schema),
@@ -103,35 +103,35 @@ fn answer_now<D: Sessions + Drop, L: Log + Drop, S>(
 }
 
 /// Once all lines of a connection are answered whose bytes have ended, it is to be let go when it has taken its replies.
-fn settle<S>(client: &mut Client<S>)
-    ensures settled { (client.new ≡ client.old) ⊎ ((client.new.phase ≡ phases.Asked) × IsWhole client.old) }
+fn finish<S>(client: &mut Client<S>)
+    ensures settled { (client.new ≡ client.old) ⊎ ((client.new.phase ≡ phases.Drained) × IsWhole client.old) }
     ensures input { client.new.input ≡ client.old.input }
     ensures has_lines { client.new.has_lines ≡ client.old.has_lines }
     ensures same { client.new ≡ record client.old { input = client.new.input; phase = client.new.phase; has_lines = client.new.has_lines; lines = client.new.lines; all_asked = client.new.all_asked } }
 {
     if client.phase == Phase::Ended && !client.has_lines {
-        client.phase = Phase::Asked;
+        client.phase = Phase::Drained;
     }
 }
 
 /// What is ready of a connection is read, its first whole line is answered, and what it is owed is sent.
 fn attend<D: Sessions + Drop, L: Log + Drop, S: Duplex>(
     alloc: Global,
-    ledger: &Ledger<D, L>,
-    row: &[Client<S>],
+    durable: &Durable<D, L>,
+    clients: &[Client<S>],
     client: &mut Client<S>,
     buffer: &mut [u8],
     schema: &SchemaLine,
     seconds: u64,
 )
     requires room { 0 < length buffer.old }
-    ensures { (status : List ℕ) × IsStatus (L.appended (log_of ledger.now)) (L.synced (log_of ledger.now)) (L.lacks_room (log_of ledger.now)) seconds row.now
-        (hub_of ledger.now) status
+    ensures { (status : List ℕ) × IsStatus (L.appended (log_of durable.now)) (L.synced (log_of durable.now)) (L.lacks_room (log_of durable.now)) seconds clients.now
+        (hub_of durable.now) status
         × Attended S.contents S.remaining status (line_of schema.now) client.old client.new }
 {
     client.read(buffer);
-    answer_now(alloc, ledger, row, client, schema, seconds);
-    settle(client);
+    answer_now(alloc, durable, clients, client, schema, seconds);
+    finish(client);
     client.send();
 }
 
@@ -220,7 +220,7 @@ impl<S> Beside<S> {
     }
 
     /// A connection takes the place, which is free. Its stream reports under this number.
-    pub fn seat(&mut self, alloc: Global, conn: u64, stream: S)
+    pub fn push_client(&mut self, alloc: Global, conn: u64, stream: S)
     where
         S: Drop,
         requires { self.old.client ≡ None }
@@ -251,41 +251,49 @@ impl<S: Duplex + Drop> Beside<S> {
     /// What is ready of the connection that is there is read, its first whole line is answered, and what it is owed is sent. Behind a line that is
     /// none of the service's no more of it is read. It goes once it is over. A status is that of this hub and journal, and of these connections, which it is none of, so many seconds after the start.
     ///
-    /// Neither hub nor journal nor row is lent to be changed.
+    /// Neither hub nor journal nor list is lent to be changed.
     pub fn serve<D: Sessions + Drop, L: Log + Drop>(
         &mut self,
         alloc: Global,
-        ledger: &Ledger<D, L>,
-        row: &[Client<S>],
+        durable: &Durable<D, L>,
+        clients: &[Client<S>],
         buffer: &mut [u8],
         schema: &SchemaLine,
         seconds: u64,
     )
         requires room { 0 < length buffer.old }
         ensures { InPlace (λ old last. (status : List ℕ)
-            × IsStatus (L.appended (log_of ledger.now)) (L.synced (log_of ledger.now)) (L.lacks_room (log_of ledger.now)) seconds row.now
-            (hub_of ledger.now) status
+            × IsStatus (L.appended (log_of durable.now)) (L.synced (log_of durable.now)) (L.lacks_room (log_of durable.now)) seconds clients.now
+            (hub_of durable.now) status
             × Attended S.contents S.remaining status (line_of schema.now) old last) self.old.client self.new.client }
     {
         let Some(client) = self.client.take() else {
             return;
         };
         let mut client = client;
-        attend(alloc, ledger, row, &mut client, buffer, schema, seconds);
+        attend(
+            alloc,
+            durable,
+            clients,
+            &mut client,
+            buffer,
+            schema,
+            seconds,
+        );
         if !client.is_over() {
             self.client = Some(client);
         }
     }
 }
 
-/// Gives up the connection of a row that the one beside it has asked to end since the last call, where it is there, and no other. `serve_all`
+/// Gives up the connection of a list that the one beside it has asked to end since the last call, where it is there, and no other. `serve_all`
 /// then undoes its sessions, and lets it go.
-pub fn end_beside<S: Drop>(beside: &mut Beside<S>, row: &mut Vec<Client<S>>)
-    ensures ids { ids row.new.items ≡ ids row.old.items }
-    ensures ended { EndedAs (end_there beside.old.client) row.old.items row.new.items }
+pub fn end_beside<S: Drop>(beside: &mut Beside<S>, clients: &mut Vec<Client<S>>)
+    ensures ids { ids clients.new.items ≡ ids clients.old.items }
+    ensures ended { EndedAs (end_there beside.old.client) clients.old.items clients.new.items }
     ensures same { beside.new.client ≡ option_map forgotten beside.old.client }
 {
     if let Some(conn) = beside.take_end() {
-        end_one(row, conn);
+        end_one(clients, conn);
     }
 }

@@ -1,7 +1,7 @@
 //! A connection: its stream, what came of it and wasn't asked yet, and what it is to be sent. It asks nobody.
 ghost use Rattle.std.specs.Prelude.{◌≡◌, ◌<◌, ◌⊎◌, ◌↔◌, ◌++◌, ◌||◌, ℕ, List, [], length, true, IsTrue, IsFalse};
 ghost use Rattle.mi_hub.specs.Ended.{ended};
-ghost use Rattle.mi_ledger.specs.HeldReplies.{bytes_of};
+ghost use Rattle.mi_durable.specs.HeldReplies.{bytes_of};
 ghost use Rattle.mi_clients.specs.Input.{waiting};
 ghost use Rattle.mi_clients.specs.declared.client.Phase.TheVariants as phases;
 
@@ -11,7 +11,7 @@ use crate::output::Output;
 use crate::sending::{Sending, send_out};
 use crate::service_lines::is_service;
 use crate::silence::has_passed;
-use mi_ledger::HeldReplies;
+use mi_durable::HeldReplies;
 use std::alloc::Global;
 use std::io::ErrorKind;
 
@@ -26,12 +26,12 @@ pub enum Phase {
     /// Its bytes have ended; lines of it may wait to be asked.
     Ended,
     /// All its lines are asked, and it holds no session; replies may wait to be sent.
-    Asked,
+    Drained,
     /// Its stream has failed, or memory for it was refused. Nothing more of it is asked or sent.
     Broken,
 }
 
-/// A connection. It is made by `admit`, and owes its peer the replies to its own lines alone.
+/// A connection. It is made by `connect`, and owes its peer the replies to its own lines alone.
 #[derive(Drop)]
 pub struct Client<S> {
     /// The number under which the hub has it attached.
@@ -65,12 +65,12 @@ pub struct Client<S> {
     /// Where no line may wait, none does.
     ghost lines: { IsFalse has_lines → ended (waiting input) ≡ [] },
     /// Of one that counts as asked none waits.
-    ghost all_asked: { phase ≡ phases.Asked → ended (waiting input) ≡ [] },
+    ghost all_asked: { phase ≡ phases.Drained → ended (waiting input) ≡ [] },
 }
 
 impl<S> Client<S> {
     ghost use Rattle.std.specs.Prelude.{MatchOption};
-    ghost use Rattle.mi_ledger.specs.Journals.{IsWholeLine};
+    ghost use Rattle.mi_durable.specs.Journals.{IsWholeLine};
     ghost use Rattle.mi_clients.specs.ServiceLines.{is_service};
     ghost use Rattle.mi_clients.specs.Client.{owed, IsOver, HasRoom, MayAsk, MayTell, IsAsked, WantsBytes, IsBusy, IsWoken, woken};
     ghost use Rattle.mi_clients.specs.Silence.{IsSilent, IsJudged};
@@ -196,7 +196,7 @@ impl<S> Client<S> {
     {
         match self.phase {
             Phase::Open | Phase::Ended => false,
-            Phase::Asked => self.owes_nothing(),
+            Phase::Drained => self.owes_nothing(),
             Phase::Broken => true,
         }
     }

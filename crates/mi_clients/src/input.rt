@@ -1,7 +1,7 @@
 //! What a connection has sent and wasn't asked yet: whole lines, and the beginning of one. It reads no stream.
 ghost use Rattle.std.specs.Prelude.{◌≡◌, ◌≤◌, ◌++◌, ℕ, List, [], length, drop, OnOk, OnErr, IfOk, IsTrue, MatchOption, if◌then◌else◌};
 ghost use Rattle.mi_hub.specs.Ended.{ended};
-ghost use Rattle.mi_ledger.specs.Journals.{IsWholeLine};
+ghost use Rattle.mi_durable.specs.Journals.{IsWholeLine};
 ghost use Rattle.mi_clients.specs.Lines.{SameLines, Ends, IsFilled};
 ghost use Rattle.mi_clients.specs.Heard as hearing;
 
@@ -101,7 +101,7 @@ impl Input {
     }
 
     /// What was asked is let go.
-    fn settle(&mut self)
+    fn compact(&mut self)
         ensures waiting { waiting self.new ≡ waiting self.old }
         ensures let_go { kept self.new ≡ waiting self.new }
         ensures none { self.new.asked ≡ 0 }
@@ -129,7 +129,7 @@ impl Input {
         ensures lines { self.new.lines ≡ self.old.lines }
         ensures since { self.new.since ≡ self.old.since }
     {
-        self.settle();
+        self.compact();
         let is_last = is_last(self.is_first, self.waiting(), piece);
         let heard = heard_of(self.is_first, self.waiting(), piece);
         let kept = kept_of(self.waiting(), heard);

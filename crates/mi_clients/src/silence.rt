@@ -1,11 +1,11 @@
 //! Connections that send nothing: each may be silent for so many seconds of a clock, where that is limited. It reads no clock.
 ghost use Rattle.std.specs.Prelude.{◌≡◌, ◌↔◌, ◌⊎◌, IsTrue, IsSome};
-ghost use Rattle.mi_ledger.specs.Ledger.{hub_of, holder_conn};
-ghost use Rattle.mi_clients.specs.Row.{ids};
+ghost use Rattle.mi_durable.specs.Durable.{hub_of, holder_conn};
+ghost use Rattle.mi_clients.specs.Clients.{ids};
 ghost use Rattle.mi_clients.specs.Silence.{HasPassed, EachJudged, limit_of};
 
 use crate::client::Client;
-use mi_ledger::Ledger;
+use mi_durable::Durable;
 use mi_log::Log;
 use mi_sessions::Sessions;
 
@@ -39,13 +39,13 @@ pub(crate) fn has_passed(limit: Option<u64>, since: u64, now: u64) -> bool
 
 /// How many seconds a connection may be silent: the holder of sessions, or another one.
 fn limit_for<D: Sessions + Drop, L: Log + Drop>(
-    ledger: &Ledger<D, L>,
+    durable: &Durable<D, L>,
     conn: u64,
     limits: &Limits,
 ) -> Option<u64>
-    ensures { result ≡ limit_of limits.now (holder_conn (hub_of ledger.now).held.holder) conn }
+    ensures { result ≡ limit_of limits.now (holder_conn (hub_of durable.now).held.holder) conn }
 {
-    if ledger.holds(conn) {
+    if durable.holds(conn) {
         limits.hold
     } else {
         limits.idle
@@ -53,20 +53,20 @@ fn limit_for<D: Sessions + Drop, L: Log + Drop>(
 }
 
 /// Notes under this second of a clock which connections something has come of since the last call, and breaks those that have sent nothing for
-/// more seconds than they may. The ledger says who holds sessions. `serve_all` then undoes those of a broken one, and lets it go.
+/// more seconds than they may. The durable hub says who holds sessions. `serve_all` then undoes those of a broken one, and lets it go.
 ///
 /// Of one that is to be read something may have come: it isn't broken before that read.
 pub fn give_up_silent<D: Sessions + Drop, L: Log + Drop, S>(
-    ledger: &Ledger<D, L>,
-    row: &mut Vec<Client<S>>,
+    durable: &Durable<D, L>,
+    clients: &mut Vec<Client<S>>,
     now: u64,
     limits: &Limits,
 )
-    ensures judged { EachJudged limits.now (holder_conn (hub_of ledger.now).held.holder) now row.old.items row.new.items }
-    ensures ids { ids row.new.items ≡ ids row.old.items }
+    ensures judged { EachJudged limits.now (holder_conn (hub_of durable.now).held.holder) now clients.old.items clients.new.items }
+    ensures ids { ids clients.new.items ≡ ids clients.old.items }
 {
-    for client in row.iter_mut() {
-        let limit = limit_for(ledger, client.conn, limits);
+    for client in clients.iter_mut() {
+        let limit = limit_for(durable, client.conn, limits);
         client.judge(now, limit);
     }
 }

@@ -6,8 +6,8 @@ ghost use Rattle.mi_catalog.specs.Fitting.{HasTable};
 ghost use Rattle.mi_clients.specs.Status as spec;
 
 use crate::client::Client;
+use mi_durable::is_holder;
 use mi_hub::Hub;
-use mi_ledger::is_holder;
 use mi_log::LogState;
 use mi_sessions::Sessions;
 use std::alloc::{AllocError, Global};
@@ -95,18 +95,18 @@ fn add_connection<S>(
     add_numbered(alloc, text, holder, client)
 }
 
-/// Adds the connections of a row.
+/// Adds the connections of a list.
 fn add_connections<S>(
     alloc: Global,
     text: &mut String,
     holder: Option<u64>,
-    row: &[Client<S>],
+    clients: &[Client<S>],
 ) -> Result<(), AllocError>
-    ensures { OnOk result (string_bytes text.new ≡ string_bytes text.old ++ spec.listed (spec.connection_text holder) 0 row.now) }
+    ensures { OnOk result (string_bytes text.new ≡ string_bytes text.old ++ spec.listed (spec.connection_text holder) 0 clients.now) }
 {
-    'row: for i in 0..row.len() {
+    'clients: for i in 0..clients.len() {
         add_comma(text, i)?;
-        add_connection(alloc, text, holder, &row[i])?;
+        add_connection(alloc, text, holder, &clients[i])?;
     }
     Ok(())
 }
@@ -271,15 +271,15 @@ fn add_status<D: Sessions + Drop, S>(
     text: &mut String,
     hub: &Hub<D>,
     figures: &Figures,
-    row: &[Client<S>],
+    clients: &[Client<S>],
 ) -> Result<(), AllocError>
     requires { length figures.now.memories.items ≡ length hub.now.held.database.catalog.tables }
     ensures { OnOk result (string_bytes text.new ≡ string_bytes text.old
-        ++ spec.status_line row.now hub.now figures.now.journal figures.now.seconds figures.now.memories.items) }
+        ++ spec.status_line clients.now hub.now figures.now.journal figures.now.seconds figures.now.memories.items) }
 {
     let holder = hub.holder();
     text.push_str("{\"connections\":[")?;
-    add_connections(alloc, text, holder, row)?;
+    add_connections(alloc, text, holder, clients)?;
     add_database(alloc, text, hub.database(), figures, holder)
 }
 
@@ -289,9 +289,9 @@ pub(crate) fn status_line<D: Sessions + Drop, S>(
     hub: &Hub<D>,
     journal: LogState,
     seconds: u64,
-    row: &[Client<S>],
+    clients: &[Client<S>],
 ) -> Result<String, AllocError>
-    ensures { IfOk result (λ line. spec.TellsStatus row.now hub.now journal seconds (string_bytes line)) }
+    ensures { IfOk result (λ line. spec.TellsStatus clients.now hub.now journal seconds (string_bytes line)) }
 {
     let figures = Figures {
         journal,
@@ -299,6 +299,6 @@ pub(crate) fn status_line<D: Sessions + Drop, S>(
         memories: memories_of(alloc, hub.database())?,
     };
     let mut text = String::new(alloc);
-    add_status(alloc, &mut text, hub, &figures, row)?;
+    add_status(alloc, &mut text, hub, &figures, clients)?;
     Ok(text)
 }

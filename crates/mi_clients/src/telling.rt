@@ -2,10 +2,10 @@
 ghost use Rattle.std.specs.Prelude.{◌≡◌, ◌⊎◌, ◌++◌, ℕ, List, [], true, Err, OnOk, OnErr, IfSome};
 ghost use Rattle.std.specs.String.{string_bytes};
 ghost use Rattle.std.specs.Io.KnownBytes.{Keeps};
-ghost use Rattle.mi_ledger.specs.Ledger.{hub_of, log_of, IsSettled};
+ghost use Rattle.mi_durable.specs.Durable.{hub_of, log_of, IsSettled};
 ghost use Rattle.mi_clients.specs.Client.{Owes, Takes, IsAsFar};
 ghost use Rattle.mi_clients.specs.Output.{unsent};
-ghost use Rattle.mi_clients.specs.Row.{ids, Attends, EachServed, EachTakes};
+ghost use Rattle.mi_clients.specs.Clients.{ids, Attends, EachServed, EachTakes};
 ghost use Rattle.mi_clients.specs.ServiceLines.{line_of};
 ghost use Rattle.mi_clients.specs.Status.{IsStateOf, IsStatus, TellsStatus};
 ghost use Rattle.mi_log.specs.declared.log.LogState.{LogState};
@@ -18,7 +18,7 @@ use crate::duplex::Duplex;
 use crate::schema_line::SchemaLine;
 use crate::service_lines::{ended_in, told_to};
 use crate::status::status_line;
-use mi_ledger::{Ledger, LedgerFault};
+use mi_durable::{Durable, DurableFault};
 use mi_log::Log;
 use mi_sessions::Sessions;
 use std::alloc::Global;
@@ -43,26 +43,26 @@ pub(crate) fn put_behind<S>(client: &mut Client<S>, released: Vec<u8>, text: &[u
 
 /// Hands the replies of a connection out, and a text behind them, once all that was appended stays. Without room for them it is broken.
 fn give<D: Sessions + Drop, L: Log + Drop, S>(
-    ledger: &mut Ledger<D, L>,
+    durable: &mut Durable<D, L>,
     client: &mut Client<S>,
     text: &[u8],
-) -> Result<(), LedgerFault>
-    requires settled { IsSettled L.appended L.synced ledger.old }
+) -> Result<(), DurableFault>
+    requires settled { IsSettled L.appended L.synced durable.old }
     requires sound { ¬ (client.old.phase ≡ phases.Broken) }
-    ensures stays { OnOk result (Keeps (L.appended (log_of ledger.new)) (L.synced (log_of ledger.new))) }
+    ensures stays { OnOk result (Keeps (L.appended (log_of durable.new)) (L.synced (log_of durable.new))) }
     ensures owes { OnOk result (Owes text.now client.old client.new) }
     ensures far { OnOk result (IsAsFar client.old client.new) }
     ensures input { OnOk result (client.new.input ≡ client.old.input) }
     ensures has_lines { OnOk result (client.new.has_lines ≡ client.old.has_lines) }
     ensures ends { OnOk result (client.new.ends ≡ client.old.ends) }
-    ensures hub { hub_of ledger.new ≡ hub_of ledger.old }
-    ensures appended { Keeps (L.appended (log_of ledger.old)) (L.appended (log_of ledger.new)) }
-    ensures room { OnOk result (L.lacks_room (log_of ledger.new) ≡ L.lacks_room (log_of ledger.old)) }
-    ensures failed { OnErr result ((result ≡ Err LedgerFault.Journal) × (L.has_failed (log_of ledger.new) ≡ true)) }
-    ensures settled { IsSettled L.appended L.synced ledger.new }
+    ensures hub { hub_of durable.new ≡ hub_of durable.old }
+    ensures appended { Keeps (L.appended (log_of durable.old)) (L.appended (log_of durable.new)) }
+    ensures room { OnOk result (L.lacks_room (log_of durable.new) ≡ L.lacks_room (log_of durable.old)) }
+    ensures failed { OnErr result ((result ≡ Err DurableFault.Journal) × (L.has_failed (log_of durable.new) ≡ true)) }
+    ensures settled { IsSettled L.appended L.synced durable.new }
 {
     let held = take_held(client);
-    let released = ledger.release(held)?;
+    let released = durable.release(held)?;
     put_behind(client, released, text);
     Ok(())
 }
@@ -70,20 +70,20 @@ fn give<D: Sessions + Drop, L: Log + Drop, S>(
 /// Tells a connection what the first line of it that waits asks of the service, where its lines may be asked and that line is the service's
 /// own. What it asked before is replied in front of that.
 fn tell<D: Sessions + Drop, L: Log + Drop, S>(
-    ledger: &mut Ledger<D, L>,
+    durable: &mut Durable<D, L>,
     client: &mut Client<S>,
     status: &[u8],
     schema: &SchemaLine,
-) -> Result<(), LedgerFault>
-    requires settled { IsSettled L.appended L.synced ledger.old }
+) -> Result<(), DurableFault>
+    requires settled { IsSettled L.appended L.synced durable.old }
     requires some { ¬ (status.now ≡ []) }
     ensures tells { OnOk result ((steps : List Step) × AreTells client.old.conn steps × TellsSo status.now (line_of schema.now) steps
         × Owes (given_to client.old.conn steps) client.old client.new × Takes (asked_by client.old.conn steps) client.old client.new
-        × Makes steps (hub_of ledger.old) (hub_of ledger.new) (L.appended (log_of ledger.old)) (L.appended (log_of ledger.new))) }
-    ensures hub { OnOk result (hub_of ledger.new ≡ hub_of ledger.old) }
-    ensures room { OnOk result (L.lacks_room (log_of ledger.new) ≡ L.lacks_room (log_of ledger.old)) }
-    ensures failed { result ≡ Err LedgerFault.Journal → L.has_failed (log_of ledger.new) ≡ true }
-    ensures settled { OnOk result (IsSettled L.appended L.synced ledger.new) }
+        × Makes steps (hub_of durable.old) (hub_of durable.new) (L.appended (log_of durable.old)) (L.appended (log_of durable.new))) }
+    ensures hub { OnOk result (hub_of durable.new ≡ hub_of durable.old) }
+    ensures room { OnOk result (L.lacks_room (log_of durable.new) ≡ L.lacks_room (log_of durable.old)) }
+    ensures failed { result ≡ Err DurableFault.Journal → L.has_failed (log_of durable.new) ≡ true }
+    ensures settled { OnOk result (IsSettled L.appended L.synced durable.new) }
 {
     let Some(line) = client.service_line() else {
         return Ok(());
@@ -93,90 +93,97 @@ fn tell<D: Sessions + Drop, L: Log + Drop, S>(
     let count = line.len();
     client.input.pass(count, false);
     client.ends = ends;
-    give(ledger, client, text)?;
+    give(durable, client, text)?;
     Ok(())
 }
 
-/// Tells each connection of a row what it asks of the service, by this line of the status.
+/// Tells each connection of a list what it asks of the service, by this line of the status.
 fn tell_each<D: Sessions + Drop, L: Log + Drop, S: Duplex>(
-    ledger: &mut Ledger<D, L>,
-    row: &mut Vec<Client<S>>,
+    durable: &mut Durable<D, L>,
+    clients: &mut Vec<Client<S>>,
     status: &[u8],
     schema: &SchemaLine,
-) -> Result<(), LedgerFault>
-    requires attends { Attends (ids row.old.items) (hub_of ledger.old).attached }
-    requires settled { IsSettled L.appended L.synced ledger.old }
+) -> Result<(), DurableFault>
+    requires attends { Attends (ids clients.old.items) (hub_of durable.old).attached }
+    requires settled { IsSettled L.appended L.synced durable.old }
     requires some { ¬ (status.now ≡ []) }
     ensures tells { OnOk result ((steps : List Step) × AllTell steps × TellsSo status.now (line_of schema.now) steps
-        × EachServed S.contents steps row.old.items row.new.items × EachTakes steps row.old.items row.new.items
-        × Makes steps (hub_of ledger.old) (hub_of ledger.new) (L.appended (log_of ledger.old)) (L.appended (log_of ledger.new))) }
-    ensures attends { OnOk result (Attends (ids row.new.items) (hub_of ledger.new).attached) }
-    ensures room { OnOk result (L.lacks_room (log_of ledger.new) ≡ L.lacks_room (log_of ledger.old)) }
-    ensures failed { result ≡ Err LedgerFault.Journal → L.has_failed (log_of ledger.new) ≡ true }
-    ensures settled { OnOk result (IsSettled L.appended L.synced ledger.new) }
+        × EachServed S.contents steps clients.old.items clients.new.items × EachTakes steps clients.old.items clients.new.items
+        × Makes steps (hub_of durable.old) (hub_of durable.new) (L.appended (log_of durable.old)) (L.appended (log_of durable.new))) }
+    ensures attends { OnOk result (Attends (ids clients.new.items) (hub_of durable.new).attached) }
+    ensures room { OnOk result (L.lacks_room (log_of durable.new) ≡ L.lacks_room (log_of durable.old)) }
+    ensures failed { result ≡ Err DurableFault.Journal → L.has_failed (log_of durable.new) ≡ true }
+    ensures settled { OnOk result (IsSettled L.appended L.synced durable.new) }
 {
-    for client in row.iter_mut() {
-        tell(ledger, client, status, schema)?;
+    for client in clients.iter_mut() {
+        tell(durable, client, status, schema)?;
     }
     Ok(())
 }
 
-/// The line of the status of a row, a hub and its journal. None where memory for it is refused.
+/// The line of the status of a list, a hub and its journal. None where memory for it is refused.
 pub(crate) fn status_now<D: Sessions + Drop, L: Log + Drop, S>(
     alloc: Global,
-    ledger: &Ledger<D, L>,
-    row: &[Client<S>],
+    durable: &Durable<D, L>,
+    clients: &[Client<S>],
     seconds: u64,
 ) -> Option<String>
     ensures { IfSome result (λ line. (journal : LogState)
-        × IsStateOf (L.appended (log_of ledger.now)) (L.synced (log_of ledger.now)) (L.lacks_room (log_of ledger.now)) journal
-        × TellsStatus row.now (hub_of ledger.now) journal seconds (string_bytes line)) }
+        × IsStateOf (L.appended (log_of durable.now)) (L.synced (log_of durable.now)) (L.lacks_room (log_of durable.now)) journal
+        × TellsStatus clients.now (hub_of durable.now) journal seconds (string_bytes line)) }
 {
-    status_line(alloc, ledger.hub(), ledger.log().state(), seconds, row).ok()
+    status_line(
+        alloc,
+        durable.hub(),
+        durable.log().state(),
+        seconds,
+        clients,
+    )
+    .ok()
 }
 
-/// The same where a connection of the row asks the service something.
+/// The same where a connection of the list asks the service something.
 fn status_if_asked<D: Sessions + Drop, L: Log + Drop, S>(
     alloc: Global,
-    ledger: &Ledger<D, L>,
-    row: &[Client<S>],
+    durable: &Durable<D, L>,
+    clients: &[Client<S>],
     seconds: u64,
 ) -> Option<String>
     ensures { IfSome result (λ line. (journal : LogState)
-        × IsStateOf (L.appended (log_of ledger.now)) (L.synced (log_of ledger.now)) (L.lacks_room (log_of ledger.now)) journal
-        × TellsStatus row.now (hub_of ledger.now) journal seconds (string_bytes line)) }
+        × IsStateOf (L.appended (log_of durable.now)) (L.synced (log_of durable.now)) (L.lacks_room (log_of durable.now)) journal
+        × TellsStatus clients.now (hub_of durable.now) journal seconds (string_bytes line)) }
 {
-    if !row.iter().any(|client| client.service_line().is_some()) {
+    if !clients.iter().any(|client| client.service_line().is_some()) {
         return None;
     }
-    status_now(alloc, ledger, row, seconds)
+    status_now(alloc, durable, clients, seconds)
 }
 
-/// Tells each connection of a row what it asks of the service: the status of these connections and this hub, the schema, or that its form is
+/// Tells each connection of a list what it asks of the service: the status of these connections and this hub, the schema, or that its form is
 /// refused. The status is that of all of them, and of the journal, before any is told something, so many seconds
 /// after the start.
 pub fn tell_all<D: Sessions + Drop, L: Log + Drop, S: Duplex>(
     alloc: Global,
-    ledger: &mut Ledger<D, L>,
-    row: &mut Vec<Client<S>>,
+    durable: &mut Durable<D, L>,
+    clients: &mut Vec<Client<S>>,
     schema: &SchemaLine,
     seconds: u64,
-) -> Result<(), LedgerFault>
-    requires attends { Attends (ids row.old.items) (hub_of ledger.old).attached }
-    requires settled { IsSettled L.appended L.synced ledger.old }
+) -> Result<(), DurableFault>
+    requires attends { Attends (ids clients.old.items) (hub_of durable.old).attached }
+    requires settled { IsSettled L.appended L.synced durable.old }
     ensures tells { OnOk result ((steps : List Step) × (status : List ℕ)
-        × IsStatus (L.appended (log_of ledger.old)) (L.synced (log_of ledger.old)) (L.lacks_room (log_of ledger.new)) seconds row.old.items
-        (hub_of ledger.old) status
+        × IsStatus (L.appended (log_of durable.old)) (L.synced (log_of durable.old)) (L.lacks_room (log_of durable.new)) seconds clients.old.items
+        (hub_of durable.old) status
         × AllTell steps × TellsSo status (line_of schema.now) steps
-        × EachServed S.contents steps row.old.items row.new.items × EachTakes steps row.old.items row.new.items
-        × Makes steps (hub_of ledger.old) (hub_of ledger.new) (L.appended (log_of ledger.old)) (L.appended (log_of ledger.new))) }
-    ensures attends { OnOk result (Attends (ids row.new.items) (hub_of ledger.new).attached) }
-    ensures failed { result ≡ Err LedgerFault.Journal → L.has_failed (log_of ledger.new) ≡ true }
-    ensures settled { OnOk result (IsSettled L.appended L.synced ledger.new) }
+        × EachServed S.contents steps clients.old.items clients.new.items × EachTakes steps clients.old.items clients.new.items
+        × Makes steps (hub_of durable.old) (hub_of durable.new) (L.appended (log_of durable.old)) (L.appended (log_of durable.new))) }
+    ensures attends { OnOk result (Attends (ids clients.new.items) (hub_of durable.new).attached) }
+    ensures failed { result ≡ Err DurableFault.Journal → L.has_failed (log_of durable.new) ≡ true }
+    ensures settled { OnOk result (IsSettled L.appended L.synced durable.new) }
 {
-    let line = status_if_asked(alloc, ledger, row.as_slice(), seconds);
+    let line = status_if_asked(alloc, durable, clients.as_slice(), seconds);
     match &line {
-        Some(line) => tell_each(ledger, row, line.as_bytes(), schema),
-        None => tell_each(ledger, row, MEMORY, schema),
+        Some(line) => tell_each(durable, clients, line.as_bytes(), schema),
+        None => tell_each(durable, clients, MEMORY, schema),
     }
 }

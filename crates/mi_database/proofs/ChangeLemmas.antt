@@ -19,7 +19,7 @@ use Rattle.mi_container.specs.Fits.{KeptBy}
 use Rattle.mi_container.specs.Run.{Change}
 use Rattle.mi_container.specs.Makes.{Makes}
 use Rattle.mi_journal.specs.Noted.{noted}
-use Rattle.mi_inverses.specs.Stored.{Stored, IsWithin}
+use Rattle.mi_journal.specs.Stored.{Stored, IsWithin}
 use Rattle.mi_database.specs.Journal.{Journal, data_at, state_of, kept_in}
 use Rattle.mi_database.specs.LinkedData.{LinkedData, data_seen, meaning, IsLinkedData, with_room, kept_datas}
 use Rattle.mi_database.specs.Kept.{kept_rows, KeptRefused}

@@ -22,7 +22,7 @@ use Rattle.mi_container.specs.Fits.{HasOwnList}
 use Rattle.mi_container.specs.Run.{Change}
 use Rattle.mi_container.specs.Run.Change.{Insert, Replace, Erase, Relocate}
 use Rattle.mi_container.specs.Makes.{Makes}
-use Rattle.mi_inverses.specs.Stored.{place_count, IsWithin}
+use Rattle.mi_journal.specs.Stored.{place_count, IsWithin}
 use Rattle.mi_database.specs.Most.{key_of, keyed_count, HasAtMost, OneHas}
 
 one_more : (p : Option OldPlace) (ps : List (Option OldPlace)) (n : ℕ) → place_count ps ≤ n → place_count (p ∷ ps) ≤ suc n

@@ -10,7 +10,7 @@ use Rattle.mi_container.specs.Secrets.{opened_secrets}
 use Rattle.mi_container.specs.Inverse.{Inverse, settled}
 use Rattle.mi_database.specs.Journal.{JournalEntry, Journal, data_at, entry_back, entries, unwound, old_of, tables_of, state_of, IsLinked}
 use Rattle.mi_journal.specs.Noted.{OldestIsEmpty}
-use Rattle.mi_inverses.specs.Stored.{Stored}
+use Rattle.mi_journal.specs.Stored.{Stored}
 
 -- the containers' data, the inverses of each session, the revision, the journal's room, and of each container the ids in the nodes of its pool
 -- and the secrets of its indexes

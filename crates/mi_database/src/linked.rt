@@ -2,7 +2,7 @@
 //! inverse is noted, else it is settled at once. This file knows nothing of how a container keeps its rows.
 use mi_catalog::{Catalog, Schema};
 use mi_container::{Container, Inverse, RowRef, Undo};
-use mi_inverses::Inverses;
+use mi_journal::Inverses;
 use std::alloc::{AllocError, Global};
 use std::marker::Model;
 
@@ -36,7 +36,7 @@ ghost use Rattle.mi_container.specs.Fits.{KeptBy};
 ghost use Rattle.mi_container.specs.Inverse.Inverse.{Inserted};
 ghost use Rattle.mi_database.specs.Journal.{data_at};
 ghost use Rattle.mi_journal.specs.Noted.{noted};
-ghost use Rattle.mi_inverses.specs.Stored.{IsWithin};
+ghost use Rattle.mi_journal.specs.Stored.{IsWithin};
 ghost use Rattle.mi_database.specs.LinkedData.{kept_datas};
 ghost use Rattle.mi_database.specs.Most.{keyed_count, AllHaveAtMost, SomeHas};
 
@@ -197,7 +197,7 @@ impl<C: Container> Linked<C> {
     }
 
     /// Room for one more session.
-    pub(crate) fn make_place(&mut self) -> Result<(), AllocError>
+    pub(crate) fn reserve_session(&mut self) -> Result<(), AllocError>
         ensures same { self.new ≡ with_room self.new.changes self.new.starts self.old }
         ensures changes { self.old.changes ≤ self.new.changes }
         ensures starts { self.old.starts ≤ self.new.starts }

@@ -9,7 +9,7 @@ ghost use Rattle.mi_database.specs.Restored.{AreRestored, IsDatabaseFault};
 use crate::linked::{Linked, most_keyed_indexes};
 use mi_catalog::Catalog;
 use mi_container::{Container, RestoreFault, TableImage};
-use mi_inverses::Inverses;
+use mi_journal::Inverses;
 use mi_value::limits::LAST_COUNT;
 use std::alloc::Global;
 

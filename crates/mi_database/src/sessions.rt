@@ -323,7 +323,7 @@ impl<C: Container> Sessions for Linked<C> {
         if self.journal.depth() == MAX_SESSIONS {
             return Err(Refusal::Depth);
         }
-        if self.make_place().is_err() {
+        if self.reserve_session().is_err() {
             return Err(Refusal::Memory);
         }
         self.journal.open_session();

@@ -13,8 +13,8 @@ use Rattle.mi_commands.specs.Answer.{command_answer}
 use Rattle.mi_commands.specs.Holder.{HeldDatabase, is_busy}
 use Rattle.mi_commands.specs.Told.{ToldOrMemory, SaysMemory}
 use Rattle.mi_embed.specs.State.{EngineState}
-use Rattle.mi_embed.specs.declared.told.Told.{Told}
-use Rattle.mi_embed.specs.Told.{refused}
+use Rattle.mi_embed.specs.declared.call_result.CallResult.{CallResult}
+use Rattle.mi_embed.specs.CallResults.{refused}
 use Rattle.mi_embed.specs.Calls.{Call, of_table, asked, takes_none, MayAnswer, Tells, TellsChange, TellsStep}
 
 -- a change is asked as it is defined, or refused for want of memory
@@ -28,16 +28,16 @@ by_asked conn k s t n (Err Memory) said may is (inl p) = inr (may, subst SaysMem
 by_asked conn k s t n (Err e) said may is (inl p) =
     inl (p.0 ∙ ap (λ q. (command_answer s conn q).0) (sym is), p.1 ∙ ap (λ q. (command_answer s conn q).1) (sym is))
 
-pub tells : (conn : ℕ) (k : Call) (n : ℕ) (r : Result Change Refusal) (told : Told) (old new : EngineState) → takes_none k ≡ false
+pub tells : (conn : ℕ) (k : Call) (n : ℕ) (r : Result Change Refusal) (told : CallResult) (old new : EngineState) → takes_none k ≡ false
     → IsAnswer (of_table command.Change n r) (asked old.held conn k) → TellsChange n r told old new → Tells conn k told old new
 tells conn k n r told old new may is t = (t.0, by_asked conn k old.held new.held n r t.0 may is t.1, t.2, t.3)
 
 -- a refusal is told, and nothing changes
-pub tells_refusal : (n : ℕ) (r : Result Change Refusal) (e : Refusal) (told : Told) (s : EngineState) → r ≡ Err e → told ≡ refused e
+pub tells_refusal : (n : ℕ) (r : Result Change Refusal) (e : Refusal) (told : CallResult) (s : EngineState) → r ≡ Err e → told ≡ refused e
     → TellsChange n r told s s
 tells_refusal n r e told s is told_is = subst (λ q. TellsChange n q told s s) (sym is) (say.refused 0 e, inl (refl, refl), told_is, refl)
 
-pub tells_busy : (conn : ℕ) (x : SessionCommand) (told : Told) (s : EngineState) → is_busy s.held.holder conn ≡ true → told ≡ refused Busy
+pub tells_busy : (conn : ℕ) (x : SessionCommand) (told : CallResult) (s : EngineState) → is_busy s.held.holder conn ≡ true → told ≡ refused Busy
     → TellsStep conn x told s s
 tells_busy conn x told s busy is = (
   say.refused 0 Busy,

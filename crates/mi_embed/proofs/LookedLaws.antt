@@ -32,7 +32,7 @@ use Rattle.mi_embed.specs.Calls.{key_of, ends_in, of_table, over}
 use Rattle.mi_embed.specs.LookUps.{rank_in, found, row_of}
 use Rattle.mi_embed.specs.Looked.{SaysRow, SaysFound, SaysPage, LookUpsAnswer}
 use Rattle.mi_embed.specs.Pages as pages
-use Rattle.mi_embed.specs.Told.{number_told, told_of}
+use Rattle.mi_embed.specs.CallResults.{number_told, told_of}
 
 -- a table that is there, or none
 table_cases : (P : Result ℕ Refusal → Type 0) (c : CatalogShape) (n : ℕ) → ((e : Refusal) → P (Err e)) → P (Ok n) → P (table_in c n)

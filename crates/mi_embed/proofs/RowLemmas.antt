@@ -12,7 +12,7 @@ use Rattle.mi_catalog.specs.Key.{Row}
 use Rattle.mi_embed.specs.declared.cell.Cell.{Cell}
 use Rattle.mi_embed.specs.Cells.{text_of, texts_of, cell_of, cells_of}
 use Rattle.mi_embed.specs.Pages.{values_of}
-use Rattle.mi_embed.specs.Told.{in_64}
+use Rattle.mi_embed.specs.CallResults.{in_64}
 
 pub texts_of-append : (vs ws : List Value) → texts_of (vs ++ ws) ≡ texts_of vs ++ texts_of ws
 texts_of-append [] ws = refl

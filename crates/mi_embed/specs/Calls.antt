@@ -31,10 +31,10 @@ use Rattle.mi_commands.specs.Told.{ToldOrMemory}
 use Rattle.mi_embed.specs.State.{EngineState}
 use Rattle.mi_embed.specs.declared.cell.Cell.{Cell}
 use Rattle.mi_embed.specs.declared.edits.EditCell.{EditCell}
-use Rattle.mi_embed.specs.declared.told.Told.{Told}
+use Rattle.mi_embed.specs.declared.call_result.CallResult.{CallResult}
 use Rattle.mi_embed.specs.Asked.{table_in, index_in, row_in, key_in, lower_in, upper_in}
 use Rattle.mi_embed.specs.EditCells.{edits_for}
-use Rattle.mi_embed.specs.Told.{told_of}
+use Rattle.mi_embed.specs.CallResults.{told_of}
 
 -- First comes the number of the table, then that of the index, where there are such; cells stand before the bytes of their texts. A
 -- modification says last whether it rolls back, and an end of a range is a number and a key. An addition is to a column, a commit up to a
@@ -180,22 +180,22 @@ abbrev pub MayAnswer : ℕ → HeldDatabase → Call → Said → HeldDatabase �
 MayAnswer conn s k said t = ToldOrMemory (takes_none k ≡ false) (call_answer s conn k) s said t
 
 -- From old a call of a connection may be told so, and new is left. The reply to the last line stays.
-abbrev pub Tells : ℕ → Call → Told → EngineState → EngineState → Type 0
+abbrev pub Tells : ℕ → Call → CallResult → EngineState → EngineState → Type 0
 Tells conn k told old new = (said : Said) × MayAnswer conn old.held k said new.held × (told ≡ told_of said) × (new.reply ≡ old.reply)
 
 -- what is told of the change that is asked of table n, whatever call asks it; or of why it is refused
-abbrev pub TellsChange : ℕ → Result Change Refusal → Told → EngineState → EngineState → Type 0
+abbrev pub TellsChange : ℕ → Result Change Refusal → CallResult → EngineState → EngineState → Type 0
 TellsChange n asked told old new =
     (said : Said) × ToldOrMemory (Unit {0}) (command_answer old.held 0 (of_table command.Change n asked)) old.held said new.held
     × (told ≡ told_of said) × (new.reply ≡ old.reply)
 
 -- what is told of a command over sessions
-abbrev pub TellsDone : ℕ → SessionCommand → Told → EngineState → EngineState → Type 0
+abbrev pub TellsDone : ℕ → SessionCommand → CallResult → EngineState → EngineState → Type 0
 TellsDone conn x told old new =
     (said : Said) × ToldOrMemory (session_needs_none x ≡ false) (performed old.held conn (command.Session x)) old.held said new.held × (told ≡ told_of said) × (new.reply ≡ old.reply)
 
 -- the same, unless it is kept out
-abbrev pub TellsStep : ℕ → SessionCommand → Told → EngineState → EngineState → Type 0
+abbrev pub TellsStep : ℕ → SessionCommand → CallResult → EngineState → EngineState → Type 0
 TellsStep conn x told old new =
     let c = command.Session x in
     (said : Said) × ToldOrMemory (session_needs_none x ≡ false) (command_answer old.held conn (unless_busy old.held conn (Ok c))) old.held said new.held

@@ -3,7 +3,7 @@ pub mod State
 pub mod Opening
 pub mod Cells
 pub mod EditCells
-pub mod Told
+pub mod CallResults
 pub mod Asked
 pub mod Calls
 pub mod Shown

@@ -12,8 +12,8 @@ use Rattle.mi_protocol.specs.Binding.{and_then}
 use Rattle.mi_request.specs.Answers.{IsAnswer}
 use Rattle.mi_commands.specs.Holder.{HeldDatabase}
 use Rattle.mi_embed.specs.declared.cell.Cell.{Cell}
-use Rattle.mi_embed.specs.declared.told.Told.{Told}
-use Rattle.mi_embed.specs.Told.{refused, number_told}
+use Rattle.mi_embed.specs.declared.call_result.CallResult.{CallResult}
+use Rattle.mi_embed.specs.CallResults.{refused, number_told}
 use Rattle.mi_embed.specs.Shown.{IsShown}
 use Rattle.mi_embed.specs.Asked.{table_in, asked_index, key_or_prefix, ranked_key}
 
@@ -55,15 +55,15 @@ abbrev pub nth_by : HeldDatabase → ℕ → ℕ → ℕ → Result Row Refusal
 nth_by s n x place = let t = table_of s.database n in and_then (λ _. found t (look.nth (schema_of s.database n) t x place)) (asked_index is_ranked s n x)
 
 -- What is told of a number that may be answered so: as it is defined, or for want of memory.
-abbrev pub TellsNumber : Result ℕ Refusal → Told → Type 0
+abbrev pub TellsNumber : Result ℕ Refusal → CallResult → Type 0
 TellsNumber defined told = (answer : Result ℕ Refusal) × IsAnswer answer defined × (told ≡ number_told answer)
 
 -- The row that a look-up found is shown, or why there is none is told, and cells and bytes stay.
-abbrev pub TellsFound : Result Row Refusal → Told → List Cell → List Cell → List ℕ → List ℕ → Type 0
+abbrev pub TellsFound : Result Row Refusal → CallResult → List Cell → List Cell → List ℕ → List ℕ → Type 0
 TellsFound (Ok r) told cells new_cells texts new_texts = IsShown r.0 r.1 told cells new_cells texts new_texts
 TellsFound (Err e) told cells new_cells texts new_texts = (told ≡ refused e) × (new_cells ≡ cells) × (new_texts ≡ texts)
 
 -- What is told of a row that may be answered so: as it is defined, or for want of memory.
-abbrev pub MayTellFound : Result Row Refusal → Told → List Cell → List Cell → List ℕ → List ℕ → Type 0
+abbrev pub MayTellFound : Result Row Refusal → CallResult → List Cell → List Cell → List ℕ → List ℕ → Type 0
 MayTellFound defined told cells new_cells texts new_texts =
     (answer : Result Row Refusal) × IsAnswer answer defined × TellsFound answer told cells new_cells texts new_texts

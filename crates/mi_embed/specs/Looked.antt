@@ -13,7 +13,7 @@ use Rattle.mi_embed.specs.LookUps as look
 use Rattle.mi_embed.specs.Pages as page
 use Rattle.mi_embed.specs.Pages.{Rows}
 use Rattle.mi_embed.specs.Shown.{got}
-use Rattle.mi_embed.specs.Told.{number_told, told_of}
+use Rattle.mi_embed.specs.CallResults.{number_told, told_of}
 
 -- a row of an id, or a refusal, is said
 abbrev pub SaysRow : ℕ → Result (List Value) Refusal → Said → Type 0

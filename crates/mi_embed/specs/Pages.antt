@@ -20,9 +20,9 @@ use Rattle.mi_protocol.specs.Binding.{and_then}
 use Rattle.mi_request.specs.Answers.{IsAnswer}
 use Rattle.mi_commands.specs.Holder.{HeldDatabase}
 use Rattle.mi_embed.specs.declared.cell.Cell.{Cell}
-use Rattle.mi_embed.specs.declared.told.Told.{Told}
+use Rattle.mi_embed.specs.declared.call_result.CallResult.{CallResult}
 use Rattle.mi_embed.specs.Cells.{texts_of, ArePut}
-use Rattle.mi_embed.specs.Told.{refused, wanting, paged}
+use Rattle.mi_embed.specs.CallResults.{refused, wanting, paged}
 use Rattle.mi_embed.specs.Shown.{has_room}
 use Rattle.mi_embed.specs.Asked.{asked_index, lower_in, upper_in}
 
@@ -72,22 +72,22 @@ RowsArePut rows ids new_ids cells new_cells texts new_texts =
 
 -- With room the rows are put, and how many they are is told, and whether others remain; without, the room that all of them want, and nothing is
 -- said of ids, cells and bytes.
-abbrev pub IsPagedIf : Bool → Rows → Told → List ℕ → List ℕ → List Cell → List Cell → List ℕ → List ℕ → Type 0
+abbrev pub IsPagedIf : Bool → Rows → CallResult → List ℕ → List ℕ → List Cell → List Cell → List ℕ → List ℕ → Type 0
 IsPagedIf true p told ids new_ids cells new_cells texts new_texts =
     (told ≡ paged (length p.0) p.1) × RowsArePut p.0 ids new_ids cells new_cells texts new_texts
 IsPagedIf false p told ids new_ids cells new_cells texts new_texts = told ≡ wanting (length (values_of p.0)) (length (texts_of (values_of p.0)))
 
-abbrev pub IsPaged : Rows → Told → List ℕ → List ℕ → List Cell → List Cell → List ℕ → List ℕ → Type 0
+abbrev pub IsPaged : Rows → CallResult → List ℕ → List ℕ → List Cell → List Cell → List ℕ → List ℕ → Type 0
 IsPaged p told ids new_ids cells new_cells texts new_texts =
     IsPagedIf (has_room (values_of p.0) cells texts) p told ids new_ids cells new_cells texts new_texts
 
 -- rows are shown, or why there are none is told, and ids, cells and bytes stay
-abbrev pub TellsPage : Result Rows Refusal → Told → List ℕ → List ℕ → List Cell → List Cell → List ℕ → List ℕ → Type 0
+abbrev pub TellsPage : Result Rows Refusal → CallResult → List ℕ → List ℕ → List Cell → List Cell → List ℕ → List ℕ → Type 0
 TellsPage (Ok p) told ids new_ids cells new_cells texts new_texts = IsPaged p told ids new_ids cells new_cells texts new_texts
 TellsPage (Err e) told ids new_ids cells new_cells texts new_texts =
     (told ≡ refused e) × (new_ids ≡ ids) × (new_cells ≡ cells) × (new_texts ≡ texts)
 
 -- What is told of rows that may be answered so: as they are defined, or for want of memory.
-abbrev pub MayTellPage : Result Rows Refusal → Told → List ℕ → List ℕ → List Cell → List Cell → List ℕ → List ℕ → Type 0
+abbrev pub MayTellPage : Result Rows Refusal → CallResult → List ℕ → List ℕ → List Cell → List Cell → List ℕ → List ℕ → Type 0
 MayTellPage defined told ids new_ids cells new_cells texts new_texts =
     (answer : Result Rows Refusal) × IsAnswer answer defined × TellsPage answer told ids new_ids cells new_cells texts new_texts

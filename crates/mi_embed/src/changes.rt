@@ -10,11 +10,11 @@ ghost use Rattle.mi_value.specs.declared.edit.Edit.TheVariants as edit;
 ghost use Rattle.mi_embed.specs.Calls as call;
 ghost use Rattle.mi_embed.specs.Calls.{of_table, Tells};
 
-use crate::asked::{key_for, keyed_index, row_of, schema_of, sequenced_index};
+use crate::arguments::{key_for, keyed_index, row_of, schema_of, sequenced_index};
+use crate::call_result::CallResult;
 use crate::cell::Cell;
 use crate::edits::{EditCell, edits_for};
 use crate::engine::Engine;
-use crate::told::Told;
 use mi_catalog::{Catalog, Column};
 use mi_protocol::{Change, Edits};
 use mi_sessions::Sessions;
@@ -195,7 +195,7 @@ impl Engine {
     /// Adds the record that cells are, last in each index among its equals, and tells its id. Refusals, in this order: `Busy`, `NoTable`,
     /// `Row`, and those of `Sessions::insert`.
     #[tactic(auto, using(crate::proofs::CallLemmas::tells))]
-    pub fn insert(&mut self, conn: u64, table: usize, cells: &[Cell], texts: &[u8]) -> Told
+    pub fn insert(&mut self, conn: u64, table: usize, cells: &[Cell], texts: &[u8]) -> CallResult
         ensures { Tells conn (call.insert table cells.now texts.now) result self.old self.new }
     {
         let asked = self.insert_asked(conn, table, cells, texts);
@@ -213,7 +213,7 @@ impl Engine {
         texts: &[u8],
         index: usize,
         before: u64,
-    ) -> Told
+    ) -> CallResult
         ensures { Tells conn (call.insert_before table cells.now texts.now index before) result self.old self.new }
     {
         let asked = self.insert_before_asked(conn, table, cells, texts, index, before);
@@ -229,7 +229,7 @@ impl Engine {
         id: u64,
         cells: &[Cell],
         texts: &[u8],
-    ) -> Told
+    ) -> CallResult
         ensures { Tells conn (call.replace table id cells.now texts.now) result self.old self.new }
     {
         let asked = self.replace_asked(conn, table, id, cells, texts);
@@ -247,7 +247,7 @@ impl Engine {
         column: usize,
         n: i64,
         rollback: bool,
-    ) -> Told
+    ) -> CallResult
         ensures { Tells conn (call.modify_add table id column n rollback) result self.old self.new }
     {
         let asked = self.modify_add_asked(conn, table, id, column, n, rollback);
@@ -265,7 +265,7 @@ impl Engine {
         edits: &[EditCell],
         texts: &[u8],
         rollback: bool,
-    ) -> Told
+    ) -> CallResult
         ensures { Tells conn (call.modify table id edits.now texts.now rollback) result self.old self.new }
     {
         let asked = self.modify_asked(conn, table, id, edits, texts, rollback);
@@ -274,7 +274,7 @@ impl Engine {
 
     /// Erases a record. Refusals, in this order: `Busy`, `NoTable`, and those of `Sessions::erase`.
     #[tactic(auto, using(crate::proofs::CallLemmas::tells))]
-    pub fn erase(&mut self, conn: u64, table: usize, id: u64) -> Told
+    pub fn erase(&mut self, conn: u64, table: usize, id: u64) -> CallResult
         ensures { Tells conn (call.erase table id) result self.old self.new }
     {
         let asked = self.erase_asked(conn, table, id);
@@ -291,7 +291,7 @@ impl Engine {
         index: usize,
         key: &[Cell],
         texts: &[u8],
-    ) -> Told
+    ) -> CallResult
         ensures { Tells conn (call.erase_key table index key.now texts.now) result self.old self.new }
     {
         let asked = self.erase_key_asked(conn, table, index, key, texts);
@@ -308,7 +308,7 @@ impl Engine {
         index: usize,
         id: u64,
         before: Option<u64>,
-    ) -> Told
+    ) -> CallResult
         ensures { Tells conn (call.relocate table index id before) result self.old self.new }
     {
         let asked = self.relocate_asked(conn, table, index, id, before);

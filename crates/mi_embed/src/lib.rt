@@ -3,9 +3,11 @@
 //! nothing of C.
 #![tactic(auto)]
 
-mod asked;
+mod arguments;
+mod call_result;
 mod cell;
 mod changes;
+mod copying;
 mod edits;
 mod engine;
 mod fault;
@@ -13,15 +15,13 @@ pub mod laws;
 mod look_ups;
 mod names;
 mod pages;
-mod put;
 mod room;
 mod rows;
 mod sessions;
-mod told;
 
+pub use call_result::CallResult;
 pub use cell::Cell;
 pub use edits::EditCell;
 pub use engine::Engine;
 pub use fault::OpenFault;
 pub use pages::End;
-pub use told::Told;

@@ -10,11 +10,11 @@ ghost use Rattle.mi_embed.specs.Asked as asked;
 ghost use Rattle.mi_embed.specs.LookUps as meaning;
 ghost use Rattle.mi_embed.specs.LookUps.{TellsFound, MayTellFound};
 
-use crate::asked::{key_for, keyed_index, ranked_index, schema_of};
+use crate::arguments::{key_for, keyed_index, ranked_index, schema_of};
+use crate::call_result::CallResult;
 use crate::cell::Cell;
 use crate::engine::Engine;
 use crate::rows::shown;
-use crate::told::Told;
 use mi_query::{count, find, lower_rank, nth, rank, size, upper_rank};
 use mi_sessions::Sessions;
 use mi_value::{Key, Record, Refusal, Steps};
@@ -173,12 +173,12 @@ impl Engine {
         key_texts: &[u8],
         cells: &mut [Cell],
         texts: &mut [u8],
-    ) -> Told
+    ) -> CallResult
         ensures { MayTellFound (meaning.find_by self.now.held table index key.now key_texts.now) result cells.old cells.new texts.old texts.new }
     {
         match self.first_of(table, index, key, key_texts) {
             Ok((id, row)) => shown(id, row, cells, texts),
-            Err(refusal) => Told::refused(refusal),
+            Err(refusal) => CallResult::refused(refusal),
         }
     }
 
@@ -191,12 +191,12 @@ impl Engine {
         n: u64,
         cells: &mut [Cell],
         texts: &mut [u8],
-    ) -> Told
+    ) -> CallResult
         ensures { TellsFound (meaning.nth_by self.now.held table index n) result cells.old cells.new texts.old texts.new }
     {
         match self.at_rank(table, index, n) {
             Ok((id, row)) => shown(id, row, cells, texts),
-            Err(refusal) => Told::refused(refusal),
+            Err(refusal) => CallResult::refused(refusal),
         }
     }
 }

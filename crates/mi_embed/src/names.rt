@@ -6,7 +6,7 @@ ghost use Rattle.mi_catalog.specs.Shape as shape;
 ghost use Rattle.mi_embed.specs.Named as meaning;
 ghost use Rattle.mi_embed.specs.Named.{by_name};
 
-use crate::asked::schema_of;
+use crate::arguments::schema_of;
 use crate::engine::Engine;
 use mi_catalog::{Catalog, Schema};
 use mi_sessions::Sessions;

@@ -10,11 +10,11 @@ ghost use Rattle.mi_embed.specs.Asked.{lower_in, upper_in};
 ghost use Rattle.mi_embed.specs.Pages as meaning;
 ghost use Rattle.mi_embed.specs.Pages.{page_limit, IsPaged, MayTellPage};
 
-use crate::asked::{key_for, schema_of, sequenced_index, sorted_index};
+use crate::arguments::{key_for, schema_of, sequenced_index, sorted_index};
+use crate::call_result::CallResult;
 use crate::cell::Cell;
 use crate::engine::Engine;
 use crate::room::{put_rows, wanted};
-use crate::told::Told;
 use mi_catalog::Schema;
 use mi_query::{Page, list, range};
 use mi_sessions::Sessions;
@@ -80,13 +80,13 @@ fn page_limit(ids: &[u64]) -> usize
 }
 
 /// Shows the rows of a page, and tells how many they are and whether others remain, or the room that they want.
-fn show_page(page: &Page<'_>, ids: &mut [u64], cells: &mut [Cell], texts: &mut [u8]) -> Told
+fn show_page(page: &Page<'_>, ids: &mut [u64], cells: &mut [Cell], texts: &mut [u8]) -> CallResult
     requires { length page.now.rows.items ≤ length ids.old }
     ensures { IsPaged (map (λ r. (r.0, r.1.now)) page.now.rows.items, page.now.more) result ids.old ids.new cells.old cells.new texts.old texts.new }
 {
     let rows = page.rows.as_slice();
     if put_rows(rows, ids, cells, texts) {
-        Told::paged(rows.len(), page.more)
+        CallResult::paged(rows.len(), page.more)
     } else {
         wanted(rows)
     }
@@ -165,14 +165,14 @@ impl Engine {
         ids: &mut [u64],
         cells: &mut [Cell],
         texts: &mut [u8],
-    ) -> Told
+    ) -> CallResult
         ensures { MayTellPage (meaning.range_by self.now.held table index lower.entry.kind lower.entry.key.now upper.entry.kind upper.entry.key.now
             key_texts.now reverse (page_limit ids.old)) result ids.old ids.new cells.old cells.new texts.old texts.new }
     {
         let limit = page_limit(ids);
         match self.range_page(table, index, lower, upper, key_texts, reverse, limit) {
             Ok(page) => show_page(&page, ids, cells, texts),
-            Err(refusal) => Told::refused(refusal),
+            Err(refusal) => CallResult::refused(refusal),
         }
     }
 
@@ -213,13 +213,13 @@ impl Engine {
         ids: &mut [u64],
         cells: &mut [Cell],
         texts: &mut [u8],
-    ) -> Told
+    ) -> CallResult
         ensures { MayTellPage (meaning.list_by self.now.held table index after (page_limit ids.old)) result ids.old ids.new cells.old cells.new
             texts.old texts.new }
     {
         match self.list_page(table, index, after, page_limit(ids)) {
             Ok(page) => show_page(&page, ids, cells, texts),
-            Err(refusal) => Told::refused(refusal),
+            Err(refusal) => CallResult::refused(refusal),
         }
     }
 }

@@ -3,12 +3,12 @@ ghost use Rattle.std.specs.Prelude.{◌≡◌, ◌≤◌, ◌+◌, ◌&&◌, ◌
 ghost use Rattle.mi_embed.specs.Cells.{texts_of, cells_of};
 ghost use Rattle.mi_embed.specs.Pages.{values_of, RowsArePut};
 ghost use Rattle.mi_embed.specs.Shown.{has_room};
-ghost use Rattle.mi_embed.specs.Told as told;
+ghost use Rattle.mi_embed.specs.CallResults as told;
 
+use crate::call_result::CallResult;
 use crate::cell::Cell;
-use crate::put::{Taken, put_values};
+use crate::copying::{Taken, put_values};
 use crate::rows::text_bytes;
-use crate::told::Told;
 use mi_value::Record;
 
 /// Puts the values of a row and their texts behind what is taken. Answers what is taken then, or none where there isn't room for all; then nothing
@@ -52,7 +52,7 @@ pub(crate) fn put_rows(
 }
 
 /// What all values of rows and all their texts want.
-pub(crate) fn wanted(rows: &[(u64, &Record)]) -> Told
+pub(crate) fn wanted(rows: &[(u64, &Record)]) -> CallResult
     ensures { result ≡ told.wanting (length (values_of (map (λ r. (r.0, r.1.now)) rows.now))) (length (texts_of (values_of (map (λ r. (r.0, r.1.now)) rows.now)))) }
 {
     let mut count = 0usize;
@@ -62,5 +62,5 @@ pub(crate) fn wanted(rows: &[(u64, &Record)]) -> Told
         count = count.saturating_add(record.column_count());
         bytes = bytes.saturating_add(text_bytes(record.values()));
     }
-    Told::wanting(count, bytes)
+    CallResult::wanting(count, bytes)
 }

@@ -1,13 +1,13 @@
 //! Look-ups with values in place of a line: records are put into cells and bytes of the caller's. They change nothing, and take no memory.
 ghost use Rattle.std.specs.Prelude.{◌≡◌, ◌<◌, ◌^◌, length, map, MatchResult, Ok, Err};
 ghost use Rattle.mi_embed.specs.Cells.{texts_of};
-ghost use Rattle.mi_embed.specs.Told.{in_64};
+ghost use Rattle.mi_embed.specs.CallResults.{in_64};
 ghost use Rattle.mi_embed.specs.Shown.{got, IsShown, TellsRow};
 
+use crate::call_result::CallResult;
 use crate::cell::Cell;
+use crate::copying::{Taken, put_values};
 use crate::engine::Engine;
-use crate::put::{Taken, put_values};
-use crate::told::Told;
 use mi_sessions::Sessions;
 use mi_value::{Record, Refusal, Steps, ValueRef, Values};
 
@@ -24,14 +24,14 @@ pub(crate) fn text_bytes(values: Values<'_>) -> u64
 }
 
 /// Shows a record, and tells its id, or the room that it wants.
-pub(crate) fn shown(id: u64, row: &Record, cells: &mut [Cell], texts: &mut [u8]) -> Told
+pub(crate) fn shown(id: u64, row: &Record, cells: &mut [Cell], texts: &mut [u8]) -> CallResult
     ensures { IsShown id row.now result cells.old cells.new texts.old texts.new }
 {
     let none = Taken { cells: 0, bytes: 0 };
     if put_values(row.values(), cells, texts, none).is_some() {
-        Told::accepted(id)
+        CallResult::accepted(id)
     } else {
-        Told::wanting(row.column_count(), text_bytes(row.values()))
+        CallResult::wanting(row.column_count(), text_bytes(row.values()))
     }
 }
 
@@ -51,12 +51,12 @@ impl Engine {
 
     /// Puts the record of an id into cells, one for each column, and its texts into bytes, and tells the id. Refusals, in this order:
     /// `NoTable` and `NoId`; then both stay as they are. Without room for both it tells what is wanted, and nothing is said of either.
-    pub fn get(&self, table: usize, id: u64, cells: &mut [Cell], texts: &mut [u8]) -> Told
+    pub fn get(&self, table: usize, id: u64, cells: &mut [Cell], texts: &mut [u8]) -> CallResult
         ensures { TellsRow id (got self.now.held table id) result cells.old cells.new texts.old texts.new }
     {
         match self.record(table, id) {
             Ok(row) => shown(id, row, cells, texts),
-            Err(refusal) => Told::refused(refusal),
+            Err(refusal) => CallResult::refused(refusal),
         }
     }
 }

@@ -11,7 +11,7 @@ use Rattle.mi_hub.specs.OneLine.{IsWholeLine}
 use Rattle.mi_hub.proofs.LineLemmas.{lines_from-nothing, from_unended, from_rests, after-at}
 use Rattle.mi_hub.proofs.OneLineLemmas.{whole_line}
 use Rattle.mi_replay.specs.Replayed.{replayed}
-use Rattle.mi_ledger.specs.Replay.{Passes, HasPassed}
+use Rattle.mi_durable.specs.Replay.{Passes, HasPassed}
 use Rattle.mi_recovery.specs.declared.opening.Journaled.{Journaled}
 use Rattle.mi_recovery.specs.declared.opening.Journaled.TheVariants.{Nothing, Journal}
 use Rattle.mi_recovery.specs.JournalFile.{text_of}

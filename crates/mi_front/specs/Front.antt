@@ -6,7 +6,7 @@ use Rattle.mi_model.specs.Database.{depth}
 use Rattle.mi_commands.specs.Asked.{Asked, text}
 use Rattle.mi_commands.specs.Holder.{HeldDatabase}
 use Rattle.mi_hub.specs.Ended.{ended}
-use Rattle.mi_ledger.specs.Replay.{Passes}
+use Rattle.mi_durable.specs.Replay.{Passes}
 use Rattle.mi_replay.specs.Replayed.{replayed}
 use Rattle.mi_checkpoint.specs.Settled.{AreTaken}
 use Rattle.mi_checkpoint.specs.OpenStarts.{IsCheckpoint, BaseReplays, base_at}

@@ -4,13 +4,13 @@ ghost use Rattle.std.specs.Prelude.{◌≡◌, ◌+◌, ◌∷◌, [], Some, tru
 ghost use Rattle.mi_model.specs.Database.{depth};
 ghost use Rattle.mi_hub.specs.Connections.{rest_at};
 ghost use Rattle.mi_replay.specs.Replayed.{replayer, replayed, unheld};
-ghost use Rattle.mi_clients.specs.Row.{fresh};
+ghost use Rattle.mi_clients.specs.Clients.{fresh};
 ghost use Rattle.mi_front.specs.Front.{IsFrontPlace, IsFront, undo_all_line};
 
 use crate::row::{NotedJournal, note_row};
 use mi_checkpoint::OpenStarts;
+use mi_durable::replay_line;
 use mi_hub::Hub;
-use mi_ledger::replay_line;
 use mi_recovery::{
     Asked, JournalFailure, JournalFault, JournalFile, JournalFiles, JournalSchema, Place, Position,
     attach_replayer, claim_newest,

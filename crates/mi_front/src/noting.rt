@@ -10,8 +10,8 @@ ghost use Rattle.mi_replay.specs.Replayed.{replayer};
 ghost use Rattle.mi_front.specs.Noted.{Lines, HasGiven, GivesAll, Notes};
 
 use mi_checkpoint::OpenStarts;
+use mi_durable::{LineFault, ReplayFault, replay_line};
 use mi_hub::Hub;
-use mi_ledger::{LineFault, ReplayFault, replay_line};
 use mi_log::LogLines;
 use mi_sessions::Sessions;
 use std::alloc::Global;

@@ -1,5 +1,5 @@
 -- How the lines of bytes come together from those of their parts.
--- Cited by `laws::lines_in_pieces`, `line::ended_text`, 5 more, `mi_clients`, `mi_ledger`, `mi_recovery` and `mi_replay`.
+-- Cited by `laws::lines_in_pieces`, `line::ended_text`, 5 more, `mi_clients`, `mi_durable`, `mi_recovery` and `mi_replay`.
 use Rattle.std.proofs.Common.{◌≡◌, ℕ, zero, suc, ◌<◌, List, [], ◌∷◌, ◌++◌, length, take, drop, get_or, Bool, true, false, cond, nat_lt, nat_eq, Option}
 use Rattle.std.proofs.Common.{Some, None, map, option_to_list, refl, sym, ap, ◌∙◌, arith, rules, append_assoc, append-nil, length-append, inl, inr, ◌⊎◌}
 use Rattle.std.specs.List.{filter_map, cons_option}

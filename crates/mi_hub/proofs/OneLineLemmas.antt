@@ -1,5 +1,5 @@
 -- A whole line that is asked by itself is the event of its bytes.
--- Cited by `Hub::ask_line`, `line::whole_line`, `mi_clients` and `mi_ledger`.
+-- Cited by `Hub::ask_line`, `line::whole_line`, `mi_clients` and `mi_durable`.
 use Rattle.std.proofs.Common.{◌≡◌, ℕ, List, [], ◌∷◌, ◌++◌, Bool, length, take, arith, Option, Some, option_to_list, Result, Ok, Err}
 use Rattle.std.proofs.Common.{refl, sym, ap, ◌∙◌, subst, append-nil}
 use Rattle.std.specs.Prelude.{IfOk}

@@ -21,7 +21,7 @@ use Rattle.mi_index.specs.Rekeying.{side_of_value, HasPlaceFor}
 use Rattle.mi_index.specs.Inserting.{coming_in, come_in, IsInserted}
 use Rattle.mi_order.specs.declared.stored.Stored.{Stored}
 use Rattle.mi_order.specs.declared.orders.ByKey.{ByKey}
-use Rattle.mi_index.specs.declared.moves.Moves.TheVariants.{All}
+use Rattle.mi_index.specs.declared.moved_indexes.MovedIndexes.TheVariants.{All}
 use Rattle.mi_index.specs.declared.structure.Structure.{Structure}
 use Rattle.mi_index.specs.declared.structure.Structure.TheVariants.{Sorted, Hashed, Sequenced}
 use Rattle.mi_index.proofs.LikeLemmas.{by_kind}

@@ -24,8 +24,8 @@ use Rattle.mi_index.specs.Standing.{slot_in, Stands, IsLike}
 use Rattle.mi_index.specs.Places.{is_given, mark_at, still_marked, still_given, is_moved, stamp_for, IsOneOf, HasStamp}
 use Rattle.mi_node.specs.declared.old_place.OldPlace.{OldPlace}
 use Rattle.mi_node.proofs.EntryLemmas.{none_some}
-use Rattle.mi_index.specs.declared.moves.Moves.{Moves}
-use Rattle.mi_index.specs.declared.moves.Moves.TheVariants.{All, Marked, Placed}
+use Rattle.mi_index.specs.declared.moved_indexes.MovedIndexes.{MovedIndexes}
+use Rattle.mi_index.specs.declared.moved_indexes.MovedIndexes.TheVariants.{All, Marked, Placed}
 use Rattle.mi_index.specs.Pass.{Asks, AllStand, AllCan, AreReady}
 use Rattle.mi_index.specs.Passes.{IsSame, HasNodeIf}
 use Rattle.mi_index.specs.Keeping.{KeepsIts, IsFlagged, own_link, KeepsButLinks, AreRetagged, ArePlaced}
@@ -103,7 +103,7 @@ by_place : (g : Option OldPlace) (u : ℕ) (r : Ref) (rs : List Ref) → option_
 by_place (Some p) u r rs e h = h
 by_place None u r rs e h = absurd (none_some u e)
 
-pub is_there : (moves : Moves) (s t u : ℕ) (r : Ref) (rs : List Ref) → stamp_for moves s t ≡ Some u → HasNodeIf (is_moved moves s) r rs → IsOneOf r rs
+pub is_there : (moves : MovedIndexes) (s t u : ℕ) (r : Ref) (rs : List Ref) → stamp_for moves s t ≡ Some u → HasNodeIf (is_moved moves s) r rs → IsOneOf r rs
 is_there All s t u r rs e h = h
 is_there (Marked marks kept) s t u r rs e h = by_mark (still_marked kept.now marks.now s) t u r rs e h
 is_there (Placed places kept) s t u r rs e h = by_place (still_given kept.now places.now s) u r rs e h

@@ -21,7 +21,7 @@ use Rattle.mi_index.specs.Inserting.{IsRelocatedIf, relocating_at, relocated_at}
 use Rattle.mi_order.specs.declared.stored.Stored.{Stored}
 use Rattle.mi_node.specs.OldPlace.{own_place}
 use Rattle.mi_node.specs.declared.old_place.OldPlace.{OldPlace}
-use Rattle.mi_index.specs.declared.moves.Moves.{Moves}
+use Rattle.mi_index.specs.declared.moved_indexes.MovedIndexes.{MovedIndexes}
 use Rattle.mi_index.specs.declared.structure.Structure.{Structure}
 use Rattle.mi_index.specs.declared.structure.Structure.TheVariants.{Sorted, Hashed, Sequenced}
 use Rattle.mi_index.proofs.FrameLemmas.{Agree}
@@ -75,7 +75,7 @@ join_if_stays : (moves : Bool) (x : Structure) (m n : Pooled Stored) (r : Ref) (
 join_if_stays true x m n r stamp b rs a c = join_stays x m n r stamp b rs a c
 join_if_stays false x m n r stamp b rs a c = tt
 
-joining_stays : (moves : Moves) (r : Ref) (stamp : ℕ) (b : Option (ℕ × Ref)) → Stays (joining moves r stamp b)
+joining_stays : (moves : MovedIndexes) (r : Ref) (stamp : ℕ) (b : Option (ℕ × Ref)) → Stays (joining moves r stamp b)
 joining_stays moves r stamp b s x m n rs e a c = join_if_stays (is_moved moves s) x m n r stamp (before_at s b) rs a c
 
 stamp_before : (x : Structure) (l m n : Pooled Stored) (r : Ref) (stamp : ℕ) → Agree (slot_in x) l m → HasStamp x m n r stamp → HasStamp x l n r stamp
@@ -104,19 +104,19 @@ joined_if_after : (moves : Bool) (x : Structure) (m n o : Pooled Stored) (r : Re
 joined_if_after true x m n o r stamp b rs us a h = record { joined = h.joined; put = h.put; stamped = stamp_after x m n o r stamp a h.stamped }
 joined_if_after false x m n o r stamp b rs us a h = same_after x m n o rs us a h
 
-joined_before : (moves : Moves) (r : Ref) (stamp : ℕ) (b : Option (ℕ × Ref)) → Before (joined moves r stamp b)
+joined_before : (moves : MovedIndexes) (r : Ref) (stamp : ℕ) (b : Option (ℕ × Ref)) → Before (joined moves r stamp b)
 joined_before moves r stamp b s x l m n rs us e a h = joined_if_before (is_moved moves s) x l m n r stamp (before_at s b) rs us a h
 
-joined_after : (moves : Moves) (r : Ref) (stamp : ℕ) (b : Option (ℕ × Ref)) → After (joined moves r stamp b)
+joined_after : (moves : MovedIndexes) (r : Ref) (stamp : ℕ) (b : Option (ℕ × Ref)) → After (joined moves r stamp b)
 joined_after moves r stamp b s x m n o rs us e a h = joined_if_after (is_moved moves s) x m n o r stamp (before_at s b) rs us a h
 
 -- so it is where a node comes in
-pub joining_local : (moves : Moves) (r : Ref) (stamp : ℕ) (b : Option (ℕ × Ref)) → IsLocal (joining moves r stamp b) (joined moves r stamp b)
+pub joining_local : (moves : MovedIndexes) (r : Ref) (stamp : ℕ) (b : Option (ℕ × Ref)) → IsLocal (joining moves r stamp b) (joined moves r stamp b)
 joining_local moves r stamp b = record { stays = joining_stays moves r stamp b; before = joined_before moves r stamp b; after = joined_after moves r stamp b }
 
 -- A node goes
 
-leaving_stays : (moves : Moves) (r : Ref) → Stays (leaving moves r)
+leaving_stays : (moves : MovedIndexes) (r : Ref) → Stays (leaving moves r)
 leaving_stays moves r s x m n rs e a c = c
 
 beside_stays : (x : Structure) (m n : Pooled Stored) (r : Ref) (back forth : Option Ref) (xs ys : List Ref)
@@ -157,14 +157,14 @@ left_if_after true x m n o r rs us a h = record {
 }
 left_if_after false x m n o r rs us a h = same_after x m n o rs us a h
 
-left_before : (moves : Moves) (r : Ref) → Before (left moves r)
+left_before : (moves : MovedIndexes) (r : Ref) → Before (left moves r)
 left_before moves r s x l m n rs us e a h = left_if_before (is_moved moves s) x l m n r rs us a h
 
-left_after : (moves : Moves) (r : Ref) → After (left moves r)
+left_after : (moves : MovedIndexes) (r : Ref) → After (left moves r)
 left_after moves r s x m n o rs us e a h = left_if_after (is_moved moves s) x m n o r rs us a h
 
 -- so it is where a node goes
-pub leaving_local : (moves : Moves) (r : Ref) → IsLocal (leaving moves r) (left moves r)
+pub leaving_local : (moves : MovedIndexes) (r : Ref) → IsLocal (leaving moves r) (left moves r)
 leaving_local moves r = record { stays = leaving_stays moves r; before = left_before moves r; after = left_after moves r }
 
 -- A node comes back
@@ -198,7 +198,7 @@ return_stays (Some p) x m n r rs a c = record { held = a.refs r.name ∙ c.held;
 link_at : (s : ℕ) (x : Structure) (m n : Pooled Stored) (r : Ref) → slot_in x ≡ s → Agree (slot_in x) m n → link_of n r.name s ≡ link_of m r.name s
 link_at s x m n r e a = subst (λ k. link_of n r.name k ≡ link_of m r.name k) e (a.links r.name)
 
-returning_stays : (moves : Moves) (r : Ref) → Stays (returning moves r)
+returning_stays : (moves : MovedIndexes) (r : Ref) → Stays (returning moves r)
 returning_stays moves r s x m n rs e a c =
     subst (λ l. CanReturnTo (place_for moves s l) x n r rs) (sym (link_at s x m n r e a)) (return_stays (place_for moves s (link_of m r.name s)) x m n r rs a c)
 
@@ -224,15 +224,15 @@ back_after : (o : Option OldPlace) (x : Structure) (m n q : Pooled Stored) (r : 
 back_after None x m n q r rs us a h = same_after x m n q rs us a h
 back_after (Some p) x m n q r rs us a h = record { back = h.back; beside = h.beside; stamped = stamp_after x m n q r p.stamp a h.stamped }
 
-returned_before : (moves : Moves) (r : Ref) → Before (returned moves r)
+returned_before : (moves : MovedIndexes) (r : Ref) → Before (returned moves r)
 returned_before moves r s x l m n rs us e a h =
     back_before (place_for moves s (link_of l r.name s)) x l m n r rs us a (subst (λ k. IsBackAt (place_for moves s k) x m n r rs us) (link_at s x l m r e a) h)
 
-returned_after : (moves : Moves) (r : Ref) → After (returned moves r)
+returned_after : (moves : MovedIndexes) (r : Ref) → After (returned moves r)
 returned_after moves r s x m n o rs us e a h = back_after (place_for moves s (link_of m r.name s)) x m n o r rs us a h
 
 -- so it is where a node comes back
-pub returning_local : (moves : Moves) (r : Ref) → IsLocal (returning moves r) (returned moves r)
+pub returning_local : (moves : MovedIndexes) (r : Ref) → IsLocal (returning moves r) (returned moves r)
 returning_local moves r = record { stays = returning_stays moves r; before = returned_before moves r; after = returned_after moves r }
 
 -- Chains grow

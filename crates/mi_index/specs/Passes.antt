@@ -7,7 +7,7 @@ use Rattle.mi_index.specs.Places.{is_moved, place_for, before_at, IsOneOf, CanJo
 use Rattle.mi_index.specs.Pass.{Asks, Gives}
 use Rattle.mi_order.specs.declared.stored.Stored.{Stored}
 use Rattle.mi_node.specs.declared.old_place.OldPlace.{OldPlace}
-use Rattle.mi_index.specs.declared.moves.Moves.{Moves}
+use Rattle.mi_index.specs.declared.moved_indexes.MovedIndexes.{MovedIndexes}
 use Rattle.mi_index.specs.declared.structure.Structure.{Structure}
 
 -- the list stays, and no link of the slot was set
@@ -25,10 +25,10 @@ abbrev pub IsJoinedIf : Bool → Structure → Pooled Stored → Pooled Stored �
 IsJoinedIf true x m n r stamp b rs us = IsJoined x m n r stamp b rs us
 IsJoinedIf false x m n r stamp b rs us = IsSame x m n rs us
 
-abbrev pub joining : Moves → Ref → ℕ → Option (ℕ × Ref) → Asks
+abbrev pub joining : MovedIndexes → Ref → ℕ → Option (ℕ × Ref) → Asks
 joining moves r stamp before s x m rs = CanJoinIf (is_moved moves s) x m r stamp (before_at s before) rs
 
-abbrev pub joined : Moves → Ref → ℕ → Option (ℕ × Ref) → Gives
+abbrev pub joined : MovedIndexes → Ref → ℕ → Option (ℕ × Ref) → Gives
 joined moves r stamp before s x m n rs us = IsJoinedIf (is_moved moves s) x m n r stamp (before_at s before) rs us
 
 -- A node goes
@@ -41,10 +41,10 @@ abbrev pub IsLeftIf : Bool → Structure → Pooled Stored → Pooled Stored →
 IsLeftIf true x m n r rs us = IsLeft x m n r rs us
 IsLeftIf false x m n r rs us = IsSame x m n rs us
 
-abbrev pub leaving : Moves → Ref → Asks
+abbrev pub leaving : MovedIndexes → Ref → Asks
 leaving moves r s x m rs = HasNodeIf (is_moved moves s) r rs
 
-abbrev pub left : Moves → Ref → Gives
+abbrev pub left : MovedIndexes → Ref → Gives
 left moves r s x m n rs us = IsLeftIf (is_moved moves s) x m n r rs us
 
 -- A node comes back
@@ -57,10 +57,10 @@ abbrev pub IsBackAt : Option OldPlace → Structure → Pooled Stored → Pooled
 IsBackAt None x m n r rs us = IsSame x m n rs us
 IsBackAt (Some p) x m n r rs us = IsBack x m n r p rs us
 
-abbrev pub returning : Moves → Ref → Asks
+abbrev pub returning : MovedIndexes → Ref → Asks
 returning moves r s x m rs = CanReturnTo (place_for moves s (link_of m r.name s)) x m r rs
 
-abbrev pub returned : Moves → Ref → Gives
+abbrev pub returned : MovedIndexes → Ref → Gives
 returned moves r s x m n rs us = IsBackAt (place_for moves s (link_of m r.name s)) x m n r rs us
 
 -- Chains grow

@@ -20,8 +20,8 @@ use Rattle.mi_index.specs.Standing.{slot_in, AllAbove, AllBelow}
 use Rattle.mi_order.specs.declared.stored.Stored.{Stored}
 use Rattle.mi_order.specs.declared.orders.ByHash.{ByHash}
 use Rattle.mi_node.specs.declared.old_place.OldPlace.{OldPlace}
-use Rattle.mi_index.specs.declared.moves.Moves.{Moves}
-use Rattle.mi_index.specs.declared.moves.Moves.TheVariants.{All, Marked, Placed}
+use Rattle.mi_index.specs.declared.moved_indexes.MovedIndexes.{MovedIndexes}
+use Rattle.mi_index.specs.declared.moved_indexes.MovedIndexes.TheVariants.{All, Marked, Placed}
 use Rattle.mi_index.specs.declared.structure.Structure.{Structure}
 use Rattle.mi_index.specs.declared.structure.Structure.TheVariants.{Sorted, Hashed, Sequenced}
 
@@ -45,19 +45,19 @@ abbrev pub still_given : List Bool → List (Option OldPlace) → ℕ → Option
 still_given kept places s = cond (mark_at kept s) None (given_at places s)
 
 -- whether a pass changes the index of a slot
-abbrev pub is_moved : Moves → ℕ → Bool
+abbrev pub is_moved : MovedIndexes → ℕ → Bool
 is_moved All s = true
 is_moved (Marked marks kept) s = still_marked kept.now marks.now s
 is_moved (Placed places kept) s = is_given (still_given kept.now places.now s)
 
 -- the stamp that a node gets in the index of a slot: this one, or that of the place that is given
-abbrev pub stamp_for : Moves → ℕ → ℕ → Option ℕ
+abbrev pub stamp_for : MovedIndexes → ℕ → ℕ → Option ℕ
 stamp_for All s stamp = Some stamp
 stamp_for (Marked marks kept) s stamp = cond (still_marked kept.now marks.now s) (Some stamp) None
 stamp_for (Placed places kept) s stamp = option_map (λ p. p.stamp) (still_given kept.now places.now s)
 
 -- where a node comes back to in the index of a slot: the place that is given, or else what its own link there remembers
-abbrev pub place_for : Moves → ℕ → Link → Option OldPlace
+abbrev pub place_for : MovedIndexes → ℕ → Link → Option OldPlace
 place_for All s l = Some (own_place l)
 place_for (Marked marks kept) s l = cond (still_marked kept.now marks.now s) (Some (own_place l)) None
 place_for (Placed places kept) s l = still_given kept.now places.now s

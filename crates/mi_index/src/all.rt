@@ -15,7 +15,7 @@ ghost use Rattle.mi_index.specs.Inserting as insert;
 ghost use Rattle.mi_index.specs.Opened as opened;
 ghost use Rattle.mi_index.specs.declared.structure.Structure.{Structure as One};
 
-use crate::moves::{Moves, before_in, is_marked, place_at};
+use crate::moved_indexes::{MovedIndexes, before_in, is_marked, place_at};
 use crate::structure::Structure;
 use mi_catalog::{Column, Index};
 use mi_node::{NodeRef, OldPlace, Pool};
@@ -25,15 +25,15 @@ use std::alloc::{AllocError, Global};
 /// A node that comes into the indexes in which it moves: by its key and this stamp, in the list of the index that is given
 /// directly before the node that is given, and last in each other list.
 #[derive(Clone, Copy)]
-pub(crate) struct Joining<'a> {
+pub(crate) struct Linking<'a> {
     pub(crate) node: NodeRef,
-    pub(crate) moves: Moves<'a>,
+    pub(crate) moves: MovedIndexes<'a>,
     pub(crate) stamp: u64,
     pub(crate) before: Option<(usize, NodeRef)>,
 }
 
 /// Puts a node into one structure, if it moves there.
-fn link_one(structure: &mut Structure, slot: usize, p: &mut Pool<Stored>, it: &Joining<'_>)
+fn link_one(structure: &mut Structure, slot: usize, p: &mut Pool<Stored>, it: &Linking<'_>)
     requires { IsReady (pass.joining it.now.moves it.now.node it.now.stamp it.now.before) slot structure.old p.old }
     ensures step { IsStep (pass.joining it.now.moves it.now.node it.now.stamp it.now.before)
         (pass.joined it.now.moves it.now.node it.now.stamp it.now.before) it.now.node slot structure.old structure.new p.old p.new }
@@ -50,7 +50,7 @@ fn unlink_one(
     slot: usize,
     p: &mut Pool<Stored>,
     node: NodeRef,
-    moves: &Moves<'_>,
+    moves: &MovedIndexes<'_>,
 )
     requires { IsReady (pass.leaving moves.now node) slot structure.old p.old }
     ensures step { IsStep (pass.leaving moves.now node) (pass.left moves.now node) node slot structure.old structure.new p.old p.new }
@@ -62,13 +62,18 @@ fn unlink_one(
 }
 
 /// Where a node comes back to in one structure, if it moves there. Its own link isn't read where places are given.
-fn place_of(p: &Pool<Stored>, slot: usize, node: NodeRef, moves: &Moves<'_>) -> Option<OldPlace>
+fn place_of(
+    p: &Pool<Stored>,
+    slot: usize,
+    node: NodeRef,
+    moves: &MovedIndexes<'_>,
+) -> Option<OldPlace>
     requires held { IsHeld p.now node }
     requires slot { slot < p.now.slots }
     ensures { result ≡ place_for moves.now slot (link_of p.now node.name slot) }
 {
     match moves {
-        Moves::Placed(all, kept) => place_at(all, kept, slot),
+        MovedIndexes::Placed(all, kept) => place_at(all, kept, slot),
         _ => moves.place_in(slot, p.link(node, slot)),
     }
 }
@@ -79,7 +84,7 @@ fn relink_one(
     slot: usize,
     p: &mut Pool<Stored>,
     node: NodeRef,
-    moves: &Moves<'_>,
+    moves: &MovedIndexes<'_>,
 )
     requires held { IsHeld p.old node }
     requires slot { slot < p.old.slots }
@@ -117,7 +122,7 @@ fn keeps_one(
     p: &Pool<Stored>,
     node: NodeRef,
     stored: &Stored,
-    moves: &Moves<'_>,
+    moves: &MovedIndexes<'_>,
     stamp: u64,
 ) -> bool
     requires { IsReady (pass.leaving moves.now node) slot structure.now p.now }
@@ -137,7 +142,7 @@ pub(crate) fn find_kept(
     p: &Pool<Stored>,
     node: NodeRef,
     stored: &Stored,
-    moves: &Moves<'_>,
+    moves: &MovedIndexes<'_>,
     stamp: u64,
     kept: &mut [bool],
 )
@@ -163,7 +168,7 @@ fn retag_one(
     slot: usize,
     p: &mut Pool<Stored>,
     node: NodeRef,
-    moves: &Moves<'_>,
+    moves: &MovedIndexes<'_>,
     stamp: u64,
     kept: &[bool],
 )
@@ -187,7 +192,7 @@ pub(crate) fn retag_all(
     slot: usize,
     p: &mut Pool<Stored>,
     node: NodeRef,
-    moves: &Moves<'_>,
+    moves: &MovedIndexes<'_>,
     stamp: u64,
     kept: &[bool],
 )
@@ -206,7 +211,7 @@ pub(crate) fn retag_all(
 }
 
 /// Puts a node into each structure in which it moves.
-pub(crate) fn link_all(structures: &mut [Structure], p: &mut Pool<Stored>, it: &Joining<'_>)
+pub(crate) fn link_all(structures: &mut [Structure], p: &mut Pool<Stored>, it: &Linking<'_>)
     requires { AreReady (pass.joining it.now.moves it.now.node it.now.stamp it.now.before) 0 structures.old p.old }
     ensures pass { IsPass (pass.joining it.now.moves it.now.node it.now.stamp it.now.before)
         (pass.joined it.now.moves it.now.node it.now.stamp it.now.before) it.now.node 0 structures.old structures.new p.old p.new }
@@ -222,7 +227,7 @@ pub(crate) fn unlink_all(
     structures: &mut [Structure],
     p: &mut Pool<Stored>,
     node: NodeRef,
-    moves: &Moves<'_>,
+    moves: &MovedIndexes<'_>,
 )
     requires { AreReady (pass.leaving moves.now node) 0 structures.old p.old }
     ensures pass { IsPass (pass.leaving moves.now node) (pass.left moves.now node) node 0 structures.old structures.new p.old p.new }
@@ -238,7 +243,7 @@ pub(crate) fn relink_all(
     structures: &mut [Structure],
     p: &mut Pool<Stored>,
     node: NodeRef,
-    moves: &Moves<'_>,
+    moves: &MovedIndexes<'_>,
 )
     requires held { IsHeld p.old node }
     requires all { AreReady (pass.returning moves.now node) 0 structures.old p.old }

@@ -6,14 +6,14 @@
 mod all;
 pub mod laws;
 mod look;
-mod moves;
+mod moved_indexes;
 mod nodes;
 mod structure;
 mod structures;
 mod walk;
 
 pub use mi_order::{ByHash, ByKey, Stored, hash_values};
-pub use moves::Moves;
+pub use moved_indexes::MovedIndexes;
 pub use nodes::Nodes;
 pub use structure::Structure;
 pub use structures::Structures;

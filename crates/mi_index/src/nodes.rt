@@ -9,11 +9,11 @@ ghost use Rattle.mi_index.specs.Passes as pass;
 ghost use Rattle.mi_index.specs.Rekeying as rekey;
 ghost use Rattle.mi_index.specs.Inserting as insert;
 ghost use Rattle.mi_index.specs.Opened as opened;
-ghost use Rattle.mi_index.specs.declared.moves.Moves.TheVariants.{All};
+ghost use Rattle.mi_index.specs.declared.moved_indexes.MovedIndexes.TheVariants.{All};
 ghost use Rattle.mi_order.specs.declared.stored.Stored.{Stored as Value};
 
-use crate::all::Joining;
-use crate::moves::Moves;
+use crate::all::Linking;
+use crate::moved_indexes::MovedIndexes;
 use crate::structures::Structures;
 use mi_catalog::Schema;
 use mi_node::{MaybePlace, NodeRef, Pool};
@@ -98,9 +98,9 @@ impl Nodes {
         }
         let block = block_of(&stored);
         let node = self.pool.take(stored)?;
-        let joining = Joining {
+        let joining = Linking {
             node,
-            moves: Moves::All,
+            moves: MovedIndexes::All,
             stamp,
             before,
         };
@@ -116,7 +116,8 @@ impl Nodes {
             self.old.structures.items self.new.structures.items self.old.pool self.new.pool }
         ensures like { AllLike self.old.structures.items self.new.structures.items }
     {
-        self.structures.unlink(&mut self.pool, node, &Moves::All);
+        self.structures
+            .unlink(&mut self.pool, node, &MovedIndexes::All);
     }
 
     /// Puts a node back into every index, to the places that its links remember. Takes no memory.
@@ -127,7 +128,8 @@ impl Nodes {
             self.old.structures.items self.new.structures.items self.old.pool self.new.pool }
         ensures like { AllLike self.old.structures.items self.new.structures.items }
     {
-        self.structures.relink(&mut self.pool, node, &Moves::All);
+        self.structures
+            .relink(&mut self.pool, node, &MovedIndexes::All);
     }
 
     /// Gives a node another value, and the old one back. In each index that is marked the node moves, by its new key and
@@ -143,13 +145,13 @@ impl Nodes {
             self.old.structures.items self.new.structures.items self.old.pool self.new.pool rss }
         ensures like { AllLike self.old.structures.items self.new.structures.items }
     {
-        let asked = Moves::Marked(marks, &[]);
+        let asked = MovedIndexes::Marked(marks, &[]);
         let kept = self
             .structures
             .find_kept(&self.pool, node, &stored, &asked, stamp);
-        let joining = Joining {
+        let joining = Linking {
             node,
-            moves: Moves::Marked(marks, &kept),
+            moves: MovedIndexes::Marked(marks, &kept),
             stamp,
             before: None,
         };
@@ -176,11 +178,11 @@ impl Nodes {
             self.old.structures.items self.new.structures.items self.old.pool self.new.pool rss }
         ensures like { AllLike self.old.structures.items self.new.structures.items }
     {
-        let asked = Moves::Placed(places, &[]);
+        let asked = MovedIndexes::Placed(places, &[]);
         let kept = self
             .structures
             .find_kept(&self.pool, node, &stored, &asked, 0);
-        let moves = Moves::Placed(places, &kept);
+        let moves = MovedIndexes::Placed(places, &kept);
         self.structures.unlink(&mut self.pool, node, &moves);
         let block = block_of(&stored);
         let old = self.pool.swap_value(node, stored);
@@ -204,14 +206,14 @@ impl Nodes {
             self.old.structures.items self.new.structures.items self.old.pool self.new.pool rss }
         ensures like { AllLike self.old.structures.items self.new.structures.items }
     {
-        let asked = Moves::Marked(marks, &[]);
+        let asked = MovedIndexes::Marked(marks, &[]);
         let stored = self.pool.value(node);
         let kept = self
             .structures
             .find_kept(&self.pool, node, stored, &asked, stamp);
-        let joining = Joining {
+        let joining = Linking {
             node,
-            moves: Moves::Marked(marks, &kept),
+            moves: MovedIndexes::Marked(marks, &kept),
             stamp,
             before: None,
         };

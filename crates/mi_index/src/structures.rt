@@ -12,10 +12,10 @@ ghost use Rattle.mi_index.specs.Inserting as insert;
 ghost use Rattle.mi_index.specs.Opened as opened;
 
 use crate::all::{
-    Joining, add_structures, find_kept, link_all, make_room_all, relink_all, relocate_all,
+    Linking, add_structures, find_kept, link_all, make_room_all, relink_all, relocate_all,
     retag_all, unlink_all,
 };
-use crate::moves::Moves;
+use crate::moved_indexes::MovedIndexes;
 use crate::structure::Structure;
 use mi_catalog::{Column, Index};
 use mi_node::{NodeRef, Pool};
@@ -91,7 +91,7 @@ impl Structures {
     }
 
     /// Puts a node into each structure in which it moves. Takes no memory.
-    pub(crate) fn link(&mut self, p: &mut Pool<Stored>, it: &Joining<'_>)
+    pub(crate) fn link(&mut self, p: &mut Pool<Stored>, it: &Linking<'_>)
         requires { AreReady (pass.joining it.now.moves it.now.node it.now.stamp it.now.before) 0 self.old.items p.old }
         ensures pass { IsPass (pass.joining it.now.moves it.now.node it.now.stamp it.now.before)
             (pass.joined it.now.moves it.now.node it.now.stamp it.now.before) it.now.node 0 self.old.items self.new.items p.old p.new }
@@ -101,7 +101,7 @@ impl Structures {
     }
 
     /// Takes a node out of each structure in which it moves. Takes no memory.
-    pub(crate) fn unlink(&mut self, p: &mut Pool<Stored>, node: NodeRef, moves: &Moves<'_>)
+    pub(crate) fn unlink(&mut self, p: &mut Pool<Stored>, node: NodeRef, moves: &MovedIndexes<'_>)
         requires { AreReady (pass.leaving moves.now node) 0 self.old.items p.old }
         ensures pass { IsPass (pass.leaving moves.now node) (pass.left moves.now node) node 0 self.old.items self.new.items p.old p.new }
         ensures like { AllLike self.old.items self.new.items }
@@ -116,7 +116,7 @@ impl Structures {
         p: &Pool<Stored>,
         node: NodeRef,
         stored: &Stored,
-        moves: &Moves<'_>,
+        moves: &MovedIndexes<'_>,
         stamp: u64,
     ) -> [bool; FLAGS]
         requires { AreReady (pass.leaving moves.now node) 0 self.now.items p.now }
@@ -142,7 +142,7 @@ impl Structures {
         &self,
         p: &mut Pool<Stored>,
         node: NodeRef,
-        moves: &Moves<'_>,
+        moves: &MovedIndexes<'_>,
         stamp: u64,
         kept: &[bool],
     )
@@ -156,7 +156,7 @@ impl Structures {
     }
 
     /// Puts a node back into each structure in which it moves. Takes no memory.
-    pub(crate) fn relink(&mut self, p: &mut Pool<Stored>, node: NodeRef, moves: &Moves<'_>)
+    pub(crate) fn relink(&mut self, p: &mut Pool<Stored>, node: NodeRef, moves: &MovedIndexes<'_>)
         requires held { IsHeld p.old node }
         requires all { AreReady (pass.returning moves.now node) 0 self.old.items p.old }
         ensures pass { IsPass (pass.returning moves.now node) (pass.returned moves.now node) node 0 self.old.items self.new.items p.old p.new }

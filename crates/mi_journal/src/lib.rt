@@ -1,7 +1,16 @@
-//! The undo journal: what takes changes back, by open sessions, with the number of the table that each belongs to.
-//! It knows nothing of what an inverse is, and takes memory in `reserve` alone.
+//! The undo log: what takes changes back, by open sessions, with the number of the table that each belongs to.
+//! Inverses stand in a journal of small entries; old records and old places of puts stand in two rings beside it. Memory is
+//! taken in `reserve` alone.
 #![tactic(auto)]
 
+mod entry;
+mod inverses;
 mod journal;
+mod marks;
+mod store;
 
+pub use inverses::Inverses;
 pub use journal::Journal;
+
+#[cfg(test)]
+mod tests;

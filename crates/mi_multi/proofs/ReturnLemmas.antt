@@ -22,7 +22,7 @@ use Rattle.mi_chain.specs.declared.chains.Chains.{Chains}
 use Rattle.mi_order.specs.declared.stored.Stored.{Stored}
 use Rattle.mi_index.specs.declared.structure.Structure.{Structure}
 use Rattle.mi_index.specs.declared.structure.Structure.TheVariants.{Sorted, Hashed, Sequenced}
-use Rattle.mi_index.specs.declared.moves.Moves.TheVariants.{All}
+use Rattle.mi_index.specs.declared.moved_indexes.MovedIndexes.TheVariants.{All}
 use Rattle.mi_index.specs.Orders.{stored_order, keying_of, has_one_key}
 use Rattle.mi_order.specs.declared.orders.ByHash.{ByHash as HashedBy}
 use Rattle.mi_index.specs.Standing.{slot_in, AllAbove, AllBelow, Climb}

@@ -22,7 +22,7 @@ use Rattle.mi_node.specs.declared.link.Tag.{Tag}
 use Rattle.mi_order.specs.declared.stored.Stored.{Stored}
 use Rattle.mi_index.specs.declared.structure.Structure.{Structure}
 use Rattle.mi_index.specs.declared.structure.Structure.TheVariants.{Sorted, Hashed, Sequenced}
-use Rattle.mi_index.specs.declared.moves.Moves.TheVariants.{All}
+use Rattle.mi_index.specs.declared.moved_indexes.MovedIndexes.TheVariants.{All}
 use Rattle.mi_index.specs.Standing.{slot_in}
 use Rattle.mi_index.specs.Places.{IsWith, HasStamp}
 use Rattle.mi_index.specs.Pass.{AllCan, AllLike, AreChanged, IsPass}

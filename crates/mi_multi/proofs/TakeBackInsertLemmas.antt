@@ -12,7 +12,7 @@ use Rattle.mi_node.specs.Pool.{Pooled, IsHeld, without as freed}
 use Rattle.mi_node.specs.Refs.{Ref}
 use Rattle.mi_order.specs.declared.stored.Stored.{Stored}
 use Rattle.mi_index.specs.declared.structure.Structure.{Structure}
-use Rattle.mi_index.specs.declared.moves.Moves.TheVariants.{All}
+use Rattle.mi_index.specs.declared.moved_indexes.MovedIndexes.TheVariants.{All}
 use Rattle.mi_index.specs.Pass.{AllStand, AllLike, IsPass, IsOutOfAll}
 use Rattle.mi_index.specs.Passes.{left, leaving}
 use Rattle.mi_container.specs.Data.{Data, IsData, node_of}

@@ -10,7 +10,7 @@
 --     last-..         the reference of each name that was given back last, after a call
 --     stale           the reference that was given back last isn't held once a node was taken
 --     fewer           a pool without one of its nodes has fewer
--- Cited by `home::is_free`, `KeepingLemmas`, 4 more, `mi_chain`, `mi_index`, `mi_list`, `mi_multi`, `mi_tree` and `test_storage`.
+-- Cited by `slab_entry::is_free`, `KeepingLemmas`, 4 more, `mi_chain`, `mi_index`, `mi_list`, `mi_multi`, `mi_tree` and `test_storage`.
 use Rattle.std.proofs.Common.{◌≡◌, ℕ, zero, suc, ◌-◌, ◌<◌, ◌==◌, Bool, true, false, cond, List, [], ◌∷◌, option_map}
 use Rattle.std.proofs.Common.{slice_index_or, replicate, Option, Some, None, refl, sym, ap, subst, ◌∙◌, arith, is_some}
 use Rattle.std.specs.Ordering.{nat_cmp}
@@ -378,23 +378,23 @@ module _ {T : Type 0} where
 
   pub last-without : (m : Pooled T) (r : Ref) (q : ℕ) → IsHeld m r → last_given (without m r.name) q ≡ cond (r.name == q) (Some r) (last_given m q)
   unfolding last_given without ref_of
-  last-without m r q h = noted_at m.gone r q (get m.entries r.name) h
+  last-without m r q h = noted_at m.last_freed r q (get m.entries r.name) h
 
   -- a reference was given back, and then a node was taken, maybe at the same place
   pub stale : (m : Pooled T) (r q : Ref) (v : T) → IsHeld m r → IsNotLast (without m r.name) q → IsHeld (taken (without m r.name) q v) r → ⊥
   stale m r q v h other held =
       let n = without m r.name in
       let last : last_given n r.name ≡ Some r = last-without m r r.name h ∙ ap (λ b. cond b (Some r) (last_given m r.name)) (same_refl r.name) in
-      let gone : ref_of n r.name ≡ None = ref-without m r.name r.name ∙ ap (λ b. cond b None (ref_of m r.name)) (same_refl r.name) in
+      let last_freed : ref_of n r.name ≡ None = ref-without m r.name r.name ∙ ap (λ b. cond b None (ref_of m r.name)) (same_refl r.name) in
       let is : cond (q.name == r.name) (Some q) (ref_of n r.name) ≡ Some r = sym (ref-taken n q v r.name) ∙ held in
-      differs last gone is (q.name == r.name) refl
+      differs last last_freed is (q.name == r.name) refl
     where
       differs : last_given (without m r.name) r.name ≡ Some r → ref_of (without m r.name) r.name ≡ None
           → cond (q.name == r.name) (Some q) (ref_of (without m r.name) r.name) ≡ Some r → (b : Bool) → (q.name == r.name) ≡ b → ⊥
-      differs last gone is true t =
+      differs last last_freed is true t =
           let one : q ≡ r = some_inj q r (ap (λ b. cond b (Some q) (ref_of (without m r.name) r.name)) (sym t) ∙ is) in
           other (ap (last_given (without m r.name)) (ap (λ (p : Ref). p.name) one) ∙ last ∙ ap Some (sym one))
-      differs last gone is false t = none_some r (sym gone ∙ ap (λ b. cond b (Some q) (ref_of (without m r.name) r.name)) (sym t) ∙ is)
+      differs last last_freed is false t = none_some r (sym last_freed ∙ ap (λ b. cond b (Some q) (ref_of (without m r.name) r.name)) (sym t) ∙ is)
 
 not_none : {X : Type 0} (o : Option X) (b : Bool) → is_some o ≡ b → (r : Ref) (f : X → Ref) → option_map f o ≡ Some r → b ≡ true
 not_none None b e r f h = absurd (none_some r h)

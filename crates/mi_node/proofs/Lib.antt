@@ -8,4 +8,4 @@ pub mod RefLemmas
 mod SpareLemmas
 mod RowSteps
 mod SlotCalls
-mod FrameSteps
+mod BlockSteps

@@ -14,17 +14,17 @@ use Rattle.std.proofs.Math.ListN.{length-set}
 use Rattle.mi_node.proofs.EntryLemmas.{some_inj, none_some, same_name, same_refl}
 use Rattle.mi_node.specs.Refs.{Ref}
 use Rattle.mi_node.specs.Columns.{column, links_at, AreLong}
-use Rattle.mi_node.specs.Homes.{node_in, value_in, IsFree, AreFree, home_at, IsFreeIf, IsFreeAt}
+use Rattle.mi_node.specs.Slab.{node_in, value_in, IsFree, AreFree, slab_entry_at, IsFreeIf, IsFreeAt}
 use Rattle.mi_node.specs.Pool.{Pooled}
 use Rattle.mi_node.specs.Pool.{Entry, no_link, no_nodes, node_at, ref_of, value_of, link_of, entry_link, noted, last_given, IsNotLast}
 use Rattle.mi_node.specs.Pool.{put_link, IsHeld, change, changed, taken, without, with_link, with_value}
 use Rattle.mi_node.specs.Places.{nodes}
 use Rattle.mi_node.specs.declared.places.Places.{Places}
-use Rattle.mi_node.specs.Seen.{put_home, map_from, seen, IsNamed, KeepsMark, AreMarked, IsSound}
+use Rattle.mi_node.specs.Seen.{put_slab_entry, map_from, seen, IsNamed, KeepsMark, AreMarked, IsSound}
 use Rattle.mi_node.specs.declared.link.Link.{Link}
 use Rattle.mi_node.specs.declared.cell.Cell.{Cell}
-use Rattle.mi_node.specs.declared.home.Home.{Home}
-use Rattle.mi_node.specs.declared.home.Home.TheVariants.{Free, Held}
+use Rattle.mi_node.specs.declared.slab_entry.SlabEntry.{SlabEntry}
+use Rattle.mi_node.specs.declared.slab_entry.SlabEntry.TheVariants.{Free, Held}
 
 from_zero : (q : ℕ) → 0 + q ≡ q
 from_zero q = omega arith
@@ -72,28 +72,28 @@ module _ {T : Type 0} where
   abbrev pub made : List (List Cell) → ℕ → Ref → T → Entry T
   made cs k r v = record { mark = r.mark; value = v; links = links_at cs k }
 
-  abbrev pub entry_at : List (List Cell) → ℕ → Home T → Option (Entry T)
+  abbrev pub entry_at : List (List Cell) → ℕ → SlabEntry T → Option (Entry T)
   entry_at cs k (Free r n) = None
   entry_at cs k (Held r v) = Some (made cs k r v)
 
-  abbrev pub entry_of : List (List Cell) → ℕ → Option (Home T) → Option (Entry T)
+  abbrev pub entry_of : List (List Cell) → ℕ → Option (SlabEntry T) → Option (Entry T)
   entry_of cs k None = None
   entry_of cs k (Some h) = entry_at cs k h
 
-  put_same : (cs : List (List Cell)) (k : ℕ) (h : Home T) (m : FinMap nat_cmp (Entry T)) → get m k ≡ None → get (put_home cs k h m) k ≡ entry_at cs k h
+  put_same : (cs : List (List Cell)) (k : ℕ) (h : SlabEntry T) (m : FinMap nat_cmp (Entry T)) → get m k ≡ None → get (put_slab_entry cs k h m) k ≡ entry_at cs k h
   put_same cs k (Free r n) m e = e
   put_same cs k (Held r v) m e = get-insert nat_cmp_total m k (made cs k r v) k
       ∙ ap (λ b. cond b (Some (made cs k r v)) (get m k)) (unsigned_tied k k ∙ same_refl k)
 
-  put_other : (cs : List (List Cell)) (k q : ℕ) (h : Home T) (m : FinMap nat_cmp (Entry T)) → (q == k) ≡ false → get (put_home cs k h m) q ≡ get m q
+  put_other : (cs : List (List Cell)) (k q : ℕ) (h : SlabEntry T) (m : FinMap nat_cmp (Entry T)) → (q == k) ≡ false → get (put_slab_entry cs k h m) q ≡ get m q
   put_other cs k q (Free r n) m e = refl
   put_other cs k q (Held r v) m e = get-insert nat_cmp_total m k (made cs k r v) q ∙ ap (λ b. cond b (Some (made cs k r v)) (get m q)) (unsigned_tied q k ∙ e)
 
-  below : (cs : List (List Cell)) (q k : ℕ) (hs : List (Home T)) → q < k → get (map_from cs k hs) q ≡ None
+  below : (cs : List (List Cell)) (q k : ℕ) (hs : List (SlabEntry T)) → q < k → get (map_from cs k hs) q ≡ None
   below cs q k [] less = get-empty nat_cmp q
   below cs q k (h ∷ hs) less = put_other cs k q h (map_from cs (suc k) hs) (grind (arith, less)) ∙ below cs q (suc k) hs (omega (arith, less))
 
-  get-from : (cs : List (List Cell)) (k j : ℕ) (hs : List (Home T)) → get (map_from cs k hs) (k + j) ≡ entry_of cs (k + j) (home_at hs j)
+  get-from : (cs : List (List Cell)) (k j : ℕ) (hs : List (SlabEntry T)) → get (map_from cs k hs) (k + j) ≡ entry_of cs (k + j) (slab_entry_at hs j)
   get-from cs k j [] = get-empty nat_cmp (k + j)
   get-from cs k zero (h ∷ hs) =
       let here : k ≡ k + 0 = omega arith in
@@ -101,41 +101,41 @@ module _ {T : Type 0} where
   get-from cs k (suc j) (h ∷ hs) =
       let on : suc k + j ≡ k + suc j = omega arith in let apart : (k + suc j == k) ≡ false = grind arith in
       put_other cs k (k + suc j) h (map_from cs (suc k) hs) apart
-      ∙ subst (λ q. get (map_from cs (suc k) hs) q ≡ entry_of cs q (home_at hs j)) on (get-from cs (suc k) j hs)
+      ∙ subst (λ q. get (map_from cs (suc k) hs) q ≡ entry_of cs q (slab_entry_at hs j)) on (get-from cs (suc k) j hs)
 
-  pub get-map : (cs : List (List Cell)) (hs : List (Home T)) (q : ℕ) → get (map_from cs 0 hs) q ≡ entry_of cs q (home_at hs q)
-  get-map cs hs q = subst (λ k. get (map_from cs 0 hs) k ≡ entry_of cs k (home_at hs q)) (from_zero q) (get-from cs 0 q hs)
+  pub get-map : (cs : List (List Cell)) (hs : List (SlabEntry T)) (q : ℕ) → get (map_from cs 0 hs) q ≡ entry_of cs q (slab_entry_at hs q)
+  get-map cs hs q = subst (λ k. get (map_from cs 0 hs) k ≡ entry_of cs k (slab_entry_at hs q)) (from_zero q) (get-from cs 0 q hs)
 
-  pub at_index : (hs : List (Home T)) (j : ℕ) (d : Home T) → j < length hs → home_at hs j ≡ Some (slice_index_or hs j d)
+  pub at_index : (hs : List (SlabEntry T)) (j : ℕ) (d : SlabEntry T) → j < length hs → slab_entry_at hs j ≡ Some (slice_index_or hs j d)
   at_index [] j d less = absurd (omega (arith, less))
   at_index (h ∷ hs) zero d less = refl
   at_index (h ∷ hs) (suc j) d less = at_index hs j d (omega (arith, less))
 
-  at_set : (hs : List (Home T)) (j q : ℕ) (h : Home T) → j < length hs → home_at (slice_set hs j h) q ≡ cond (q == j) (Some h) (home_at hs q)
+  at_set : (hs : List (SlabEntry T)) (j q : ℕ) (h : SlabEntry T) → j < length hs → slab_entry_at (slice_set hs j h) q ≡ cond (q == j) (Some h) (slab_entry_at hs q)
   at_set [] j q h less = absurd (omega (arith, less))
   at_set (x ∷ hs) zero zero h less = refl
-  at_set (x ∷ hs) zero (suc q) h less = ap (λ y. cond y (Some h) (home_at hs q)) (sym (not_first q))
+  at_set (x ∷ hs) zero (suc q) h less = ap (λ y. cond y (Some h) (slab_entry_at hs q)) (sym (not_first q))
   at_set (x ∷ hs) (suc j) zero h less = ap (λ y. cond y (Some h) (Some x)) (sym (not_last j))
-  at_set (x ∷ hs) (suc j) (suc q) h less = at_set hs j q h (omega (arith, less)) ∙ ap (λ y. cond y (Some h) (home_at hs q)) (sym (later q j))
+  at_set (x ∷ hs) (suc j) (suc q) h less = at_set hs j q h (omega (arith, less)) ∙ ap (λ y. cond y (Some h) (slab_entry_at hs q)) (sym (later q j))
 
-  inside : (hs : List (Home T)) (j : ℕ) (h : Home T) → home_at hs j ≡ Some h → j < length hs
+  inside : (hs : List (SlabEntry T)) (j : ℕ) (h : SlabEntry T) → slab_entry_at hs j ≡ Some h → j < length hs
   inside [] j h is = absurd (none_some h is)
   inside (x ∷ hs) zero h is = omega arith
   inside (x ∷ hs) (suc j) h is = let i = inside hs j h is in omega (arith, i)
 
-  named_at : (k j : ℕ) (hs : List (Home T)) (h : Home T) → IsNamed k hs → home_at hs j ≡ Some h → (node_in h).name ≡ k + j
+  named_at : (k j : ℕ) (hs : List (SlabEntry T)) (h : SlabEntry T) → IsNamed k hs → slab_entry_at hs j ≡ Some h → (node_in h).name ≡ k + j
   named_at k j [] h all is = absurd (none_some h is)
   named_at k zero (x ∷ hs) h all is =
       let e : x ≡ h = some_inj x h is in let f = all.0 in let g : (node_in x).name ≡ k + 0 = omega (arith, f) in
-      ap (λ (w : Home T). (node_in w).name) (sym e) ∙ g
+      ap (λ (w : SlabEntry T). (node_in w).name) (sym e) ∙ g
   named_at k (suc j) (x ∷ hs) h all is = let e = named_at (suc k) j hs h all.1 is in omega (arith, e)
 
-  named_set : (k j : ℕ) (hs : List (Home T)) (h : Home T) → IsNamed k hs → (node_in h).name ≡ k + j → IsNamed k (slice_set hs j h)
+  named_set : (k j : ℕ) (hs : List (SlabEntry T)) (h : SlabEntry T) → IsNamed k hs → (node_in h).name ≡ k + j → IsNamed k (slice_set hs j h)
   named_set k j [] h all name = tt
   named_set k zero (x ∷ hs) h all name = let is : (node_in h).name ≡ k = omega (arith, name) in (is, all.1)
   named_set k (suc j) (x ∷ hs) h all name = let is : (node_in h).name ≡ suc k + j = omega (arith, name) in (all.0, named_set (suc k) j hs h all.1 is)
 
-  named_both : (k : ℕ) (hs fs : List (Home T)) → IsNamed k hs → AreFree (k + length hs) fs → IsNamed k (hs ++ fs)
+  named_both : (k : ℕ) (hs fs : List (SlabEntry T)) → IsNamed k hs → AreFree (k + length hs) fs → IsNamed k (hs ++ fs)
   named_both k [] [] all free = tt
   named_both k [] (f ∷ fs) all free =
       let e = free.0 in let is : (node_in f).name ≡ k = omega (arith, e) in let on : suc (k + 0) ≡ suc k + 0 = omega arith in
@@ -144,94 +144,94 @@ module _ {T : Type 0} where
       let on : k + suc (length hs) ≡ suc k + length hs = omega arith in (all.0, named_both (suc k) hs fs all.1 (subst (λ q. AreFree q fs) on free))
 
   -- the node of a held reference stands at its place
-  pub record There (cs : List (List Cell)) (hs : List (Home T)) (r : Ref) : Type 0 where
+  pub record There (cs : List (List Cell)) (hs : List (SlabEntry T)) (r : Ref) : Type 0 where
     pub less : r.name < length hs
     pub value : T
-    pub at : home_at hs r.name ≡ Some (Held r value)
+    pub at : slab_entry_at hs r.name ≡ Some (Held r value)
 
-  held_home : (cs : List (List Cell)) (hs : List (Home T)) (r : Ref) (o : Option (Home T)) → home_at hs r.name ≡ o
+  held_slab_entry : (cs : List (List Cell)) (hs : List (SlabEntry T)) (r : Ref) (o : Option (SlabEntry T)) → slab_entry_at hs r.name ≡ o
       → IsNamed 0 hs → option_map (node_at r.name) (entry_of cs r.name o) ≡ Some r → There cs hs r
-  held_home cs hs r None is all e = absurd (none_some r e)
-  held_home cs hs r (Some (Free q n)) is all e = absurd (none_some r e)
-  held_home cs hs r (Some (Held q v)) is all e =
+  held_slab_entry cs hs r None is all e = absurd (none_some r e)
+  held_slab_entry cs hs r (Some (Free q n)) is all e = absurd (none_some r e)
+  held_slab_entry cs hs r (Some (Held q v)) is all e =
       let name : q.name ≡ r.name = named_at 0 r.name hs (Held q v) all is ∙ from_zero r.name in
       let one : q ≡ r = same_ref q r name (ap (λ (s : Ref). s.mark) (some_inj _ r e)) in
       record { less = inside hs r.name (Held q v) is; value = v; at = is ∙ ap (λ (s : Ref). Some (Held s v)) one }
 
-  pub there : {n : ℕ} {cs : List (List Cell)} {hs : List (Home T)} {g : FinMap nat_cmp ℕ} {r : Ref} → IsSound n cs hs g → IsHeld (seen n cs hs g) r
+  pub there : {n : ℕ} {cs : List (List Cell)} {hs : List (SlabEntry T)} {g : FinMap nat_cmp ℕ} {r : Ref} → IsSound n cs hs g → IsHeld (seen n cs hs g) r
       → There cs hs r
   unfolding ref_of seen
   there {n} {cs} {hs} {g} {r} sound h =
-      held_home cs hs r (home_at hs r.name) refl sound.named (ap (option_map (node_at r.name)) (sym (get-map cs hs r.name)) ∙ h)
+      held_slab_entry cs hs r (slab_entry_at hs r.name) refl sound.named (ap (option_map (node_at r.name)) (sym (get-map cs hs r.name)) ∙ h)
 
   -- as an index finds it
-  found : (cs : List (List Cell)) (hs : List (Home T)) (r : Ref) (t : There cs hs r) (k : ℕ) (h : Home T)
+  found : (cs : List (List Cell)) (hs : List (SlabEntry T)) (r : Ref) (t : There cs hs r) (k : ℕ) (h : SlabEntry T)
       → k ≡ r.name → h ≡ slice_index_or hs k h → h ≡ Held r t.value
   found cs hs r t k h name is = is ∙ ap (λ q. slice_index_or hs q h) name ∙ some_inj _ _ (sym (at_index hs r.name h t.less) ∙ t.at)
 
-  value-seen : (n : ℕ) (cs : List (List Cell)) (hs : List (Home T)) (g : FinMap nat_cmp ℕ) (r : Ref) (t : There cs hs r)
+  value-seen : (n : ℕ) (cs : List (List Cell)) (hs : List (SlabEntry T)) (g : FinMap nat_cmp ℕ) (r : Ref) (t : There cs hs r)
       → value_of (seen n cs hs g) r.name ≡ Some t.value
   unfolding value_of seen
   value-seen n cs hs g r t = ap (option_map (λ (e : Entry T). e.value)) (get-map cs hs r.name ∙ ap (entry_of cs r.name) t.at)
 
-  link-seen : (n : ℕ) (cs : List (List Cell)) (hs : List (Home T)) (g : FinMap nat_cmp ℕ) (r : Ref) (s : ℕ) (t : There cs hs r)
+  link-seen : (n : ℕ) (cs : List (List Cell)) (hs : List (SlabEntry T)) (g : FinMap nat_cmp ℕ) (r : Ref) (s : ℕ) (t : There cs hs r)
       → link_of (seen n cs hs g) r.name s ≡ slice_index_or (links_at cs r.name) s no_link
   unfolding link_of seen
   link-seen n cs hs g r s t = ap (λ o. entry_link o s) (get-map cs hs r.name ∙ ap (entry_of cs r.name) t.at)
 
-  same_entry : (cs ds : List (List Cell)) (q : ℕ) (o : Option (Home T)) → links_at ds q ≡ links_at cs q → entry_of ds q o ≡ entry_of cs q o
+  same_entry : (cs ds : List (List Cell)) (q : ℕ) (o : Option (SlabEntry T)) → links_at ds q ≡ links_at cs q → entry_of ds q o ≡ entry_of cs q o
   same_entry cs ds q None e = refl
   same_entry cs ds q (Some (Free r n)) e = refl
   same_entry cs ds q (Some (Held r v)) e = λ i. Some (record { mark = r.mark; value = v; links = e i })
 
   -- what becomes of the map where all places but j stay as they are
-  get-one : (cs ds : List (List Cell)) (hs gs : List (Home T)) (j : ℕ)
-      → ((q : ℕ) → (q == j) ≡ false → links_at ds q ≡ links_at cs q) → ((q : ℕ) → (q == j) ≡ false → home_at gs q ≡ home_at hs q)
-      → (q : ℕ) → get (map_from ds 0 gs) q ≡ cond (q == j) (entry_of ds j (home_at gs j)) (get (map_from cs 0 hs) q)
-  get-one cs ds hs gs j links homes q = get-map ds gs q
-      ∙ (elim (q == j) as (λ y. (q == j) ≡ y → entry_of ds q (home_at gs q) ≡ cond y (entry_of ds j (home_at gs j)) (get (map_from cs 0 hs) q)) [
-        | true ↦ λ e. ap (λ k. entry_of ds k (home_at gs k)) (same_name q j e)
-        | false ↦ λ e. ap (entry_of ds q) (homes q e) ∙ same_entry cs ds q (home_at hs q) (links q e) ∙ sym (get-map cs hs q)
+  get-one : (cs ds : List (List Cell)) (hs gs : List (SlabEntry T)) (j : ℕ)
+      → ((q : ℕ) → (q == j) ≡ false → links_at ds q ≡ links_at cs q) → ((q : ℕ) → (q == j) ≡ false → slab_entry_at gs q ≡ slab_entry_at hs q)
+      → (q : ℕ) → get (map_from ds 0 gs) q ≡ cond (q == j) (entry_of ds j (slab_entry_at gs j)) (get (map_from cs 0 hs) q)
+  get-one cs ds hs gs j links slab q = get-map ds gs q
+      ∙ (elim (q == j) as (λ y. (q == j) ≡ y → entry_of ds q (slab_entry_at gs q) ≡ cond y (entry_of ds j (slab_entry_at gs j)) (get (map_from cs 0 hs) q)) [
+        | true ↦ λ e. ap (λ k. entry_of ds k (slab_entry_at gs k)) (same_name q j e)
+        | false ↦ λ e. ap (entry_of ds q) (slab q e) ∙ same_entry cs ds q (slab_entry_at hs q) (links q e) ∙ sym (get-map cs hs q)
       ]) refl
 
-  pub other_home : (hs : List (Home T)) (j : ℕ) (h : Home T) → j < length hs → (q : ℕ) → (q == j) ≡ false → home_at (slice_set hs j h) q ≡ home_at hs q
-  other_home hs j h less q e = at_set hs j q h less ∙ ap (λ b. cond b (Some h) (home_at hs q)) e
+  pub other_slab_entry : (hs : List (SlabEntry T)) (j : ℕ) (h : SlabEntry T) → j < length hs → (q : ℕ) → (q == j) ≡ false → slab_entry_at (slice_set hs j h) q ≡ slab_entry_at hs q
+  other_slab_entry hs j h less q e = at_set hs j q h less ∙ ap (λ b. cond b (Some h) (slab_entry_at hs q)) e
 
-  pub this_home : (hs : List (Home T)) (j : ℕ) (h : Home T) → j < length hs → home_at (slice_set hs j h) j ≡ Some h
-  this_home hs j h less = at_set hs j j h less ∙ ap (λ b. cond b (Some h) (home_at hs j)) (same_refl j)
+  pub this_slab_entry : (hs : List (SlabEntry T)) (j : ℕ) (h : SlabEntry T) → j < length hs → slab_entry_at (slice_set hs j h) j ≡ Some h
+  this_slab_entry hs j h less = at_set hs j j h less ∙ ap (λ b. cond b (Some h) (slab_entry_at hs j)) (same_refl j)
 
-  entry-there : (n : ℕ) (cs : List (List Cell)) (hs : List (Home T)) (r : Ref) (t : There cs hs r)
+  entry-there : (n : ℕ) (cs : List (List Cell)) (hs : List (SlabEntry T)) (r : Ref) (t : There cs hs r)
       → get (map_from cs 0 hs) r.name ≡ Some (made cs r.name r t.value)
   entry-there n cs hs r t = get-map cs hs r.name ∙ ap (entry_of cs r.name) t.at
 
-  pub seen-vacated : (n : ℕ) (cs : List (List Cell)) (hs : List (Home T)) (g : FinMap nat_cmp ℕ) (r : Ref) (next : ℕ)
+  pub seen-vacated : (n : ℕ) (cs : List (List Cell)) (hs : List (SlabEntry T)) (g : FinMap nat_cmp ℕ) (r : Ref) (next : ℕ)
       → There cs hs r → seen n cs (slice_set hs r.name (Free r next)) (insert g r.name r.mark) ≡ without (seen n cs hs g) r.name
   unfolding seen without
   seen-vacated n cs hs g r next t =
       let less = t.less in
       let one : map_from cs 0 (slice_set hs r.name (Free r next)) ≡ remove (map_from cs 0 hs) r.name =
       same_map nat_cmp_total nat_cmp-IsAntisymmetric _ _ (λ q.
-      get-one cs cs hs (slice_set hs r.name (Free r next)) r.name (λ k e. refl) (other_home hs r.name (Free r next) less) q
-      ∙ ap (λ o. cond (q == r.name) (entry_of cs r.name o) (get (map_from cs 0 hs) q)) (this_home hs r.name (Free r next) less)
+      get-one cs cs hs (slice_set hs r.name (Free r next)) r.name (λ k e. refl) (other_slab_entry hs r.name (Free r next) less) q
+      ∙ ap (λ o. cond (q == r.name) (entry_of cs r.name o) (get (map_from cs 0 hs) q)) (this_slab_entry hs r.name (Free r next) less)
       ∙ sym (get-remove nat_cmp_total (map_from cs 0 hs) r.name q ∙ ap (λ b. cond b None (get (map_from cs 0 hs) q)) (unsigned_tied q r.name))) in
       let two : insert g r.name r.mark ≡ noted g r.name (get (map_from cs 0 hs) r.name) = ap (noted g r.name) (sym (entry-there n cs hs r t)) in
-      λ i. record { entries = one i; slots = n; gone = two i }
+      λ i. record { entries = one i; slots = n; last_freed = two i }
 
   -- the entry of a node none of whose links is set
   abbrev blank : ℕ → Ref → T → Entry T
   blank n r v = record { mark = r.mark; value = v; links = replicate n no_link }
 
-  pub seen-settled : (n : ℕ) (cs ds : List (List Cell)) (hs : List (Home T)) (g : FinMap nat_cmp ℕ) (r : Ref) (v : T)
+  pub seen-occupied : (n : ℕ) (cs ds : List (List Cell)) (hs : List (SlabEntry T)) (g : FinMap nat_cmp ℕ) (r : Ref) (v : T)
       → r.name < length hs → ((q : ℕ) → (q == r.name) ≡ false → links_at ds q ≡ links_at cs q)
       → links_at ds r.name ≡ replicate n no_link → seen n ds (slice_set hs r.name (Held r v)) g ≡ taken (seen n cs hs g) r v
   unfolding seen taken
-  seen-settled n cs ds hs g r v less others here = ap (λ m. record {
+  seen-occupied n cs ds hs g r v less others here = ap (λ m. record {
     entries = m;
     slots = n;
-    gone = g;
+    last_freed = g;
   }) (same_map nat_cmp_total nat_cmp-IsAntisymmetric _ _ (λ q.
-      get-one cs ds hs (slice_set hs r.name (Held r v)) r.name others (other_home hs r.name (Held r v) less) q
-      ∙ ap (λ o. cond (q == r.name) (entry_of ds r.name o) (get (map_from cs 0 hs) q)) (this_home hs r.name (Held r v) less)
+      get-one cs ds hs (slice_set hs r.name (Held r v)) r.name others (other_slab_entry hs r.name (Held r v) less) q
+      ∙ ap (λ o. cond (q == r.name) (entry_of ds r.name o) (get (map_from cs 0 hs) q)) (this_slab_entry hs r.name (Held r v) less)
       ∙ ap (λ ls. cond (q == r.name) (Some (record { mark = r.mark; value = v; links = ls })) (get (map_from cs 0 hs) q)) here
       ∙ sym (get-insert nat_cmp_total (map_from cs 0 hs) r.name (blank n r v) q
       ∙ ap (λ b. cond b (Some (blank n r v)) (get (map_from cs 0 hs) q)) (unsigned_tied q r.name))))
@@ -244,28 +244,28 @@ module _ {T : Type 0} where
   ]) refl
   change_found f m k q (Some x) e = get-insert nat_cmp_total m k (f x) q ∙ ap (λ y. cond y (Some (f x)) (get m q)) (unsigned_tied q k)
 
-  seen-change : (n : ℕ) (f : Entry T → Entry T) (cs ds : List (List Cell)) (hs gs : List (Home T)) (g : FinMap nat_cmp ℕ) (j : ℕ)
+  seen-change : (n : ℕ) (f : Entry T → Entry T) (cs ds : List (List Cell)) (hs gs : List (SlabEntry T)) (g : FinMap nat_cmp ℕ) (j : ℕ)
       → ((q : ℕ) → (q == j) ≡ false → links_at ds q ≡ links_at cs q)
-      → ((q : ℕ) → (q == j) ≡ false → home_at gs q ≡ home_at hs q)
-      → entry_of ds j (home_at gs j) ≡ option_map f (entry_of cs j (home_at hs j)) → seen n ds gs g ≡ change (seen n cs hs g) j f
+      → ((q : ℕ) → (q == j) ≡ false → slab_entry_at gs q ≡ slab_entry_at hs q)
+      → entry_of ds j (slab_entry_at gs j) ≡ option_map f (entry_of cs j (slab_entry_at hs j)) → seen n ds gs g ≡ change (seen n cs hs g) j f
   unfolding seen change
-  seen-change n f cs ds hs gs g j links homes is = ap (λ m. record {
+  seen-change n f cs ds hs gs g j links slab is = ap (λ m. record {
     entries = m;
     slots = n;
-    gone = g;
+    last_freed = g;
   }) (same_map nat_cmp_total nat_cmp-IsAntisymmetric _ _ (λ q.
-      get-one cs ds hs gs j links homes q ∙ ap (λ o. cond (q == j) o (get (map_from cs 0 hs) q)) (is ∙ ap (option_map f) (sym (get-map cs hs j)))
+      get-one cs ds hs gs j links slab q ∙ ap (λ o. cond (q == j) o (get (map_from cs 0 hs) q)) (is ∙ ap (option_map f) (sym (get-map cs hs j)))
       ∙ sym (change_found f (map_from cs 0 hs) j q (get (map_from cs 0 hs) j) refl)))
 
-  pub seen-value : (n : ℕ) (cs : List (List Cell)) (hs : List (Home T)) (g : FinMap nat_cmp ℕ) (r : Ref) (v : T)
+  pub seen-value : (n : ℕ) (cs : List (List Cell)) (hs : List (SlabEntry T)) (g : FinMap nat_cmp ℕ) (r : Ref) (v : T)
       → There cs hs r → seen n cs (slice_set hs r.name (Held r v)) g ≡ with_value (seen n cs hs g) r.name v
   unfolding with_value
   seen-value n cs hs g r v t = seen-change n (λ e. record e { value = v }) cs cs hs
-      (slice_set hs r.name (Held r v)) g r.name (λ k e. refl) (other_home hs r.name (Held r v) t.less)
-      (ap (entry_of cs r.name) (this_home hs r.name (Held r v) t.less)
+      (slice_set hs r.name (Held r v)) g r.name (λ k e. refl) (other_slab_entry hs r.name (Held r v) t.less)
+      (ap (entry_of cs r.name) (this_slab_entry hs r.name (Held r v) t.less)
       ∙ ap (λ o. option_map (λ (e : Entry T). record e { value = v }) (entry_of cs r.name o)) (sym t.at))
 
-  seen-link : (n : ℕ) (cs ds : List (List Cell)) (hs : List (Home T)) (g : FinMap nat_cmp ℕ) (r : Ref) (s : ℕ) (l : Link)
+  seen-link : (n : ℕ) (cs ds : List (List Cell)) (hs : List (SlabEntry T)) (g : FinMap nat_cmp ℕ) (r : Ref) (s : ℕ) (l : Link)
       → There cs hs r → ((q : ℕ) → (q == r.name) ≡ false → links_at ds q ≡ links_at cs q)
       → links_at ds r.name ≡ put_link (links_at cs r.name) s l → seen n ds hs g ≡ with_link (seen n cs hs g) r.name s l
   unfolding with_link
@@ -274,122 +274,122 @@ module _ {T : Type 0} where
       ∙ ap (λ o. option_map (λ (e : Entry T). record e { links = put_link e.links s l }) (entry_of cs r.name o)) (sym t.at))
 
   -- a free place is no node's
-  free_entry : (cs : List (List Cell)) (k : ℕ) (o : Option (Home T)) → IsFreeIf o → entry_of cs k o ≡ None
+  free_entry : (cs : List (List Cell)) (k : ℕ) (o : Option (SlabEntry T)) → IsFreeIf o → entry_of cs k o ≡ None
   free_entry cs k None free = absurd free
   free_entry cs k (Some (Free r n)) free = refl
   free_entry cs k (Some (Held r v)) free = absurd (none_some v (sym free))
 
-  pub free-seen : (n : ℕ) (cs : List (List Cell)) (hs : List (Home T)) (g : FinMap nat_cmp ℕ) (k : ℕ) → IsFreeAt hs k → ref_of (seen n cs hs g) k ≡ None
+  pub free-seen : (n : ℕ) (cs : List (List Cell)) (hs : List (SlabEntry T)) (g : FinMap nat_cmp ℕ) (k : ℕ) → IsFreeAt hs k → ref_of (seen n cs hs g) k ≡ None
   unfolding ref_of seen
-  free-seen n cs hs g k free = ap (option_map (node_at k)) (get-map cs hs k ∙ free_entry cs k (home_at hs k) free)
+  free-seen n cs hs g k free = ap (option_map (node_at k)) (get-map cs hs k ∙ free_entry cs k (slab_entry_at hs k) free)
 
-  free_there : (hs : List (Home T)) (k : ℕ) (o : Option (Home T)) → home_at hs k ≡ o → IsFreeIf o → k < length hs
+  free_there : (hs : List (SlabEntry T)) (k : ℕ) (o : Option (SlabEntry T)) → slab_entry_at hs k ≡ o → IsFreeIf o → k < length hs
   free_there hs k None is free = absurd free
   free_there hs k (Some h) is free = inside hs k h is
 
-  pub free_less : (hs : List (Home T)) (k : ℕ) → IsFreeAt hs k → k < length hs
-  free_less hs k free = free_there hs k (home_at hs k) refl free
+  pub free_less : (hs : List (SlabEntry T)) (k : ℕ) → IsFreeAt hs k → k < length hs
+  free_less hs k free = free_there hs k (slab_entry_at hs k) refl free
 
   -- as an index finds it
-  pub free_found : (hs : List (Home T)) (k : ℕ) (h : Home T) → IsFreeAt hs k → h ≡ slice_index_or hs k h → IsFree h
+  pub free_found : (hs : List (SlabEntry T)) (k : ℕ) (h : SlabEntry T) → IsFreeAt hs k → h ≡ slice_index_or hs k h → IsFree h
   free_found hs k h free is = subst IsFree (sym is) (subst IsFreeIf (at_index hs k h (free_less hs k free)) free)
 
-  pub named_found : (hs : List (Home T)) (k : ℕ) (h : Home T) → IsNamed 0 hs → k < length hs → h ≡ slice_index_or hs k h → (node_in h).name ≡ k
+  pub named_found : (hs : List (SlabEntry T)) (k : ℕ) (h : SlabEntry T) → IsNamed 0 hs → k < length hs → h ≡ slice_index_or hs k h → (node_in h).name ≡ k
   named_found hs k h all less is = named_at 0 k hs h all (at_index hs k h less ∙ ap Some (sym is)) ∙ from_zero k
 
   -- free places at the end
-  free_tail : (cs : List (List Cell)) (p q k : ℕ) (fs : List (Home T)) → AreFree k fs → entry_of cs p (home_at fs q) ≡ None
+  free_tail : (cs : List (List Cell)) (p q k : ℕ) (fs : List (SlabEntry T)) → AreFree k fs → entry_of cs p (slab_entry_at fs q) ≡ None
   free_tail cs p q k [] free = refl
   free_tail cs p zero k (f ∷ fs) free = free_entry cs p (Some f) free.1
   free_tail cs p (suc q) k (f ∷ fs) free = free_tail cs p q (suc k) fs free.2
 
-  more_entry : (cs : List (List Cell)) (p q k : ℕ) (hs fs : List (Home T)) → AreFree k fs → entry_of cs p (home_at (hs ++ fs) q) ≡ entry_of cs p (home_at hs q)
+  more_entry : (cs : List (List Cell)) (p q k : ℕ) (hs fs : List (SlabEntry T)) → AreFree k fs → entry_of cs p (slab_entry_at (hs ++ fs) q) ≡ entry_of cs p (slab_entry_at hs q)
   more_entry cs p q k [] fs free = free_tail cs p q k fs free
   more_entry cs p zero k (h ∷ hs) fs free = refl
   more_entry cs p (suc q) k (h ∷ hs) fs free = more_entry cs p q k hs fs free
 
-  pub seen-more : (n k : ℕ) (cs : List (List Cell)) (hs fs : List (Home T)) (g : FinMap nat_cmp ℕ) → AreFree k fs → seen n cs (hs ++ fs) g ≡ seen n cs hs g
+  pub seen-more : (n k : ℕ) (cs : List (List Cell)) (hs fs : List (SlabEntry T)) (g : FinMap nat_cmp ℕ) → AreFree k fs → seen n cs (hs ++ fs) g ≡ seen n cs hs g
   unfolding seen
-  seen-more n k cs hs fs g free = ap (λ m. record { entries = m; slots = n; gone = g }) (same_map nat_cmp_total nat_cmp-IsAntisymmetric _ _ (λ q.
+  seen-more n k cs hs fs g free = ap (λ m. record { entries = m; slots = n; last_freed = g }) (same_map nat_cmp_total nat_cmp-IsAntisymmetric _ _ (λ q.
       get-map cs (hs ++ fs) q ∙ more_entry cs q q k hs fs free ∙ sym (get-map cs hs q)))
 
-  first_home : (k : ℕ) (fs : List (Home T)) → AreFree k fs → 0 < length fs → IsFreeIf (home_at fs 0)
-  first_home k [] free less = absurd (omega (arith, less))
-  first_home k (f ∷ fs) free less = free.1
+  first_slab_entry : (k : ℕ) (fs : List (SlabEntry T)) → AreFree k fs → 0 < length fs → IsFreeIf (slab_entry_at fs 0)
+  first_slab_entry k [] free less = absurd (omega (arith, less))
+  first_slab_entry k (f ∷ fs) free less = free.1
 
-  pub free_end : (k : ℕ) (hs fs : List (Home T)) → AreFree k fs → 0 < length fs → IsFreeAt (hs ++ fs) (length hs)
-  free_end k [] fs free less = first_home k fs free less
+  pub free_end : (k : ℕ) (hs fs : List (SlabEntry T)) → AreFree k fs → 0 < length fs → IsFreeAt (hs ++ fs) (length hs)
+  free_end k [] fs free less = first_slab_entry k fs free less
   free_end k (h ∷ hs) fs free less = free_end k hs fs free less
 
   -- columns with the same links
-  pub seen-columns : (n : ℕ) (cs ds : List (List Cell)) (hs : List (Home T)) (g : FinMap nat_cmp ℕ) → ((k : ℕ) → links_at ds k ≡ links_at cs k)
+  pub seen-columns : (n : ℕ) (cs ds : List (List Cell)) (hs : List (SlabEntry T)) (g : FinMap nat_cmp ℕ) → ((k : ℕ) → links_at ds k ≡ links_at cs k)
       → seen n ds hs g ≡ seen n cs hs g
   unfolding seen
-  seen-columns n cs ds hs g links = ap (λ m. record { entries = m; slots = n; gone = g }) (same_map nat_cmp_total nat_cmp-IsAntisymmetric _ _ (λ q.
-      get-map ds hs q ∙ same_entry cs ds q (home_at hs q) (links q) ∙ sym (get-map cs hs q)))
+  seen-columns n cs ds hs g links = ap (λ m. record { entries = m; slots = n; last_freed = g }) (same_map nat_cmp_total nat_cmp-IsAntisymmetric _ _ (λ q.
+      get-map ds hs q ∙ same_entry cs ds q (slab_entry_at hs q) (links q) ∙ sym (get-map cs hs q)))
 
   -- columns where there is no place, or as many as slots
-  pub seen-wide : (n : ℕ) (cs ds : List (List Cell)) (hs : List (Home T)) {g : FinMap nat_cmp ℕ} → IsSound n cs hs g → (length cs ≡ n → ds ≡ cs)
+  pub seen-wide : (n : ℕ) (cs ds : List (List Cell)) (hs : List (SlabEntry T)) {g : FinMap nat_cmp ℕ} → IsSound n cs hs g → (length cs ≡ n → ds ≡ cs)
       → seen n ds hs g ≡ seen n cs hs g
   unfolding seen
   seen-wide n cs ds [] sound full = refl
-  seen-wide n cs ds (h ∷ hs) {g} sound full = ap (λ es. record { entries = map_from es 0 (h ∷ hs); slots = n; gone = g }) (full (sound.wide (omega arith)))
+  seen-wide n cs ds (h ∷ hs) {g} sound full = ap (λ es. record { entries = map_from es 0 (h ∷ hs); slots = n; last_freed = g }) (full (sound.wide (omega arith)))
 
-  pub slots-seen : (n : ℕ) (cs : List (List Cell)) (hs : List (Home T)) (g : FinMap nat_cmp ℕ) → (seen n cs hs g).slots ≡ n
+  pub slots-seen : (n : ℕ) (cs : List (List Cell)) (hs : List (SlabEntry T)) (g : FinMap nat_cmp ℕ) → (seen n cs hs g).slots ≡ n
   unfolding seen
   slots-seen n cs hs g = refl
 
   -- a slot of what the places stand for
   pub slot_seen : (p : Places T) {m : Pooled T} {s : ℕ} → nodes p ≡ m → s < m.slots → s < p.slots
   slot_seen p {m} {s} is less =
-      subst (λ k. s < k) (ap (λ (n : Pooled T). n.slots) (sym is) ∙ slots-seen p.slots p.columns.items p.homes p.gone.marks) less
+      subst (λ k. s < k) (ap (λ (n : Pooled T). n.slots) (sym is) ∙ slots-seen p.slots p.columns.items p.slab p.last_freed.marks) less
 
   pub seen-none : (n : ℕ) (cs : List (List Cell)) → seen {T = T} n cs [] empty ≡ no_nodes n
   unfolding seen no_nodes
   seen-none n cs = refl
 
   -- the marks of what was given back
-  keeps_there : (b : ℕ) (hs fs : List (Home T)) (k : ℕ) → KeepsMark b (home_at hs k) → KeepsMark b (home_at (hs ++ fs) k)
+  keeps_there : (b : ℕ) (hs fs : List (SlabEntry T)) (k : ℕ) → KeepsMark b (slab_entry_at hs k) → KeepsMark b (slab_entry_at (hs ++ fs) k)
   keeps_there b [] fs k h = absurd h
   keeps_there b (x ∷ hs) fs zero h = h
   keeps_there b (x ∷ hs) fs (suc k) h = keeps_there b hs fs k h
 
   -- a node that stands where a free place was
-  marked-held : (g : FinMap nat_cmp ℕ) (hs : List (Home T)) (j : ℕ) (r : Ref) (v : T) → j < length hs → AreMarked g hs → AreMarked g (slice_set hs j (Held r v))
-  marked-held g hs j r v less h k b e = (elim (k == j) as (λ y. (k == j) ≡ y → KeepsMark b (home_at (slice_set hs j (Held r v)) k)) [
-    | true ↦ λ t. subst (KeepsMark b) (sym (ap (home_at (slice_set hs j (Held r v))) (same_name k j t) ∙ this_home hs j (Held r v) less)) tt
-    | false ↦ λ t. subst (KeepsMark b) (sym (other_home hs j (Held r v) less k t)) (h k b e)
+  marked-held : (g : FinMap nat_cmp ℕ) (hs : List (SlabEntry T)) (j : ℕ) (r : Ref) (v : T) → j < length hs → AreMarked g hs → AreMarked g (slice_set hs j (Held r v))
+  marked-held g hs j r v less h k b e = (elim (k == j) as (λ y. (k == j) ≡ y → KeepsMark b (slab_entry_at (slice_set hs j (Held r v)) k)) [
+    | true ↦ λ t. subst (KeepsMark b) (sym (ap (slab_entry_at (slice_set hs j (Held r v))) (same_name k j t) ∙ this_slab_entry hs j (Held r v) less)) tt
+    | false ↦ λ t. subst (KeepsMark b) (sym (other_slab_entry hs j (Held r v) less k t)) (h k b e)
   ]) refl
 
   -- a node that was given back
-  marked-free : (g : FinMap nat_cmp ℕ) (hs : List (Home T)) (r : Ref) (next : ℕ) → r.name < length hs → AreMarked g hs
+  marked-free : (g : FinMap nat_cmp ℕ) (hs : List (SlabEntry T)) (r : Ref) (next : ℕ) → r.name < length hs → AreMarked g hs
       → AreMarked (insert g r.name r.mark) (slice_set hs r.name (Free r next))
   marked-free g hs r next less h k b e =
       let at : get (insert g r.name r.mark) k ≡ cond (k == r.name) (Some r.mark) (get g k) =
       get-insert nat_cmp_total g r.name r.mark k ∙ ap (λ y. cond y (Some r.mark) (get g k)) (unsigned_tied k r.name) in
-      (elim (k == r.name) as (λ y. (k == r.name) ≡ y → KeepsMark b (home_at (slice_set hs r.name (Free r next)) k)) [
-        | true ↦ λ t. subst (KeepsMark b) (sym (ap (home_at (slice_set hs r.name (Free r next))) (same_name k r.name t) ∙ this_home hs r.name (Free r next) less))
+      (elim (k == r.name) as (λ y. (k == r.name) ≡ y → KeepsMark b (slab_entry_at (slice_set hs r.name (Free r next)) k)) [
+        | true ↦ λ t. subst (KeepsMark b) (sym (ap (slab_entry_at (slice_set hs r.name (Free r next))) (same_name k r.name t) ∙ this_slab_entry hs r.name (Free r next) less))
             (some_inj r.mark b (sym (at ∙ ap (λ y. cond y (Some r.mark) (get g k)) t) ∙ e))
-        | false ↦ λ t. subst (KeepsMark b) (sym (other_home hs r.name (Free r next) less k t))
+        | false ↦ λ t. subst (KeepsMark b) (sym (other_slab_entry hs r.name (Free r next) less k t))
             (h k b (sym (at ∙ ap (λ y. cond y (Some r.mark) (get g k)) t) ∙ e))
       ]) refl
 
-  kept_mark : (o : Option (Home T)) (h : Home T) (b : ℕ) → o ≡ Some h → IsFree h → KeepsMark b o → (node_in h).mark ≡ b
+  kept_mark : (o : Option (SlabEntry T)) (h : SlabEntry T) (b : ℕ) → o ≡ Some h → IsFree h → KeepsMark b o → (node_in h).mark ≡ b
   kept_mark None h b is free keeps = absurd keeps
-  kept_mark (Some (Free q n)) h b is free keeps = ap (λ (w : Home T). (node_in w).mark) (sym (some_inj _ h is)) ∙ keeps
-  kept_mark (Some (Held q v)) h b is free keeps = absurd (none_some v (sym free ∙ ap (λ (w : Home T). value_in w) (sym (some_inj _ h is))))
+  kept_mark (Some (Free q n)) h b is free keeps = ap (λ (w : SlabEntry T). (node_in w).mark) (sym (some_inj _ h is)) ∙ keeps
+  kept_mark (Some (Held q v)) h b is free keeps = absurd (none_some v (sym free ∙ ap (λ (w : SlabEntry T). value_in w) (sym (some_inj _ h is))))
 
   -- the reference that comes from a free place isn't the one that was given back last there
-  pub other_than_last : (n : ℕ) (cs : List (List Cell)) (hs : List (Home T)) (g : FinMap nat_cmp ℕ) (k : ℕ) (h : Home T) (r : Ref)
+  pub other_than_last : (n : ℕ) (cs : List (List Cell)) (hs : List (SlabEntry T)) (g : FinMap nat_cmp ℕ) (k : ℕ) (h : SlabEntry T) (r : Ref)
       → IsSound n cs hs g → IsFreeAt hs k → h ≡ slice_index_or hs k h → r.name ≡ k → r.mark ≡ 1 - (node_in h).mark → IsNotLast (seen n cs hs g) r
   unfolding last_given seen
   other_than_last n cs hs g k h r sound free is name mark e =
-      let there : home_at hs k ≡ Some h = at_index hs k h (free_less hs k free) ∙ ap Some (sym is) in
+      let there : slab_entry_at hs k ≡ Some h = at_index hs k h (free_less hs k free) ∙ ap Some (sym is) in
       let last : get g k ≡ Some r.mark = ap (get g) (sym name) ∙ last_mark r.name (get g r.name) r e in
-      differs (node_in h).mark r.mark (kept_mark (home_at hs k) h r.mark there (free_found hs k h free is) (sound.marked k r.mark last)) (sym mark)
+      differs (node_in h).mark r.mark (kept_mark (slab_entry_at hs k) h r.mark there (free_found hs k h free is) (sound.marked k r.mark last)) (sym mark)
 
   -- places stay sound
-  pub sound-none : (n : ℕ) (cs : List (List Cell)) (hs : List (Home T)) → length cs ≤ n → hs ≡ [] → IsSound n cs hs empty
+  pub sound-none : (n : ℕ) (cs : List (List Cell)) (hs : List (SlabEntry T)) → length cs ≤ n → hs ≡ [] → IsSound n cs hs empty
   sound-none n cs [] few e = record {
     named = tt;
     few = few;
@@ -399,7 +399,7 @@ module _ {T : Type 0} where
   }
   sound-none n cs (h ∷ hs) few e = absurd cc
 
-  sound-set : (n : ℕ) (cs : List (List Cell)) (hs : List (Home T)) (g f : FinMap nat_cmp ℕ) (j : ℕ) (h : Home T)
+  sound-set : (n : ℕ) (cs : List (List Cell)) (hs : List (SlabEntry T)) (g f : FinMap nat_cmp ℕ) (j : ℕ) (h : SlabEntry T)
       → IsSound n cs hs g → (node_in h).name ≡ j → AreMarked f (slice_set hs j h) → IsSound n cs (slice_set hs j h) f
   sound-set n cs hs g f j h sound name marked = record {
     named = named_set 0 j hs h sound.named (name ∙ sym (from_zero j));
@@ -409,16 +409,16 @@ module _ {T : Type 0} where
     marked = marked;
   }
 
-  pub sound-held : (n : ℕ) (cs : List (List Cell)) (hs : List (Home T)) {g : FinMap nat_cmp ℕ} (j : ℕ) (r : Ref) (v : T)
+  pub sound-held : (n : ℕ) (cs : List (List Cell)) (hs : List (SlabEntry T)) {g : FinMap nat_cmp ℕ} (j : ℕ) (r : Ref) (v : T)
       → IsSound n cs hs g → r.name ≡ j → j < length hs → IsSound n cs (slice_set hs j (Held r v)) g
   sound-held n cs hs {g} j r v sound name less = sound-set n cs hs g g j (Held r v) sound name (marked-held g hs j r v less sound.marked)
 
-  pub sound-free : (n : ℕ) (cs : List (List Cell)) (hs : List (Home T)) (g : FinMap nat_cmp ℕ) (r : Ref) (next : ℕ)
+  pub sound-free : (n : ℕ) (cs : List (List Cell)) (hs : List (SlabEntry T)) (g : FinMap nat_cmp ℕ) (r : Ref) (next : ℕ)
       → IsSound n cs hs g → r.name < length hs → IsSound n cs (slice_set hs r.name (Free r next)) (insert g r.name r.mark)
   sound-free n cs hs g r next sound less =
       sound-set n cs hs g (insert g r.name r.mark) r.name (Free r next) sound refl (marked-free g hs r next less sound.marked)
 
-  pub sound-columns : (n : ℕ) (cs ds : List (List Cell)) (hs : List (Home T)) {g : FinMap nat_cmp ℕ} → IsSound n cs hs g
+  pub sound-columns : (n : ℕ) (cs ds : List (List Cell)) (hs : List (SlabEntry T)) {g : FinMap nat_cmp ℕ} → IsSound n cs hs g
       → length ds ≡ length cs → ((m : ℕ) → AreLong m cs → AreLong m ds) → IsSound n ds hs g
   sound-columns n cs ds hs sound count long = record {
     named = sound.named;
@@ -428,7 +428,7 @@ module _ {T : Type 0} where
     marked = sound.marked;
   }
 
-  pub sound-wide : (n : ℕ) (cs ds : List (List Cell)) (hs : List (Home T)) {g : FinMap nat_cmp ℕ} → IsSound n cs hs g → length ds ≤ n → (length cs ≡ n
+  pub sound-wide : (n : ℕ) (cs ds : List (List Cell)) (hs : List (SlabEntry T)) {g : FinMap nat_cmp ℕ} → IsSound n cs hs g → length ds ≤ n → (length cs ≡ n
       → ds ≡ cs) → IsSound n ds hs g
   sound-wide n cs ds [] sound few full = record {
     named = tt;
@@ -439,11 +439,11 @@ module _ {T : Type 0} where
   }
   sound-wide n cs ds (h ∷ hs) {g} sound few full = subst (λ es. IsSound n es (h ∷ hs) g) (sym (full (sound.wide (omega arith)))) sound
 
-  length_both : (hs fs : List (Home T)) → length (hs ++ fs) ≡ length hs + length fs
+  length_both : (hs fs : List (SlabEntry T)) → length (hs ++ fs) ≡ length hs + length fs
   length_both [] fs = omega arith
   length_both (h ∷ hs) fs = let e = length_both hs fs in omega (arith, e)
 
-  pub sound-more : (n : ℕ) (cs : List (List Cell)) (hs fs : List (Home T)) {g : FinMap nat_cmp ℕ} → IsSound n cs hs g → length cs ≡ n
+  pub sound-more : (n : ℕ) (cs : List (List Cell)) (hs fs : List (SlabEntry T)) {g : FinMap nat_cmp ℕ} → IsSound n cs hs g → length cs ≡ n
       → AreFree (length hs) fs → AreLong (length hs + length fs) cs → IsSound n cs (hs ++ fs) g
   sound-more n cs hs fs sound wide free long = record {
     named = named_both 0 hs fs sound.named (subst (λ k. AreFree k fs) (sym (from_zero (length hs))) free);
@@ -454,18 +454,18 @@ module _ {T : Type 0} where
   }
 
   -- the name of a held reference is a place
-  module _ {n : ℕ} {cs : List (List Cell)} {hs : List (Home T)} {g : FinMap nat_cmp ℕ} {r : Ref} (sound : IsSound n cs hs g) (held : IsHeld (seen n cs hs g) r)
+  module _ {n : ℕ} {cs : List (List Cell)} {hs : List (SlabEntry T)} {g : FinMap nat_cmp ℕ} {r : Ref} (sound : IsSound n cs hs g) (held : IsHeld (seen n cs hs g) r)
       {k : ℕ} (name : k ≡ r.name) where
     pub held_less : k < length hs
     held_less = subst (λ q. q < length hs) (sym name) (there sound held).less
 
     -- what an index finds there has the node's value
-    pub held_some : (h : Home T) → h ≡ slice_index_or hs k h → IsTrue (is_some (value_in h))
-    held_some h is = subst (λ (w : Home T). IsTrue (is_some (value_in w))) (sym (found cs hs r (there sound held) k h name is)) refl
+    pub held_some : (h : SlabEntry T) → h ≡ slice_index_or hs k h → IsTrue (is_some (value_in h))
+    held_some h is = subst (λ (w : SlabEntry T). IsTrue (is_some (value_in w))) (sym (found cs hs r (there sound held) k h name is)) refl
 
-    pub held_value : (h : Home T) → h ≡ slice_index_or hs k h → value_of (seen n cs hs g) r.name ≡ value_in h
+    pub held_value : (h : SlabEntry T) → h ≡ slice_index_or hs k h → value_of (seen n cs hs g) r.name ≡ value_in h
     held_value h is =
-        let t = there sound held in value-seen n cs hs g r t ∙ sym (ap (λ (w : Home T). value_in w) (found cs hs r t k h name is))
+        let t = there sound held in value-seen n cs hs g r t ∙ sym (ap (λ (w : SlabEntry T). value_in w) (found cs hs r t k h name is))
 
     -- a slot has a column, with a cell there that has the node's link
     pub held_wide : (s : ℕ) → s < n → s < length cs
@@ -483,14 +483,14 @@ module _ {T : Type 0} where
     held_put ds s l others here = seen-link n cs ds hs g r s l (there sound held) (λ q e. others q (ap (λ z. q == z) name ∙ e))
         (ap (links_at ds) (sym name) ∙ here ∙ ap (λ z. put_link (links_at cs z) s l) name)
 
-  pub some_wide : (n : ℕ) (cs : List (List Cell)) (hs : List (Home T)) {g : FinMap nat_cmp ℕ} (k : ℕ) → IsSound n cs hs g → k < length hs → length cs ≡ n
+  pub some_wide : (n : ℕ) (cs : List (List Cell)) (hs : List (SlabEntry T)) {g : FinMap nat_cmp ℕ} (k : ℕ) → IsSound n cs hs g → k < length hs → length cs ≡ n
   some_wide n cs hs k sound less = sound.wide (omega (arith, less))
 
   -- one free place more
-  pub free-next : (k : ℕ) (hs : List (Home T)) (h : Home T) → AreFree k hs → (node_in h).name ≡ k + length hs → IsFree h → AreFree k (hs ++ h ∷ [])
+  pub free-next : (k : ℕ) (hs : List (SlabEntry T)) (h : SlabEntry T) → AreFree k hs → (node_in h).name ≡ k + length hs → IsFree h → AreFree k (hs ++ h ∷ [])
   free-next k [] h all name free = let is : (node_in h).name ≡ k = omega (arith, name) in (is, free, tt)
   free-next k (x ∷ hs) h all name free =
       let is : (node_in h).name ≡ suc k + length hs = omega (arith, name) in (all.0, all.1, free-next (suc k) hs h all.2 is free)
 
-  pub length-next : (hs : List (Home T)) (h : Home T) → length (hs ++ h ∷ []) ≡ length hs + 1
+  pub length-next : (hs : List (SlabEntry T)) (h : SlabEntry T) → length (hs ++ h ∷ []) ≡ length hs + 1
   length-next hs h = length_both hs (h ∷ [])

@@ -2,8 +2,8 @@ pub mod Cells
 pub mod Chunks
 pub mod Columns
 pub mod Counted
-pub mod Frames
-pub mod Homes
+pub mod Blocks
+pub mod Slab
 pub mod Neighbours
 pub mod OldPlace
 pub mod Places

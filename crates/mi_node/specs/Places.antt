@@ -6,7 +6,7 @@ use Rattle.mi_node.specs.declared.places.Places.{Places}
 
 module _ {T : Type 0} where
   abbrev pub nodes : Places T → Pooled T
-  nodes p = seen p.slots p.columns.items p.homes p.gone.marks
+  nodes p = seen p.slots p.columns.items p.slab p.last_freed.marks
 
   abbrev pub AreSound : Places T → Type 0
-  AreSound p = IsSound p.slots p.columns.items p.homes p.gone.marks × AreListed p.homes p.gone.marks p.free
+  AreSound p = IsSound p.slots p.columns.items p.slab p.last_freed.marks × AreListed p.slab p.last_freed.marks p.free

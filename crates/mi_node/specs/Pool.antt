@@ -26,16 +26,16 @@ abbrev pub entry_code : {T : Type 0} → Coded T → Coded (Entry T)
 entry_code {T} t = code_by (ℕ × (T × List Link)) (coded× coded_ℕ (coded× t (coded_list link_type.the_row.coded)))
     (λ e. (e.mark, (e.value, e.links))) (λ p. record { mark = p.0; value = p.1.0; links = p.1.1 }) (λ _. refl)
 
--- slots: the number of links of each node. gone: the mark of the reference that was given back last, by its name
+-- slots: the number of links of each node. last_freed: the mark of the reference that was given back last, by its name
 pub record Pooled (T : Type 0) : Type 0 where
   pub entries : FinMap nat_cmp (Entry T)
   pub slots : ℕ
-  pub gone : FinMap nat_cmp ℕ
+  pub last_freed : FinMap nat_cmp ℕ
 
 abbrev pub pooled_code : {T : Type 0} → Coded T → Coded (Pooled T)
 pooled_code {T} t =
     code_by (FinMap nat_cmp (Entry T) × (ℕ × FinMap nat_cmp ℕ)) (coded× (code coded_ℕ (entry_code t)) (coded× coded_ℕ (code coded_ℕ coded_ℕ)))
-    (λ m. (m.entries, (m.slots, m.gone))) (λ p. record { entries = p.0; slots = p.1.0; gone = p.1.1 }) (λ _. refl)
+    (λ m. (m.entries, (m.slots, m.last_freed))) (λ p. record { entries = p.0; slots = p.1.0; last_freed = p.1.1 }) (λ _. refl)
 
 -- the tag of a slot that was never set
 abbrev pub no_tag : Tag
@@ -54,7 +54,7 @@ put_link (x ∷ xs) (suc s) l = x ∷ put_link xs s l
 
 -- a pool whose nodes have n links, and that holds none and never did
 unfoldable pub no_nodes : {T : Type 0} → ℕ → Pooled T
-no_nodes n = record { entries = empty; slots = n; gone = empty }
+no_nodes n = record { entries = empty; slots = n; last_freed = empty }
 
 module _ {T : Type 0} where
   abbrev pub entry_link : Option (Entry T) → ℕ → Link
@@ -81,7 +81,7 @@ module _ {T : Type 0} where
 
   -- the reference of the name k that was given back last, if one ever was
   unfoldable pub last_given : Pooled T → ℕ → Option Ref
-  last_given m k = option_map (λ b. record { name = k; mark = b }) (get m.gone k)
+  last_given m k = option_map (λ b. record { name = k; mark = b }) (get m.last_freed k)
 
   -- r isn't the reference that was given back last at its place
   abbrev pub IsNotLast : Pooled T → Ref → Type 0
@@ -105,14 +105,14 @@ module _ {T : Type 0} where
   changed es k f (Some e) = insert es k (f e)
 
   unfoldable pub change : Pooled T → ℕ → (Entry T → Entry T) → Pooled T
-  change m k f = record { entries = changed m.entries k f (get m.entries k); slots = m.slots; gone = m.gone }
+  change m k f = record { entries = changed m.entries k f (get m.entries k); slots = m.slots; last_freed = m.last_freed }
 
   -- with the node r of the value v, whose links were never set
   unfoldable pub taken : Pooled T → Ref → T → Pooled T
   taken m r v = record {
     entries = insert m.entries r.name (record { mark = r.mark; value = v; links = replicate m.slots no_link });
     slots = m.slots;
-    gone = m.gone;
+    last_freed = m.last_freed;
   }
 
   -- the marks of what was given back, with that of an entry of name k
@@ -122,7 +122,7 @@ module _ {T : Type 0} where
 
   -- with no node of name k: the one that was there is the last that was given back
   unfoldable pub without : Pooled T → ℕ → Pooled T
-  without m k = record { entries = remove m.entries k; slots = m.slots; gone = noted m.gone k (get m.entries k) }
+  without m k = record { entries = remove m.entries k; slots = m.slots; last_freed = noted m.last_freed k (get m.entries k) }
 
   unfoldable pub with_link : Pooled T → ℕ → ℕ → Link → Pooled T
   with_link m k s l = change m k (λ e. record e { links = put_link e.links s l })

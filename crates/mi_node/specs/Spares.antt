@@ -6,9 +6,9 @@
 use Rattle.std.specs.Prelude.{◌≡◌, ◌==◌, ◌⊎◌, ℕ, false, List, [], ◌∷◌, Option, Some, None}
 use Rattle.std.specs.Ordering.{nat_cmp}
 use Rattle.std.specs.FinMap.{FinMap, get}
-use Rattle.mi_node.specs.Homes.{home_at, IsFreeAt}
-use Rattle.mi_node.specs.declared.home.Home.{Home}
-use Rattle.mi_node.specs.declared.home.Home.TheVariants.{Free, Held}
+use Rattle.mi_node.specs.Slab.{slab_entry_at, IsFreeAt}
+use Rattle.mi_node.specs.declared.slab_entry.SlabEntry.{SlabEntry}
+use Rattle.mi_node.specs.declared.slab_entry.SlabEntry.TheVariants.{Free, Held}
 
 abbrev pub IsIn : ℕ → List ℕ → Type 0
 IsIn k [] = ⊥
@@ -23,17 +23,17 @@ AreOnce [] = Unit {0}
 AreOnce (k ∷ ks) = IsNotIn k ks × AreOnce ks
 
 module _ {T : Type 0} where
-  abbrev pub GoesOn : ℕ → Option (Home T) → Type 0
+  abbrev pub GoesOn : ℕ → Option (SlabEntry T) → Type 0
   GoesOn n None = ⊥
   GoesOn n (Some (Free r m)) = m ≡ n
   GoesOn n (Some (Held r v)) = ⊥
 
-  abbrev pub IsWay : List (Home T) → ℕ → List ℕ → Type 0
+  abbrev pub IsWay : List (SlabEntry T) → ℕ → List ℕ → Type 0
   IsWay hs at [] = Unit {0}
-  IsWay hs at (k ∷ ks) = (at ≡ k) × (n : ℕ) × GoesOn n (home_at hs k) × IsWay hs n ks
+  IsWay hs at (k ∷ ks) = (at ≡ k) × (n : ℕ) × GoesOn n (slab_entry_at hs k) × IsWay hs n ks
 
   -- g: the marks of what was given back; at: the first free place
-  pub record AreListed (hs : List (Home T)) (g : FinMap nat_cmp ℕ) (at : ℕ) : Type 0 where
+  pub record AreListed (hs : List (SlabEntry T)) (g : FinMap nat_cmp ℕ) (at : ℕ) : Type 0 where
     pub ks : List ℕ
     pub way : IsWay hs at ks
     pub once : AreOnce ks

@@ -4,8 +4,8 @@ ghost use Rattle.std.specs.Prelude.{◌≡◌, ◌<◌, slice_index_or, slice_se
 ghost use Rattle.core.specs.Mem.Slots.{slots_items, slots_ptr, slots_len, IsFull};
 ghost use Rattle.mi_node.specs.Rows.{IsEmpty};
 
+use crate::block::{Block, close, open};
 use crate::chunks::CHUNK;
-use crate::frame::{Frame, close, open};
 use crate::raw::Row;
 use core::slots::Slots;
 use std::alloc::{AllocError, Global};
@@ -15,13 +15,13 @@ use std_alloc::room::{Vacant, may_hold};
 /// As many elements as a chunk has, in a block of memory of their own.
 pub(crate) struct Chunk<E> {
     pub(crate) row: Row<E>,
-    right: Frame<E, Global>,
+    right: Block<E, Global>,
     ghost here: { right.at ≡ row.at },
 }
 
 /// Memory for a chunk: as many places as it has, none of which has an element yet, and the right to free
 /// it. A place with no element has one in contracts, so there must be one.
-pub(crate) fn places_of<E>(alloc: Global) -> Result<(Slots<E>, Frame<E, Global>), AllocError>
+pub(crate) fn places_of<E>(alloc: Global) -> Result<(Slots<E>, Block<E, Global>), AllocError>
     requires some { E }
     ensures { IfOk result (λ p. (slots_len p.0 ≡ 1024) × (p.1.at ≡ slots_ptr p.0)) }
 {
@@ -44,7 +44,7 @@ pub(crate) fn memory_of(count: usize, element: usize, room: usize) -> u64 {
 
 impl<E> Chunk<E> {
     /// The chunk of places that have their elements.
-    pub(crate) fn new(places: Slots<E>, right: Frame<E, Global>) -> Chunk<E>
+    pub(crate) fn new(places: Slots<E>, right: Block<E, Global>) -> Chunk<E>
         requires count { slots_len places ≡ 1024 }
         requires full { IsFull places }
         requires here { right.at ≡ slots_ptr places }

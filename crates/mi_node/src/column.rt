@@ -5,10 +5,10 @@ ghost use Rattle.core.specs.Mem.Slots.{slots_ptr, slots_len};
 ghost use Rattle.mi_node.specs.Cells.{empty_cell};
 ghost use Rattle.mi_node.specs.Columns.{cell_at};
 
+use crate::block::Block;
 use crate::cell::{Cell, EMPTY};
 use crate::chunk::{Chunk, memory_of, places_of};
 use crate::chunks::{CHUNK, MAX_CHUNKS};
-use crate::frame::Frame;
 use core::slots::Slots;
 use std::alloc::{AllocError, Global};
 use std::marker::Model;
@@ -99,7 +99,7 @@ fn empty_chunk(alloc: Global) -> Result<Chunk<Cell>, AllocError>
 /// The chunk of copies of these cells. Each is written once.
 fn chunk_of_copies(
     mut places: Slots<Cell>,
-    right: Frame<Cell, Global>,
+    right: Block<Cell, Global>,
     cells: &[Cell],
 ) -> Chunk<Cell>
     requires count { slots_len places ≡ 1024 }

@@ -2,15 +2,14 @@
 //! This crate owns the nodes; what the links mean is the business of the structures above it.
 #![tactic(auto)]
 
+mod block;
 mod cell;
 mod chunk;
 mod chunks;
 mod column;
 mod columns;
 mod counted;
-mod frame;
-mod gone;
-mod home;
+mod last_freed;
 mod link;
 pub mod neighbours;
 mod node_ref;
@@ -19,6 +18,7 @@ mod packed;
 mod places;
 mod pool;
 mod raw;
+mod slab_entry;
 
 pub use counted::Counted;
 pub use link::{Link, NO_LINK, NO_TAG, Tag};

@@ -2,7 +2,7 @@
 //! Safe code over arrays in chunks: it never reads what a link says.
 ghost use Rattle.std.specs.Prelude.{◌≡◌, ◌<◌, Some, None, IfOk, IsOk, IsTrue};
 ghost use Rattle.mi_node.specs.Cells.{link_of_cell};
-ghost use Rattle.mi_node.specs.Homes.{IsFreeAt, IsNotFreeAt};
+ghost use Rattle.mi_node.specs.Slab.{IsFreeAt, IsNotFreeAt};
 ghost use Rattle.mi_node.specs.Pool.{IsHeld, IsNotLast, ref_of, value_of, link_of, no_nodes, taken, without, with_link, with_value};
 
 use crate::cell::Cell;
@@ -11,21 +11,21 @@ use crate::column::Column;
 use crate::columns::{
     add_columns, clear, lengthen, link_at, memory_of, set_link_at, store_at, stored_at,
 };
-use crate::gone::Gone;
-use crate::home::{BESIDE, Home, free_chunk, into_value, is_free, next_at, value_at};
+use crate::last_freed::LastFreed;
 use crate::link::Link;
 use crate::node_ref::{NodeRef, PLACES};
+use crate::slab_entry::{BESIDE, SlabEntry, free_chunk, into_value, is_free, next_at, value_at};
 use std::alloc::{AllocError, Global};
 
 /// The places, each free or with a node. `free` is a place that is free, if one is: a free place
 /// names the next one, and those that were given back come before those that were never used.
 #[derive(Drop)]
 pub(crate) struct Places<T> {
-    homes: Chunks<Home<T>>,
+    slab: Chunks<SlabEntry<T>>,
     columns: Vec<Column>,
     free: u32,
     slots: usize,
-    gone: Gone,
+    last_freed: LastFreed,
     alloc: Global,
 }
 
@@ -38,11 +38,11 @@ impl<T> Places<T> {
         ensures sound { AreSound result }
     {
         Places {
-            homes: Chunks::new(alloc),
+            slab: Chunks::new(alloc),
             columns: Vec::new(alloc),
             free: PLACES,
             slots,
-            gone: Gone::new(),
+            last_freed: LastFreed::new(),
             alloc,
         }
     }
@@ -56,8 +56,8 @@ impl<T> Places<T> {
 
     /// How many bytes of memory the places take, free ones too, where a value has so many: what stands at each, and its links.
     pub(crate) fn memory(&self, value: usize) -> u64 {
-        let homes = self.homes.memory(value.saturating_add(BESIDE));
-        homes.saturating_add(memory_of(&self.columns))
+        let slab = self.slab.memory(value.saturating_add(BESIDE));
+        slab.saturating_add(memory_of(&self.columns))
     }
 
     /// The first free place. Where there is none, a chunk of free places is added.
@@ -65,9 +65,9 @@ impl<T> Places<T> {
     where
         T: Drop,
         requires { AreSound self.old }
-        ensures place { IfOk result (λ k. IsFreeAt self.new.homes k) }
+        ensures place { IfOk result (λ k. IsFreeAt self.new.slab k) }
         ensures first { IfOk result (λ k. self.new.free ≡ k) }
-        ensures ready { IsFreeAt self.old.homes self.old.free → IsOk result }
+        ensures ready { IsFreeAt self.old.slab self.old.free → IsOk result }
         ensures nodes { nodes self.new ≡ nodes self.old }
         ensures sound { AreSound self.new }
     {
@@ -79,14 +79,14 @@ impl<T> Places<T> {
 
     /// Whether there is a free place: then `free` is one.
     fn has_free(&self) -> bool
-        ensures free { IsTrue result → IsFreeAt self.now.homes self.now.free }
-        ensures none { IsFreeAt self.now.homes self.now.free → IsTrue result }
+        ensures free { IsTrue result → IsFreeAt self.now.slab self.now.free }
+        ensures none { IsFreeAt self.now.slab self.now.free → IsTrue result }
     {
         let place = self.free as usize;
-        if place >= self.homes.len() {
+        if place >= self.slab.len() {
             return false;
         }
-        is_free(self.homes.at(place))
+        is_free(self.slab.at(place))
     }
 
     /// Adds a chunk of free places, and answers the first of them. Memory is taken for the links
@@ -95,39 +95,39 @@ impl<T> Places<T> {
     where
         T: Drop,
         requires sound { AreSound self.old }
-        requires none { IsNotFreeAt self.old.homes self.old.free }
-        ensures place { IfOk result (λ k. IsFreeAt self.new.homes k) }
+        requires none { IsNotFreeAt self.old.slab self.old.free }
+        ensures place { IfOk result (λ k. IsFreeAt self.new.slab k) }
         ensures first { IfOk result (λ k. self.new.free ≡ k) }
         ensures nodes { nodes self.new ≡ nodes self.old }
         ensures sound { AreSound self.new }
     {
-        let first = self.homes.len();
+        let first = self.slab.len();
         if first > PLACES as usize - CHUNK {
             return Err(AllocError);
         }
         add_columns(&mut self.columns, self.slots, self.alloc)?;
         lengthen(&mut self.columns, first + CHUNK, self.alloc)?;
-        self.homes
+        self.slab
             .add(free_chunk(self.alloc, first as u32, self.free)?)?;
         self.free = first as u32;
         Ok(first)
     }
 
     /// A new node at the first free place, none of whose links is set.
-    pub(crate) fn settle(&mut self, place: usize, value: T) -> NodeRef
+    pub(crate) fn occupy(&mut self, place: usize, value: T) -> NodeRef
     where
         T: Drop,
         requires sound { AreSound self.old }
-        requires free { IsFreeAt self.old.homes place }
+        requires free { IsFreeAt self.old.slab place }
         requires first { self.old.free ≡ place }
         ensures free { ref_of (nodes self.old) result.name ≡ None }
         ensures other { IsNotLast (nodes self.old) result }
         ensures nodes { nodes self.new ≡ taken (nodes self.old) result value }
         ensures sound { AreSound self.new }
     {
-        let (node, next) = next_at(self.homes.at(place));
+        let (node, next) = next_at(self.slab.at(place));
         clear(&mut self.columns, place);
-        self.homes.set(place, Home::Held { node, value });
+        self.slab.set(place, SlabEntry::Held { node, value });
         self.free = next;
         node
     }
@@ -141,12 +141,12 @@ impl<T> Places<T> {
         ensures sound { AreSound self.new }
     {
         let next = self.free;
-        let home = self
-            .homes
-            .replace(node.name() as usize, Home::Free { node, next });
+        let slab_entry = self
+            .slab
+            .replace(node.name() as usize, SlabEntry::Free { node, next });
         self.free = node.name();
-        self.gone.note(node.bits());
-        into_value(home)
+        self.last_freed.note(node.bits());
+        into_value(slab_entry)
     }
 
     /// The node's value.
@@ -155,7 +155,7 @@ impl<T> Places<T> {
         requires held { IsHeld (nodes self.now) node }
         ensures { value_of (nodes self.now) node.name ≡ Some result.now }
     {
-        value_at(self.homes.at(node.name() as usize))
+        value_at(self.slab.at(node.name() as usize))
     }
 
     /// Puts another value into the node, and gives the old one back.
@@ -167,8 +167,8 @@ impl<T> Places<T> {
         ensures sound { AreSound self.new }
     {
         into_value(
-            self.homes
-                .replace(node.name() as usize, Home::Held { node, value }),
+            self.slab
+                .replace(node.name() as usize, SlabEntry::Held { node, value }),
         )
     }
 

@@ -97,7 +97,7 @@ impl<T> Pool<T> {
         ensures err { IfErr result (λ _. self.new ≡ self.old) }
     {
         match self.places.free_place() {
-            Ok(place) => Ok(self.places.settle(place, value)),
+            Ok(place) => Ok(self.places.occupy(place, value)),
             Err(refused) => Err((refused, value)),
         }
     }

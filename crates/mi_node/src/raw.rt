@@ -1,4 +1,4 @@
-//! A row of as many elements as a chunk has, behind a raw pointer. Beside `frame`, this module alone holds raw pointers.
+//! A row of as many elements as a chunk has, behind a raw pointer. Beside `block`, this module alone holds raw pointers.
 ghost use Rattle.std.specs.Prelude.{◌≡◌, ◌<◌, ℕ, Bool, List, length, slice_index_or, slice_set};
 ghost use Rattle.core.specs.Mem.Slots.{slots_items, slots_filled, slots_ptr, slots_len, IsFull};
 ghost use Rattle.core.specs.Mem.Slots.Ownership.{owned, lent, Filled};

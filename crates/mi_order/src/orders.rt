@@ -95,7 +95,7 @@ impl NodeOrder<Stored> for ByKey {
         }
     }
 
-    fn decides(&self, tag: u64) -> bool {
+    fn is_complete(&self, tag: u64) -> bool {
         match self.parts.as_slice() {
             [] => true,
             [part, rest @ ..] => is_exact_lead(&self.types, part, rest, tag),

@@ -42,8 +42,8 @@ use Rattle.mi_protocol.specs.Binding.{bound_number_look_up, bound_key_look_up}
 use Rattle.mi_protocol.specs.Binding.{of_table, bound_over, bound_command, FitsChange, FitsNumberLookUp, FitsKeyLookUp, FitsCatalog}
 use Rattle.mi_request.specs.declared.request.ChangeRequest.{ChangeRequest}
 use Rattle.mi_request.specs.declared.request.ChangeRequest.TheVariants as change_request
-use Rattle.mi_request.specs.declared.request.End.{End}
-use Rattle.mi_request.specs.declared.request.End.TheVariants.{Open, With, Without}
+use Rattle.mi_request.specs.declared.request.Bound.{Bound}
+use Rattle.mi_request.specs.declared.request.Bound.TheVariants.{Unbounded, Included, Excluded}
 use Rattle.mi_request.specs.declared.request.KeyLookUpRequest.{KeyLookUpRequest}
 use Rattle.mi_request.specs.declared.request.KeyLookUpRequest.TheVariants as key_request
 use Rattle.mi_request.specs.declared.request.NamedPlace.{NamedPlace}
@@ -298,10 +298,10 @@ beyond-fits : (s : Shape) (x : ℕ) (o : Option (List Value)) → IfSome o (IsKe
 beyond-fits s x None h = tt
 beyond-fits s x (Some key) h = h
 
-lower-fits : (s : Shape) (x : ℕ) (e : End) → IfSome (bound_lower s x e) (IsLowerOf s x)
-lower-fits s x Open = refl
-lower-fits s x (With ds) = from-fits s x (bound_key s x false ds) (key-fits s x false ds)
-lower-fits s x (Without ds) = beyond-fits s x (bound_key s x false ds) (key-fits s x false ds)
+lower-fits : (s : Shape) (x : ℕ) (e : Bound) → IfSome (bound_lower s x e) (IsLowerOf s x)
+lower-fits s x Unbounded = refl
+lower-fits s x (Included ds) = from-fits s x (bound_key s x false ds) (key-fits s x false ds)
+lower-fits s x (Excluded ds) = beyond-fits s x (bound_key s x false ds) (key-fits s x false ds)
 
 up_to-fits : (s : Shape) (x : ℕ) (o : Option (List Value)) → IfSome o (IsKeyOf s x false) → IfSome (option_map upper.UpTo o) (IsUpperOf s x)
 up_to-fits s x None h = tt
@@ -311,15 +311,15 @@ below-fits : (s : Shape) (x : ℕ) (o : Option (List Value)) → IfSome o (IsKey
 below-fits s x None h = tt
 below-fits s x (Some key) h = h
 
-upper-fits : (s : Shape) (x : ℕ) (e : End) → IfSome (bound_upper s x e) (IsUpperOf s x)
-upper-fits s x Open = refl
-upper-fits s x (With ds) = up_to-fits s x (bound_key s x false ds) (key-fits s x false ds)
-upper-fits s x (Without ds) = below-fits s x (bound_key s x false ds) (key-fits s x false ds)
+upper-fits : (s : Shape) (x : ℕ) (e : Bound) → IfSome (bound_upper s x e) (IsUpperOf s x)
+upper-fits s x Unbounded = refl
+upper-fits s x (Included ds) = up_to-fits s x (bound_key s x false ds) (key-fits s x false ds)
+upper-fits s x (Excluded ds) = below-fits s x (bound_key s x false ds) (key-fits s x false ds)
 
 abbrev AreBoundsOf : Shape → ℕ → Lower × Upper → Type 0
 AreBoundsOf s x e = IsLowerOf s x e.0 × IsUpperOf s x e.1
 
-ends-fit : (s : Shape) (x : ℕ) (lower upper : End) → Holds (bound_ends s x lower upper) (AreBoundsOf s x)
+ends-fit : (s : Shape) (x : ℕ) (lower upper : Bound) → Holds (bound_ends s x lower upper) (AreBoundsOf s x)
 ends-fit s x lower upper =
     then (IsLowerOf s x) (AreBoundsOf s x) _ (ok_or (bound_lower s x lower) Key) (some (IsLowerOf s x) Key tt (bound_lower s x lower) (lower-fits s x lower))
     (λ l below. then (IsUpperOf s x) (AreBoundsOf s x) _ (ok_or (bound_upper s x upper) Key)

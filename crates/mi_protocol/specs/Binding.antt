@@ -17,7 +17,7 @@ use Rattle.mi_catalog.specs.Kinds.{has_keys, is_sequenced, is_sorted, is_ranked,
 use Rattle.mi_protocol.specs.Values.{bound_row}
 use Rattle.mi_request.specs.declared.request.ChangeRequest.{ChangeRequest}
 use Rattle.mi_request.specs.declared.request.ChangeRequest.TheVariants as change_request
-use Rattle.mi_request.specs.declared.request.End.{End}
+use Rattle.mi_request.specs.declared.request.Bound.{Bound}
 use Rattle.mi_request.specs.declared.request.KeyLookUpRequest.{KeyLookUpRequest}
 use Rattle.mi_request.specs.declared.request.KeyLookUpRequest.TheVariants as key_request
 use Rattle.mi_request.specs.declared.request.NamedPlace.{NamedPlace}
@@ -75,7 +75,7 @@ abbrev pub ranked_key : Shape → List ℕ → Items → Result (ℕ × List Val
 ranked_key s index key = named_key is_ranked (λ kind. false) s index key
 
 -- the bounds of a range in index x
-abbrev pub bound_ends : Shape → ℕ → End → End → Result (Lower × Upper) Refusal
+abbrev pub bound_ends : Shape → ℕ → Bound → Bound → Result (Lower × Upper) Refusal
 bound_ends s x lower upper = and_then (λ l. and_then (λ u. Ok (l, u)) (ok_or (bound_upper s x upper) Key)) (ok_or (bound_lower s x lower) Key)
 
 -- ---- commands

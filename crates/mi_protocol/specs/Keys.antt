@@ -11,8 +11,8 @@ use Rattle.mi_value.specs.declared.bound.Upper.TheVariants as upper
 use Rattle.mi_catalog.specs.Shape.{Shape, index_at}
 use Rattle.mi_catalog.specs.Fits.{fits_key}
 use Rattle.mi_request.specs.Json.{option_map₂}
-use Rattle.mi_request.specs.declared.request.End.{End}
-use Rattle.mi_request.specs.declared.request.End.TheVariants.{Open, With, Without}
+use Rattle.mi_request.specs.declared.request.Bound.{Bound}
+use Rattle.mi_request.specs.declared.request.Bound.TheVariants.{Unbounded, Included, Excluded}
 
 -- a whole number, a text, or true or false
 abbrev pub plain_value : Data → Option Value
@@ -37,12 +37,12 @@ abbrev pub bound_key : Shape → ℕ → Bool → Items → Option (List Value)
 bound_key s x whole ds = option_and_then (if_key s x whole) (plain_values ds)
 
 -- the bounds of a range in index x, by keys or the first values of keys
-abbrev pub bound_lower : Shape → ℕ → End → Option Lower
-bound_lower s x Open = Some lower.All
-bound_lower s x (With ds) = option_map lower.From (bound_key s x false ds)
-bound_lower s x (Without ds) = option_map lower.Beyond (bound_key s x false ds)
+abbrev pub bound_lower : Shape → ℕ → Bound → Option Lower
+bound_lower s x Unbounded = Some lower.All
+bound_lower s x (Included ds) = option_map lower.From (bound_key s x false ds)
+bound_lower s x (Excluded ds) = option_map lower.Beyond (bound_key s x false ds)
 
-abbrev pub bound_upper : Shape → ℕ → End → Option Upper
-bound_upper s x Open = Some upper.All
-bound_upper s x (With ds) = option_map upper.UpTo (bound_key s x false ds)
-bound_upper s x (Without ds) = option_map upper.Below (bound_key s x false ds)
+abbrev pub bound_upper : Shape → ℕ → Bound → Option Upper
+bound_upper s x Unbounded = Some upper.All
+bound_upper s x (Included ds) = option_map upper.UpTo (bound_key s x false ds)
+bound_upper s x (Excluded ds) = option_map upper.Below (bound_key s x false ds)

@@ -9,7 +9,7 @@ ghost use Rattle.mi_protocol.specs.Keys as keys;
 ghost use Rattle.mi_protocol.specs.Keys.{plain_values, bound_key, bound_lower, bound_upper};
 
 use mi_catalog::Schema;
-use mi_request::{Array, End, Json};
+use mi_request::{Array, Bound, Json};
 use mi_value::{Key, Lower, Refusal, Upper, Value, ValueRef};
 use std::alloc::Global;
 
@@ -70,26 +70,26 @@ pub(crate) fn bind_key(
 }
 
 /// The lower bound of a range in index i. Refusals: `Key` and `Memory`.
-fn bind_lower(alloc: Global, end: End, schema: &Schema, i: usize) -> Result<Lower, Refusal>
+fn bind_lower(alloc: Global, end: Bound, schema: &Schema, i: usize) -> Result<Lower, Refusal>
     requires { i < length schema.now.indexes }
     ensures { IsAnswer result (ok_or (bound_lower schema.now i end.entry) Refusal.Key) }
 {
     match end {
-        End::Open => Ok(Lower::All),
-        End::With(key) => Ok(Lower::From(bind_key(alloc, key, schema, i, false)?)),
-        End::Without(key) => Ok(Lower::Beyond(bind_key(alloc, key, schema, i, false)?)),
+        Bound::Unbounded => Ok(Lower::All),
+        Bound::Included(key) => Ok(Lower::From(bind_key(alloc, key, schema, i, false)?)),
+        Bound::Excluded(key) => Ok(Lower::Beyond(bind_key(alloc, key, schema, i, false)?)),
     }
 }
 
 /// The upper bound of a range in index i. Refusals: `Key` and `Memory`.
-fn bind_upper(alloc: Global, end: End, schema: &Schema, i: usize) -> Result<Upper, Refusal>
+fn bind_upper(alloc: Global, end: Bound, schema: &Schema, i: usize) -> Result<Upper, Refusal>
     requires { i < length schema.now.indexes }
     ensures { IsAnswer result (ok_or (bound_upper schema.now i end.entry) Refusal.Key) }
 {
     match end {
-        End::Open => Ok(Upper::All),
-        End::With(key) => Ok(Upper::UpTo(bind_key(alloc, key, schema, i, false)?)),
-        End::Without(key) => Ok(Upper::Below(bind_key(alloc, key, schema, i, false)?)),
+        Bound::Unbounded => Ok(Upper::All),
+        Bound::Included(key) => Ok(Upper::UpTo(bind_key(alloc, key, schema, i, false)?)),
+        Bound::Excluded(key) => Ok(Upper::Below(bind_key(alloc, key, schema, i, false)?)),
     }
 }
 
@@ -97,8 +97,8 @@ fn bind_upper(alloc: Global, end: End, schema: &Schema, i: usize) -> Result<Uppe
 pub(crate) fn bind_bounds(
     alloc: Global,
     i: usize,
-    lower: End,
-    upper: End,
+    lower: Bound,
+    upper: Bound,
     schema: &Schema,
 ) -> Result<(Lower, Upper), Refusal>
     requires { i < length schema.now.indexes }

@@ -25,7 +25,7 @@ pub use labels::ReplyLabels;
 pub use laws::{lines_edit_columns_once, lines_without_a_table, replies_are_compact_json};
 pub use look_ups::{KeyLookUp, NumberLookUp};
 pub use mi_request::{
-    Array, ChangeRequest, End, Json, KeyLookUpRequest, LineReader, Name, NamedPlace,
+    Array, Bound, ChangeRequest, Json, KeyLookUpRequest, LineReader, Name, NamedPlace,
     NumberLookUpRequest, Object, Request, SessionCommand, ShortRequest,
 };
 pub use output::Output;

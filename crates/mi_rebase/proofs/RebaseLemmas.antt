@@ -5,7 +5,7 @@ use Rattle.std.specs.Prelude.{IfSome, OnOk}
 use Rattle.std.specs.Io.KnownBytes.{Keeps}
 use Rattle.mi_commands.specs.Holder.{HeldDatabase}
 use Rattle.mi_hub.specs.Ended.{ended, if_none, after_newlines}
-use Rattle.mi_ledger.specs.Replay.{Passes}
+use Rattle.mi_durable.specs.Replay.{Passes}
 use Rattle.mi_recovery.specs.declared.device.Keeping.TheVariants.{Synced}
 use Rattle.mi_recovery.specs.declared.opening.Journaled.{Journaled}
 use Rattle.mi_recovery.specs.declared.opening.Journaled.TheVariants.{Nothing, Journal}

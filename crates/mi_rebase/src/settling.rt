@@ -2,7 +2,7 @@
 ghost use Rattle.std.specs.Prelude.{◌≡◌, ◌∷◌, [], true, option_map, OnOk, IfOk};
 ghost use Rattle.mi_model.specs.Database.{depth};
 ghost use Rattle.mi_replay.specs.Replayed.{replayer};
-ghost use Rattle.mi_clients.specs.Row.{fresh};
+ghost use Rattle.mi_clients.specs.Clients.{fresh};
 ghost use Rattle.mi_recovery.specs.Segments.{IsAskedBehind};
 ghost use Rattle.mi_rebase.specs.Rebase.{HasSegment};
 

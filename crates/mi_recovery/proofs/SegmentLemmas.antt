@@ -16,7 +16,7 @@ use Rattle.mi_hub.specs.Lines.{lines_of}
 use Rattle.mi_hub.specs.Run.{HubState}
 use Rattle.mi_hub.specs.OneLine.{IsWholeLine}
 use Rattle.mi_replay.specs.Replayed.{replayed}
-use Rattle.mi_ledger.specs.Replay.{Passes, HasPassed}
+use Rattle.mi_durable.specs.Replay.{Passes, HasPassed}
 use Rattle.mi_clients.specs.Steps.{Step, Makes, GivesNone}
 use Rattle.mi_recovery.specs.declared.asking.Asked.{Asked}
 use Rattle.mi_recovery.specs.declared.device.Keeping.{Keeping}

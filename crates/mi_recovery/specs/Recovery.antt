@@ -4,12 +4,12 @@ use Rattle.mi_commands.specs.Holder.{HeldDatabase, released}
 use Rattle.mi_hub.specs.Ended.{after_newlines}
 use Rattle.mi_hub.specs.Lines.{lines_of}
 use Rattle.mi_replay.specs.Replayed.{replayer, replayed}
-use Rattle.mi_ledger.specs.Ledger.{holder_conn}
+use Rattle.mi_durable.specs.Durable.{holder_conn}
 use Rattle.mi_clients.specs.Steps.{HoldsSome}
 use Rattle.mi_recovery.specs.declared.device.Keeping.{Keeping}
 use Rattle.mi_recovery.specs.Device.{is_synced}
-use Rattle.mi_ledger.specs.declared.replaying.ReplayFault.{ReplayFault}
-use Rattle.mi_ledger.specs.declared.replaying.ReplayFault.TheVariants as replay
+use Rattle.mi_durable.specs.declared.replaying.ReplayFault.{ReplayFault}
+use Rattle.mi_durable.specs.declared.replaying.ReplayFault.TheVariants as replay
 use Rattle.mi_recovery.specs.declared.fault.JournalFailure.{JournalFailure}
 use Rattle.mi_recovery.specs.declared.fault.JournalFailure.TheVariants as failure
 use Rattle.mi_recovery.specs.declared.opening.Journaled.{Journaled}

@@ -6,7 +6,7 @@ use Rattle.hex.specs.Hex.{encode_lower}
 use Rattle.mi_commands.specs.Holder.{HeldDatabase}
 use Rattle.mi_hub.specs.Run.{HubState}
 use Rattle.mi_log.specs.Header.{header_of}
-use Rattle.mi_ledger.specs.Replay.{Passes}
+use Rattle.mi_durable.specs.Replay.{Passes}
 use Rattle.mi_clients.specs.Steps.{Step, Makes, GivesNone}
 use Rattle.mi_recovery.specs.declared.asking.Asked.{Asked}
 use Rattle.mi_recovery.specs.declared.device.Keeping.{Keeping}

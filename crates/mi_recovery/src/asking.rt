@@ -3,7 +3,7 @@ ghost use Rattle.std.specs.Prelude.{◌≡◌, ◌∷◌, [], true, Some, length
 ghost use Rattle.std.specs.String.{string_bytes};
 ghost use Rattle.mi_hub.specs.Connections.{rest_at};
 ghost use Rattle.mi_replay.specs.Replayed.{replayer};
-ghost use Rattle.mi_clients.specs.Row.{fresh};
+ghost use Rattle.mi_clients.specs.Clients.{fresh};
 ghost use Rattle.mi_recovery.specs.JournalFile.{text_of};
 ghost use Rattle.mi_recovery.specs.Names.{segment_name};
 ghost use Rattle.mi_recovery.specs.Segments.{IsAsked, IsAskedBehind, IsStart, hash_of};
@@ -17,8 +17,8 @@ use crate::names::segment_path;
 use crate::opening::Journaled;
 use crate::place::{JournalSchema, Place, Position, first_place};
 use crate::segments::{ask_file, ask_segments, segment_file};
+use mi_durable::REPLAYER;
 use mi_hub::Hub;
-use mi_ledger::REPLAYER;
 use mi_log::LogLines;
 use mi_sessions::Sessions;
 use sha2::{Digest, Sha256};

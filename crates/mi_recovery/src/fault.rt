@@ -1,10 +1,10 @@
 //! Why a journal isn't opened or doesn't go on, and what the system has said of it. It touches nothing.
 ghost use Rattle.std.specs.Prelude.{◌≡◌, ◌⊎◌, true};
 ghost use Rattle.mi_recovery.specs.Recovery.{ends_replay, told_as, told_in};
-ghost use Rattle.mi_ledger.specs.declared.fault.LedgerFault.TheVariants as ledger_fault;
+ghost use Rattle.mi_durable.specs.declared.fault.DurableFault.TheVariants as durable_fault;
 ghost use Rattle.mi_recovery.specs.declared.fault.JournalFailure.TheVariants as told;
 
-use mi_ledger::{LedgerFault, ReplayFault};
+use mi_durable::{DurableFault, ReplayFault};
 use std::io;
 
 /// Why a journal isn't opened, or doesn't go on.
@@ -69,14 +69,14 @@ impl JournalFailure {
     }
 }
 
-impl From<LedgerFault> for JournalFailure {
-    ghost from_gives = { λ fault failure. ((fault ≡ ledger_fault.Memory) × (failure ≡ told.Memory))
-        ⊎ ((fault ≡ ledger_fault.Journal) × (failure ≡ told.Write)) };
+impl From<DurableFault> for JournalFailure {
+    ghost from_gives = { λ fault failure. ((fault ≡ durable_fault.Memory) × (failure ≡ told.Memory))
+        ⊎ ((fault ≡ durable_fault.Journal) × (failure ≡ told.Write)) };
 
-    fn from(fault: LedgerFault) -> JournalFailure {
+    fn from(fault: DurableFault) -> JournalFailure {
         match fault {
-            LedgerFault::Memory => JournalFailure::Memory,
-            LedgerFault::Journal => JournalFailure::Write,
+            DurableFault::Memory => JournalFailure::Memory,
+            DurableFault::Journal => JournalFailure::Write,
         }
     }
 }

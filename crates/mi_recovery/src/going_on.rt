@@ -4,8 +4,8 @@ ghost use Rattle.std.specs.String.{string_bytes};
 ghost use Rattle.std.specs.Io.KnownBytes.{Keeps};
 ghost use Rattle.mi_log.specs.DeviceLog.{device_of};
 ghost use Rattle.mi_replay.specs.Replayed.{replayer};
-ghost use Rattle.mi_ledger.specs.Ledger.{hub_of, log_of};
-ghost use Rattle.mi_clients.specs.Row.{fresh};
+ghost use Rattle.mi_durable.specs.Durable.{hub_of, log_of};
+ghost use Rattle.mi_clients.specs.Clients.{fresh};
 ghost use Rattle.mi_clients.specs.Steps.{Step, Makes, GivesNone};
 ghost use Rattle.mi_recovery.specs.Device.{is_synced, is_staying, told_of};
 ghost use Rattle.mi_recovery.specs.JournalFile.{text_of};
@@ -16,11 +16,11 @@ use crate::asking::{Asked, ask_journal};
 use crate::device::{JournalDevice, Keeping};
 use crate::fault::{JournalFailure, JournalFault};
 use crate::journal_file::{JournalFile, JournalFiles};
-use crate::opening::{JournalLedger, continued, named};
+use crate::opening::{JournalDurable, continued, named};
 use crate::place::{JournalSchema, Position};
-use mi_clients::part;
+use mi_clients::disconnect;
+use mi_durable::{Durable, HeldReplies, REPLAYER};
 use mi_hub::Hub;
-use mi_ledger::{HeldReplies, Ledger, REPLAYER};
 use mi_log::{DeviceLog, Log};
 use mi_sessions::Sessions;
 use std::alloc::Global;
@@ -31,19 +31,19 @@ fn undone<D: Sessions + Drop, L: Log + Drop>(
     alloc: Global,
     hub: Hub<D>,
     log: L,
-) -> Result<Ledger<D, L>, JournalFailure>
+) -> Result<Durable<D, L>, JournalFailure>
     requires { hub.attached ≡ fresh replayer ∷ [] }
-    ensures makes { IfOk result (λ ledger. (steps : List Step) × GivesNone steps
-        × Makes steps hub (hub_of ledger) (L.appended log) (L.appended (log_of ledger))) }
-    ensures held { IfOk result (λ ledger. IsUndone hub.held (hub_of ledger).held) }
-    ensures stay { IfOk result (λ ledger. Keeps (L.appended (log_of ledger)) (L.synced (log_of ledger))) }
-    ensures attached { IfOk result (λ ledger. (hub_of ledger).attached ≡ []) }
-    ensures makes_stay { IfOk result (λ ledger. L.makes_stay (log_of ledger) ≡ L.makes_stay log) }
+    ensures makes { IfOk result (λ durable. (steps : List Step) × GivesNone steps
+        × Makes steps hub (hub_of durable) (L.appended log) (L.appended (log_of durable))) }
+    ensures held { IfOk result (λ durable. IsUndone hub.held (hub_of durable).held) }
+    ensures stay { IfOk result (λ durable. Keeps (L.appended (log_of durable)) (L.synced (log_of durable))) }
+    ensures attached { IfOk result (λ durable. (hub_of durable).attached ≡ []) }
+    ensures makes_stay { IfOk result (λ durable. L.makes_stay (log_of durable) ≡ L.makes_stay log) }
 {
-    let mut ledger = Ledger::new(hub, log);
-    part(alloc, &mut ledger, REPLAYER)?;
-    ledger.release(HeldReplies::new(alloc))?;
-    Ok(ledger)
+    let mut durable = Durable::new(hub, log);
+    disconnect(alloc, &mut durable, REPLAYER)?;
+    durable.release(HeldReplies::new(alloc))?;
+    Ok(durable)
 }
 
 /// The log of the newest segment, which goes on behind what was found there. Its name stays, where it is synced.
@@ -85,14 +85,14 @@ pub fn opened_behind<P: JournalFiles, D: Sessions + Drop>(
     keeping: Keeping,
     schema: &JournalSchema,
     position: Option<&Position>,
-) -> Result<JournalLedger<P::File, D>, JournalFault>
+) -> Result<JournalDurable<P::File, D>, JournalFault>
     requires { hub.attached ≡ [] }
-    ensures opened { IfOk result (λ ledger. IsOpenedBehind (λ file. P.File.is_locked file ≡ true) (P.is_seen files.now) (P.is_newest files.now path.now)
-        P.File.contents path.now schema.now (option_map (λ p. p.now) position.entry) keeping hub (hub_of ledger)
-        (told_of P.File.contents (device_of (log_of ledger)))) }
-    ensures attached { IfOk result (λ ledger. (hub_of ledger).attached ≡ []) }
-    ensures settled { IfOk result (λ ledger. Keeps (told_of P.File.contents (device_of (log_of ledger))) (told_of P.File.stays (device_of (log_of ledger)))) }
-    ensures stays { IfOk result (λ ledger. is_staying (device_of (log_of ledger)) ≡ is_synced keeping) }
+    ensures opened { IfOk result (λ durable. IsOpenedBehind (λ file. P.File.is_locked file ≡ true) (P.is_seen files.now) (P.is_newest files.now path.now)
+        P.File.contents path.now schema.now (option_map (λ p. p.now) position.entry) keeping hub (hub_of durable)
+        (told_of P.File.contents (device_of (log_of durable)))) }
+    ensures attached { IfOk result (λ durable. (hub_of durable).attached ≡ []) }
+    ensures settled { IfOk result (λ durable. Keeps (told_of P.File.contents (device_of (log_of durable))) (told_of P.File.stays (device_of (log_of durable)))) }
+    ensures stays { IfOk result (λ durable. is_staying (device_of (log_of durable)) ≡ is_synced keeping) }
 {
     let mut hub = hub;
     let asked = ask_journal(alloc, files, &mut hub, path, schema, position)?;

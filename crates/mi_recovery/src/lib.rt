@@ -32,7 +32,7 @@ pub use going_on::{log_of_newest, opened_behind};
 pub use journal_file::{JournalFile, JournalFiles};
 pub use journal_text::text_size;
 pub use names::{base_path, new_base_path, segment_number, segment_path};
-pub use opening::{JournalLedger, Journaled, log_error, read_heading, without};
+pub use opening::{JournalDurable, Journaled, log_error, read_heading, without};
 pub use place::{JournalSchema, Place, Position, first_place, segment_header};
 pub use segments::{next_place, pass_over, segment_file};
 pub use system_files::SystemFiles;

@@ -5,21 +5,21 @@ ghost use Rattle.std.specs.Io.KnownBytes.{Keeps, Appends};
 ghost use Rattle.mi_log.specs.LogLines.{reader_of};
 ghost use Rattle.mi_log.specs.DeviceLog.{device_of};
 ghost use Rattle.mi_recovery.specs.JournalFile.{text_of};
-ghost use Rattle.mi_ledger.specs.Ledger.{hub_of, log_of};
+ghost use Rattle.mi_durable.specs.Durable.{hub_of, log_of};
 ghost use Rattle.mi_recovery.specs.Device.{is_synced, is_staying, told_of};
 ghost use Rattle.mi_recovery.specs.Recovery.{HasHeader, IsBeginning, IsFound, Has, kept_bytes, ends_replay};
 
 use crate::device::{JournalDevice, Keeping};
 use crate::fault::{JournalFailure, JournalFault};
 use crate::journal_file::{JournalFile, JournalFiles};
+use mi_durable::Durable;
 use mi_hub::Hub;
-use mi_ledger::Ledger;
 use mi_log::{Device, DeviceLog, Heading, Log, LogLines, judge_heading};
 use mi_sessions::Sessions;
 use std::io::{BufRead, Error};
 
-/// A ledger over a journal in a file, or over none.
-pub type JournalLedger<F, D> = Ledger<D, DeviceLog<JournalDevice<F>>>;
+/// A durable hub over a journal in a file, or over none.
+pub type JournalDurable<F, D> = Durable<D, DeviceLog<JournalDevice<F>>>;
 
 /// Makes the name of a journal's file stay, where what is appended to it is made to stay.
 pub(crate) fn named<P: JournalFiles>(
@@ -204,12 +204,12 @@ pub(crate) fn continued<F: JournalFile + Drop>(
 }
 
 /// A hub with no journal.
-pub fn without<F: JournalFile + Drop, D: Sessions + Drop>(hub: Hub<D>) -> JournalLedger<F, D>
+pub fn without<F: JournalFile + Drop, D: Sessions + Drop>(hub: Hub<D>) -> JournalDurable<F, D>
     ensures hub { hub_of result ≡ hub }
     ensures settled { Keeps (told_of F.contents (device_of (log_of result))) (told_of F.stays (device_of (log_of result))) }
     ensures stays { is_staying (device_of (log_of result)) ≡ false }
 {
-    Ledger::new(
+    Durable::new(
         hub,
         DeviceLog::new(JournalDevice::new(None, Keeping::Unsynced)),
     )

@@ -1,5 +1,5 @@
 -- What an answer leaves depends on who asks in one way alone: another's sessions keep changes and session commands out.
--- Cited by `laws::changed_lines_go_in`, `laws::runs_have_journals`, `FrontLemmas`, `ReplayLemmas`, `mi_checkpoint` and `mi_ledger`.
+-- Cited by `laws::changed_lines_go_in`, `laws::runs_have_journals`, `FrontLemmas`, `ReplayLemmas`, `mi_checkpoint` and `mi_durable`.
 use Rattle.std.proofs.Common.{◌≡◌, ◌≢◌, ℕ, ◌+◌, ◌-◌, ◌≤◌, min, List, [], ◌∷◌, Bool, true, false, cond, not, ◌&&◌, nat_eq, nat_le, length}
 use Rattle.std.proofs.Common.{Option, Some, None, Result, Ok, Err, refl, sym, ap, ◌∙◌, subst, arith, inl, inr, true≢false}
 use Rattle.std.proofs.Math.Nat.{le_trans}

@@ -4,7 +4,7 @@ use Rattle.std.proofs.Common.{[], ◌∷◌, refl, inl, inr}
 use Rattle.std.specs.Fmt.{digits}
 use Rattle.std.specs.Str.{is_utf8, chars}
 use Rattle.serde_json.proofs.OnLiterals.{serde_json_on_literals}
-use Rattle.mi_request.specs.Bare.{bare_named}
+use Rattle.mi_request.specs.NullaryCommand.{nullary_named}
 use Rattle.mi_request.specs.Commands.{look_up_named, step_named}
 use Rattle.mi_request.specs.Json.{has_only}
 use Rattle.mi_commands.specs.Answer.{answer}
@@ -14,11 +14,11 @@ use Rattle.mi_replay.specs.Replayed.{unheld}
 use Rattle.mi_replay.specs.Examples.{start_line, insert_line, FrontHoldsTheSession, BreakIsAnUndo, PushIsKept}
 
 pub front_holds : FrontHoldsTheSession
-unfolding serde_json_on_literals is_utf8 chars has_only bare_named step_named look_up_named
+unfolding serde_json_on_literals is_utf8 chars has_only nullary_named step_named look_up_named
 front_holds = (refl, refl, refl)
 
 pub break_is_an_undo : BreakIsAnUndo
-unfolding digits serde_json_on_literals is_utf8 chars has_only bare_named step_named look_up_named
+unfolding digits serde_json_on_literals is_utf8 chars has_only nullary_named step_named look_up_named
 break_is_an_undo =
     let open_then = (answer (unheld start_state) 2 start_line).1 in
     let added = (answer open_then 2 insert_line).1 in (
@@ -48,5 +48,5 @@ break_is_an_undo =
     )
 
 pub push_is_kept : PushIsKept
-unfolding serde_json_on_literals is_utf8 chars has_only bare_named step_named look_up_named
+unfolding serde_json_on_literals is_utf8 chars has_only nullary_named step_named look_up_named
 push_is_kept = (refl, refl, refl)

@@ -28,8 +28,8 @@ use Rattle.mi_request.specs.declared.forms.CommandName.{CommandName}
 use Rattle.mi_request.specs.declared.forms.CommandName.TheVariants as name
 use Rattle.mi_request.specs.declared.keyed.KeyCommand.{KeyCommand}
 use Rattle.mi_request.specs.declared.keyed.KeyCommand.TheVariants as keyed
-use Rattle.mi_request.specs.declared.request.End.{End}
-use Rattle.mi_request.specs.declared.request.End.TheVariants.{Open, With, Without}
+use Rattle.mi_request.specs.declared.request.Bound.{Bound}
+use Rattle.mi_request.specs.declared.request.Bound.TheVariants.{Unbounded, Included, Excluded}
 use Rattle.mi_request.specs.declared.request.ChangeRequest.TheVariants as change
 use Rattle.mi_request.specs.declared.request.KeyLookUpRequest.TheVariants as by_key
 use Rattle.mi_request.specs.declared.request.NumberLookUpRequest.TheVariants as by_number
@@ -84,27 +84,27 @@ bool_found None old ts new name first h = tt
 bool_found (Some b) old ts new name first h = (Some (boolean b), (ts, first, ap (converted of_json) (ap (value 126) h ∙ value_is 126 _)), refl)
 
 -- an end of a range
-lower_is : (e : End) → HasKey e → lower_end (end_object (codes "ge") (codes "gt") e) ≡ Some e
+lower_is : (e : Bound) → HasKey e → lower_end (end_object (codes "ge") (codes "gt") e) ≡ Some e
 unfolding has_only
-lower_is Open h = absurd h
-lower_is (With ks) h = refl
-lower_is (Without ks) h = refl
+lower_is Unbounded h = absurd h
+lower_is (Included ks) h = refl
+lower_is (Excluded ks) h = refl
 
-upper_is : (e : End) → HasKey e → upper_end (end_object (codes "le") (codes "lt") e) ≡ Some e
+upper_is : (e : Bound) → HasKey e → upper_end (end_object (codes "le") (codes "lt") e) ≡ Some e
 unfolding has_only
-upper_is Open h = absurd h
-upper_is (With ks) h = refl
-upper_is (Without ks) h = refl
+upper_is Unbounded h = absurd h
+upper_is (Included ks) h = refl
+upper_is (Excluded ks) h = refl
 
-pub lower_found : (r : Option End) (old ts new : List Token) → read_key old ≡ Some (Some (codes "lower"), ts)
+pub lower_found : (r : Option Bound) (old ts new : List Token) → read_key old ≡ Some (Some (codes "lower"), ts)
     → IfSome r (λ e. HasKey e × (converted of_json (value 126 ts) ≡ Some (end_object (codes "ge") (codes "gt") e, new)))
-    → IfSome r (λ e. (o : Option Data) × IsMaybe old (codes "lower") o new × (default_if Open lower_end o ≡ Some e))
+    → IfSome r (λ e. (o : Option Data) × IsMaybe old (codes "lower") o new × (default_if Unbounded lower_end o ≡ Some e))
 lower_found None old ts new first h = tt
 lower_found (Some e) old ts new first h = (Some (end_object (codes "ge") (codes "gt") e), (ts, first, h.1), lower_is e h.0)
 
-pub upper_found : (r : Option End) (old ts new : List Token) → read_key old ≡ Some (Some (codes "upper"), ts)
+pub upper_found : (r : Option Bound) (old ts new : List Token) → read_key old ≡ Some (Some (codes "upper"), ts)
     → IfSome r (λ e. HasKey e × (converted of_json (value 126 ts) ≡ Some (end_object (codes "le") (codes "lt") e, new)))
-    → IfSome r (λ e. (o : Option Data) × IsMaybe old (codes "upper") o new × (default_if Open upper_end o ≡ Some e))
+    → IfSome r (λ e. (o : Option Data) × IsMaybe old (codes "upper") o new × (default_if Unbounded upper_end o ≡ Some e))
 upper_found None old ts new first h = tt
 upper_found (Some e) old ts new first h = (Some (end_object (codes "le") (codes "lt") e), (ts, first, h.1), upper_is e h.0)
 
@@ -283,13 +283,13 @@ modify_asked t i s a r table id set add rollback p q b c d =
     (ap (default_if no_members as_object) (got (codes "add") xs ms ∙ or_none a) ∙ c)
     (ap (default_if false as_bool) (got (codes "rollback") xs ms ∙ or_none r) ∙ d)
 
-ranged : (t : Option (Option (List ℕ))) (i : Option (List ℕ)) (l u : Option End) (r : Option Bool) (m : Option ℕ) (table : Option (List ℕ)) (index : List ℕ)
-    (lower upper : End) (reverse : Bool) (limit : ℕ) → t ≡ Some table → i ≡ Some index → l ≡ Some lower → u ≡ Some upper → r ≡ Some reverse → m ≡ Some limit
+ranged : (t : Option (Option (List ℕ))) (i : Option (List ℕ)) (l u : Option Bound) (r : Option Bool) (m : Option ℕ) (table : Option (List ℕ)) (index : List ℕ)
+    (lower upper : Bound) (reverse : Bool) (limit : ℕ) → t ≡ Some table → i ≡ Some index → l ≡ Some lower → u ≡ Some upper → r ≡ Some reverse → m ≡ Some limit
     → option_map₂ request.KeyLookUp t (option_map₅ by_key.Range i l u r m) ≡ Some (request.KeyLookUp table (by_key.Range index lower upper reverse limit))
 ranged t i l u r m table index lower upper reverse limit p q a b c d = rw (p, q, a, b, c, d) refl
 
-pub range_asked : (t : Option Data) (i : Data) (l u r m : Option Data) (table : Option (List ℕ)) (index : List ℕ) (lower upper : End) (reverse : Bool) (limit : ℕ)
-    → if_there as_str t ≡ Some table → as_str i ≡ Some index → default_if Open lower_end l ≡ Some lower → default_if Open upper_end u ≡ Some upper
+pub range_asked : (t : Option Data) (i : Data) (l u r m : Option Data) (table : Option (List ℕ)) (index : List ℕ) (lower upper : Bound) (reverse : Bool) (limit : ℕ)
+    → if_there as_str t ≡ Some table → as_str i ≡ Some index → default_if Unbounded lower_end l ≡ Some lower → default_if Unbounded upper_end u ≡ Some upper
     → default_if false as_bool r ≡ Some reverse → default_if MAX_PAGE page m ≡ Some limit
     → request_in (put_all (range_members t i l u r m) (named (codes "range"))) ≡ Some (request.KeyLookUp table (by_key.Range index lower upper reverse limit))
 unfolding has_only look_up_named
@@ -300,8 +300,8 @@ range_asked t i l u r m table index lower upper reverse limit p q a b c d =
     ∙ ranged _ _ _ _ _ _ table index lower upper reverse limit
     (ap (if_there as_str) (got (codes "table") xs ms ∙ or_none t) ∙ p)
     (ap (option_and_then as_str) (got (codes "index") xs ms) ∙ q)
-    (ap (default_if Open lower_end) (got (codes "lower") xs ms ∙ or_none l) ∙ a)
-    (ap (default_if Open upper_end) (got (codes "upper") xs ms ∙ or_none u) ∙ b)
+    (ap (default_if Unbounded lower_end) (got (codes "lower") xs ms ∙ or_none l) ∙ a)
+    (ap (default_if Unbounded upper_end) (got (codes "upper") xs ms ∙ or_none u) ∙ b)
     (ap (default_if false as_bool) (got (codes "reverse") xs ms ∙ or_none r) ∙ c)
     (ap (default_if MAX_PAGE page) (got (codes "limit") xs ms ∙ or_none m) ∙ d)
 

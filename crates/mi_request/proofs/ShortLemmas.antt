@@ -26,15 +26,15 @@ use Rattle.mi_value.specs.declared.refusal.Refusal.{Refusal}
 use Rattle.mi_value.specs.declared.refusal.Refusal.TheVariants.{Form}
 use Rattle.std.specs.Prelude.{bytes_eq, IfSome}
 use Rattle.std.proofs.lemmas.Slice.Eq.{bytes_eq-Decides}
-use Rattle.mi_request.specs.Bare.{asked_bare, bare_of, bare_name, bare_text, bare_named, bare_line, bares, first_with}
+use Rattle.mi_request.specs.NullaryCommand.{asked_nullary, nullary_of, nullary_name, nullary_text, nullary_named, nullary_line, nullary_commands, first_with}
 use Rattle.mi_request.specs.Commands.{look_up_named, step_named}
 use Rattle.mi_request.specs.Json.{has_only}
 use Rattle.mi_request.specs.Lines.{request_of, request_or_refusal, command_line}
 use Rattle.mi_request.specs.Short.{name, maybe_name, whole, maybe_whole, Member, is_name_byte, are_name_bytes, is_word, are_words, name_front, whole_front}
 use Rattle.mi_request.specs.Short.{members_text, command_front, line_text, table_is, index_is, id_is, written, short_line, asked_short}
 use Rattle.mi_request.specs.ShortCode.{IsRead, a_name, perhaps_name, a_whole, perhaps_whole}
-use Rattle.mi_request.specs.declared.bare.Bare.{Bare}
-use Rattle.mi_request.specs.declared.bare.Bare.TheVariants as bare
+use Rattle.mi_request.specs.declared.nullary_command.NullaryCommand.{NullaryCommand}
+use Rattle.mi_request.specs.declared.nullary_command.NullaryCommand.TheVariants as nullary_command
 use Rattle.mi_request.specs.declared.request.ChangeRequest.{ChangeRequest}
 use Rattle.mi_request.specs.declared.request.ChangeRequest.TheVariants as change
 use Rattle.mi_request.specs.declared.request.NumberLookUpRequest.TheVariants as by_number
@@ -338,33 +338,33 @@ fourth a b c d ms words = third b c d ms (rest_words a (b ∷ (c ∷ (d ∷ ms))
 -- ---- commands without members
 
 -- the line of a command without members means it
-bare_means : (b : Bare) → command_line (bare_text b) ≡ Ok (request.Session (asked_bare b))
-unfolding serde_json_on_literals is_utf8 chars has_only bare_named step_named look_up_named
-bare_means bare.Undo = refl
-bare_means b = refl
+nullary_means : (b : NullaryCommand) → command_line (nullary_text b) ≡ Ok (request.Session (asked_nullary b))
+unfolding serde_json_on_literals is_utf8 chars has_only nullary_named step_named look_up_named
+nullary_means nullary_command.Undo = refl
+nullary_means b = refl
 
-bare_line_is : (b : Bare) → line_text (bare_name b) [] ≡ bare_text b
-bare_line_is bare.Undo = refl
-bare_line_is b = refl
+nullary_line_is : (b : NullaryCommand) → line_text (nullary_name b) [] ≡ nullary_text b
+nullary_line_is nullary_command.Undo = refl
+nullary_line_is b = refl
 
 -- the one that a command over sessions is, if it is one, is that command
-abbrev asked_or : SessionCommand → Option Bare → SessionCommand
+abbrev asked_or : SessionCommand → Option NullaryCommand → SessionCommand
 asked_or s None = s
-asked_or s (Some b) = asked_bare b
+asked_or s (Some b) = asked_nullary b
 
-asked_back : (s : SessionCommand) → asked_or s (bare_of s) ≡ s
+asked_back : (s : SessionCommand) → asked_or s (nullary_of s) ≡ s
 asked_back session.Undo = refl
 asked_back s = refl
 
-abbrev bare_words : Option Bare → Option (List ℕ)
-bare_words o = option_and_then written (option_map (λ b. (bare_name b, [])) o)
+abbrev nullary_words : Option NullaryCommand → Option (List ℕ)
+nullary_words o = option_and_then written (option_map (λ b. (nullary_name b, [])) o)
 
 -- what holds of each command without members and its line holds of each command over sessions that is one, and its line
-by_bare : (P : SessionCommand → List ℕ → Type 0) → ((b : Bare) → P (asked_bare b) (bare_text b)) → (s : SessionCommand) (line : List ℕ) → (o : Option Bare)
-    → asked_or s o ≡ s → bare_words o ≡ Some line → P s line
-by_bare P h s line None back is = absurd (none-some line is)
-by_bare P h s line (Some b) back is =
-    subst (λ q. P q line) back (subst (P (asked_bare b)) (sym (bare_line_is b) ∙ same_Some (line_text (bare_name b) []) line is) (h b))
+by_nullary : (P : SessionCommand → List ℕ → Type 0) → ((b : NullaryCommand) → P (asked_nullary b) (nullary_text b)) → (s : SessionCommand) (line : List ℕ) → (o : Option NullaryCommand)
+    → asked_or s o ≡ s → nullary_words o ≡ Some line → P s line
+by_nullary P h s line None back is = absurd (none-some line is)
+by_nullary P h s line (Some b) back is =
+    subst (λ q. P q line) back (subst (P (asked_nullary b)) (sym (nullary_line_is b) ∙ same_Some (line_text (nullary_name b) []) line is) (h b))
 
 -- ---- all short lines
 
@@ -389,7 +389,7 @@ short_means (request.Change t (change.Relocate index id before)) line is =
     (fourth (table_is t) (index_is index) (id_is id) last [] words))
 short_means (request.Session (session.Commit n)) line is =
     meant_by (codes "commit") ((codes "revision", whole n) ∷ []) line _ refl refl is (λ words. commit_asked n (head_word (codes "revision", whole n) [] words))
-short_means (request.Session s) line is = by_bare (λ q t. command_line t ≡ Ok (request.Session q)) bare_means s line (bare_of s) (asked_back s) is
+short_means (request.Session s) line is = by_nullary (λ q t. command_line t ≡ Ok (request.Session q)) nullary_means s line (nullary_of s) (asked_back s) is
 short_means r line is = absurd (none-some line is)
 
 abbrev request_in : Request → Result Request Refusal → Request
@@ -408,11 +408,11 @@ pub data Which : Type 0 where
   of_commit : Which
   of_nth : Which
   of_size : Which
-  of_bare : Which
+  of_nullary : Which
 
 abbrev pub which : ℕ → Which
 which x =
-    cond (x == 116) of_get (cond (x == 110) of_rank (cond (x == 109) of_commit (cond (x == 104) of_nth (cond (x == 122) of_size of_bare))))
+    cond (x == 116) of_get (cond (x == 110) of_rank (cond (x == 109) of_commit (cond (x == 104) of_nth (cond (x == 122) of_size of_nullary))))
 
 -- what is read of such a line is a request
 abbrev pub Found : Which → List ℕ → Type 0
@@ -423,7 +423,7 @@ Found of_commit line = (o : Option Request) → IsRead (codes "commit") ((codes 
 Found of_nth line =
     (o : Option Request) → IsRead (codes "nth") ((codes "table", perhaps_name) ∷ (codes "index", a_name) ∷ (codes "n", a_whole) ∷ []) line o → is_some o ≡ true
 Found of_size line = (o : Option Request) → IsRead (codes "size") ((codes "table", perhaps_name) ∷ []) line o → is_some o ≡ true
-Found of_bare line = is_some (bare_line line) ≡ true
+Found of_nullary line = is_some (nullary_line line) ≡ true
 
 lettered : (c : List ℕ) (ms : List Member) (line : List ℕ) (d letter : ℕ) → written (c, ms) ≡ Some line
     → ((rest : List ℕ) → get_or (command_front c ++ rest) 10 d ≡ letter) → get_or line 10 d ≡ letter
@@ -434,9 +434,9 @@ lettered c ms line d letter is at =
 at_letter : (line : List ℕ) (d letter : ℕ) → get_or line 10 d ≡ letter → Found (which letter) line → Found (which (get_or line 10 d)) line
 at_letter line d letter is found = subst (λ x. Found (which x) line) (sym is) found
 
-bare_told : (d : ℕ) (b : Bare) → Found (which (get_or (bare_text b) 10 d)) (bare_text b)
-bare_told d bare.Undo = refl
-bare_told d b = refl
+nullary_told : (d : ℕ) (b : NullaryCommand) → Found (which (get_or (nullary_text b) 10 d)) (nullary_text b)
+nullary_told d nullary_command.Undo = refl
+nullary_told d b = refl
 
 -- a short line that is no change is found by its letter
 pub told : (r : ShortRequest) (line : List ℕ) (d : ℕ) → short_line (asked_short r) ≡ Some line → Found (which (get_or line 10 d)) line
@@ -455,7 +455,7 @@ told (short.NumberLookUp t (by_number.Nth index n)) line d is =
 told (short.Session (session.Commit n)) line d is =
     let ms = (codes "revision", whole n) ∷ [] in
     at_letter line d 109 (lettered (codes "commit") ms line d 109 is (λ rest. refl)) (λ o done. line-read (codes "commit") ms line o done refl is)
-told (short.Session s) line d is = by_bare (λ q t. Found (which (get_or t 10 d)) t) (bare_told d) s line (bare_of s) (asked_back s) is
+told (short.Session s) line d is = by_nullary (λ q t. Found (which (get_or t 10 d)) t) (nullary_told d) s line (nullary_of s) (asked_back s) is
 told r line d is = absurd (none-some line is)
 
 -- an erase and a relocation have letters of their own
@@ -479,37 +479,37 @@ told_change t x line d is = absurd (none-some line is)
 
 -- ---- which request is found
 
-first_at : (same : Bool) (k b : Bare) (line : List ℕ) (o : Option Bare) → bytes_eq line (bare_text k) ≡ same → cond same (Some k) o ≡ Some b
-    → (o ≡ Some b → bare_text b ≡ line) → bare_text b ≡ line
-first_at true k b line o is found later = ap bare_text (sym (same_Some k b found)) ∙ sym ((bytes_eq-Decides line (bare_text k)).0 is)
+first_at : (same : Bool) (k b : NullaryCommand) (line : List ℕ) (o : Option NullaryCommand) → bytes_eq line (nullary_text k) ≡ same → cond same (Some k) o ≡ Some b
+    → (o ≡ Some b → nullary_text b ≡ line) → nullary_text b ≡ line
+first_at true k b line o is found later = ap nullary_text (sym (same_Some k b found)) ∙ sym ((bytes_eq-Decides line (nullary_text k)).0 is)
 first_at false k b line o is found later = later found
 
-first_is : (bs : List Bare) (line : List ℕ) (b : Bare) → first_with bare_text bs line ≡ Some b → bare_text b ≡ line
+first_is : (bs : List NullaryCommand) (line : List ℕ) (b : NullaryCommand) → first_with nullary_text bs line ≡ Some b → nullary_text b ≡ line
 first_is [] line b e = absurd (none-some b e)
-first_is (k ∷ bs) line b e = first_at (bytes_eq line (bare_text k)) k b line (first_with bare_text bs line) refl e (first_is bs line b)
+first_is (k ∷ bs) line b e = first_at (bytes_eq line (nullary_text k)) k b line (first_with nullary_text bs line) refl e (first_is bs line b)
 
-bare_short : (b : Bare) → short_line (request.Session (asked_bare b)) ≡ Some (bare_text b)
-bare_short bare.Undo = refl
-bare_short b = refl
+nullary_short : (b : NullaryCommand) → short_line (request.Session (asked_nullary b)) ≡ Some (nullary_text b)
+nullary_short nullary_command.Undo = refl
+nullary_short b = refl
 
 -- a command without members that is found has this line
-pub bare_found : (line : List ℕ) (b : Bare) → bare_line line ≡ Some b → short_line (request.Session (asked_bare b)) ≡ Some line
-bare_found line b is = bare_short b ∙ ap Some (first_is bares line b is)
+pub nullary_found : (line : List ℕ) (b : NullaryCommand) → nullary_line line ≡ Some b → short_line (request.Session (asked_nullary b)) ≡ Some line
+nullary_found line b is = nullary_short b ∙ ap Some (first_is nullary_commands line b is)
 
 -- a short line by its letter
 pub by_letter : (line : List ℕ) (letter : ℕ) → get_or line 10 0 ≡ letter → (r : ShortRequest) → short_line (asked_short r) ≡ Some line → Found (which letter) line
 by_letter line letter at r is = subst (λ x. Found (which x) line) at (told r line 0 is)
 
 pub by_no_letter : (line : List ℕ) (r : ShortRequest) → short_line (asked_short r) ≡ Some line → (get_or line 10 0 ≡ 116 → ⊥) → (get_or line 10 0 ≡ 110 → ⊥)
-    → (get_or line 10 0 ≡ 109 → ⊥) → (get_or line 10 0 ≡ 104 → ⊥) → (get_or line 10 0 ≡ 122 → ⊥) → is_some (bare_line line) ≡ true
+    → (get_or line 10 0 ≡ 109 → ⊥) → (get_or line 10 0 ≡ 104 → ⊥) → (get_or line 10 0 ≡ 122 → ⊥) → is_some (nullary_line line) ≡ true
 by_no_letter line r is t n m h z =
     let x = get_or line 10 0 in
-    let other : which x ≡ of_bare = rw (ne_eqb x 116 t, ne_eqb x 110 n, ne_eqb x 109 m, ne_eqb x 104 h, ne_eqb x 122 z) refl in
+    let other : which x ≡ of_nullary = rw (ne_eqb x 116 t, ne_eqb x 110 n, ne_eqb x 109 m, ne_eqb x 104 h, ne_eqb x 122 z) refl in
     subst (λ w. Found w line) other (told r line 0 is)
 
 -- the command of a line without members has this line
-pub bare_value : (line : List ℕ) (b : Bare) (s : SessionCommand) → bare_line line ≡ Some b → s ≡ asked_bare b → short_line (request.Session s) ≡ Some line
-bare_value line b s is same = ap (λ x. short_line (request.Session x)) same ∙ bare_found line b is
+pub nullary_value : (line : List ℕ) (b : NullaryCommand) (s : SessionCommand) → nullary_line line ≡ Some b → s ≡ asked_nullary b → short_line (request.Session s) ≡ Some line
+nullary_value line b s is same = ap (λ x. short_line (request.Session x)) same ∙ nullary_found line b is
 
 -- what holds of a request that is read holds of it as it is asked, and back
 pub read_short : (P : Request → Type 0) (o : Option ShortRequest) → IfSome (option_map asked_short o) P → IfSome o (λ r. P (asked_short r))

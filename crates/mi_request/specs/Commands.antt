@@ -4,7 +4,7 @@ use Rattle.std.specs.Prelude.{Option, Some, None, is_some, option_map, option_an
 use Rattle.std.specs.Option.{option_map_or}
 use Rattle.serde_json.specs.Data.{Data, null, boolean, number, string, array, object, Items, Members, no_members}
 use Rattle.serde_json.specs.Find.{get_member, as_str, as_array, as_bool, as_object}
-use Rattle.mi_request.specs.Bare.{asked_bare, bare_named}
+use Rattle.mi_request.specs.NullaryCommand.{asked_nullary, nullary_named}
 use Rattle.mi_request.specs.Json.{has_only, natural, needed, optional, default, option_map₂, option_map₃, option_map₄, option_map₅}
 use Rattle.mi_value.specs.declared.limits.TheConstants.{MAX_PAGE, MAX_RESERVED_CHANGES, MAX_RESERVED_SESSIONS}
 use Rattle.mi_request.specs.declared.forms.CommandName.{CommandName}
@@ -13,8 +13,8 @@ use Rattle.mi_request.specs.declared.keyed.KeyCommand.{KeyCommand}
 use Rattle.mi_request.specs.declared.keyed.KeyCommand.TheVariants as keyed
 use Rattle.mi_request.specs.declared.request.ChangeRequest.{ChangeRequest}
 use Rattle.mi_request.specs.declared.request.ChangeRequest.TheVariants as change
-use Rattle.mi_request.specs.declared.request.End.{End}
-use Rattle.mi_request.specs.declared.request.End.TheVariants.{Open, With, Without}
+use Rattle.mi_request.specs.declared.request.Bound.{Bound}
+use Rattle.mi_request.specs.declared.request.Bound.TheVariants.{Unbounded, Included, Excluded}
 use Rattle.mi_request.specs.declared.request.KeyLookUpRequest.{KeyLookUpRequest}
 use Rattle.mi_request.specs.declared.request.KeyLookUpRequest.TheVariants as by_key
 use Rattle.mi_request.specs.declared.request.NamedPlace.{NamedPlace}
@@ -26,15 +26,15 @@ use Rattle.mi_request.specs.declared.request.SessionCommand.{SessionCommand}
 use Rattle.mi_request.specs.declared.request.SessionCommand.TheVariants as session
 
 -- the command without members of a name
-abbrev pub named_bare : List ℕ → Option CommandName
-named_bare t = option_map name.Bare (bare_named t)
+abbrev pub named_nullary : List ℕ → Option CommandName
+named_nullary t = option_map name.NullaryCommand (nullary_named t)
 
 -- the session command with members or reserve of a name, or else the one without members
 unfoldable pub step_named : List ℕ → Option CommandName
 step_named t =
     if bytes_eq t (codes "commit") then Some name.Commit
     else if bytes_eq t (codes "reserve") then Some name.Reserve
-    else named_bare t
+    else named_nullary t
 
 -- the look-up of a table of a name, or else the step
 unfoldable pub look_up_named : List ℕ → Option CommandName
@@ -101,20 +101,20 @@ abbrev pub up_to : ℕ → Data → Option ℕ
 up_to most d = option_and_then (if_up_to most) (natural d)
 
 -- an end of a range by a key that is in it, or by one that isn't: an array, and not both
-abbrev pub one_end : Option Data → Option Data → Option End
+abbrev pub one_end : Option Data → Option Data → Option Bound
 one_end None None = None
-one_end (Some d) None = option_map With (as_array d)
-one_end None (Some d) = option_map Without (as_array d)
+one_end (Some d) None = option_map Included (as_array d)
+one_end None (Some d) = option_map Excluded (as_array d)
 one_end (Some d) (Some e) = None
 
 -- the end that an object with exactly one of two members names
-abbrev pub end_of : List ℕ → List ℕ → Members → Option End
+abbrev pub end_of : List ℕ → List ℕ → Members → Option Bound
 end_of with_name without_name ms = if has_only (with_name ∷ without_name ∷ []) ms then one_end (get_member with_name ms) (get_member without_name ms) else None
 
-abbrev pub lower_end : Data → Option End
+abbrev pub lower_end : Data → Option Bound
 lower_end d = option_and_then (end_of (codes "ge") (codes "gt")) (as_object d)
 
-abbrev pub upper_end : Data → Option End
+abbrev pub upper_end : Data → Option Bound
 upper_end d = option_and_then (end_of (codes "le") (codes "lt")) (as_object d)
 
 -- what members are: a change of a table, a look-up of one by numbers or by keys, or a command over sessions; or none where a needed one is
@@ -190,8 +190,8 @@ abbrev pub nth_in : Members → Option NumberLookUpRequest
 nth_in ms = option_map₂ by_number.Nth (index_in ms) (needed natural (codes "n") ms)
 
 abbrev pub range_in : Members → Option KeyLookUpRequest
-range_in ms = option_map₅ by_key.Range (index_in ms) (default Open lower_end (codes "lower") ms)
-    (default Open upper_end (codes "upper") ms) (default false as_bool (codes "reverse") ms) (limit_in ms)
+range_in ms = option_map₅ by_key.Range (index_in ms) (default Unbounded lower_end (codes "lower") ms)
+    (default Unbounded upper_end (codes "upper") ms) (default false as_bool (codes "reverse") ms) (limit_in ms)
 
 abbrev pub list_in : Members → Option NumberLookUpRequest
 list_in ms = option_map₃ by_number.List (index_in ms) (optional natural (codes "after") ms) (limit_in ms)
@@ -222,7 +222,7 @@ form_of name.Modify = record { members = codes "id" ∷ codes "set" ∷ codes "a
 form_of name.Erase = record { members = codes "id" ∷ []; asks = a_change erase_in }
 form_of (name.Keyed k) = record { members = codes "index" ∷ codes "key" ∷ []; asks = asks_key k }
 form_of name.Relocate = record { members = codes "index" ∷ codes "id" ∷ codes "before" ∷ []; asks = a_change relocate_in }
-form_of (name.Bare b) = record { members = []; asks = of_sessions (λ ms. Some (asked_bare b)) }
+form_of (name.NullaryCommand b) = record { members = []; asks = of_sessions (λ ms. Some (asked_nullary b)) }
 form_of name.Commit = record { members = codes "revision" ∷ []; asks = of_sessions commit_in }
 form_of name.Reserve = record { members = codes "changes" ∷ codes "sessions" ∷ []; asks = of_sessions reserve_in }
 form_of name.Get = record { members = codes "id" ∷ []; asks = a_number_look_up get_in }

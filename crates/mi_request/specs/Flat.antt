@@ -4,8 +4,8 @@ use Rattle.json.specs.Json.{members, read_key, value}
 use Rattle.json.specs.Token.{Token}
 use Rattle.serde_json.specs.Data.{Data, string, array, object, Members, no_members, member, put}
 use Rattle.serde_json.specs.Read.{of_json, of_members, converted}
-use Rattle.mi_request.specs.declared.request.End.{End}
-use Rattle.mi_request.specs.declared.request.End.TheVariants.{Open, With, Without}
+use Rattle.mi_request.specs.declared.request.Bound.{Bound}
+use Rattle.mi_request.specs.declared.request.Bound.TheVariants.{Unbounded, Included, Excluded}
 
 -- behind the members that were found these tokens give the others, and nothing else; all of them are these
 abbrev pub IsRest : List Token → Members → Members → Type 0
@@ -40,15 +40,15 @@ abbrev pub keyed_members : List ℕ → Option Data → Data → Data → Member
 keyed_members command table index key = put (codes "key") key (put (codes "index") index (put_if (codes "table") table (named command)))
 
 -- the object of an end of a range, whose key stands behind one of these two names
-abbrev pub end_object : List ℕ → List ℕ → End → Data
-end_object with_name without_name Open = object no_members
-end_object with_name without_name (With ks) = object (put with_name (array ks) no_members)
-end_object with_name without_name (Without ks) = object (put without_name (array ks) no_members)
+abbrev pub end_object : List ℕ → List ℕ → Bound → Data
+end_object with_name without_name Unbounded = object no_members
+end_object with_name without_name (Included ks) = object (put with_name (array ks) no_members)
+end_object with_name without_name (Excluded ks) = object (put without_name (array ks) no_members)
 
-abbrev pub HasKey : End → Type 0
-HasKey Open = ⊥
-HasKey (With ks) = Unit {0}
-HasKey (Without ks) = Unit {0}
+abbrev pub HasKey : Bound → Type 0
+HasKey Unbounded = ⊥
+HasKey (Included ks) = Unit {0}
+HasKey (Excluded ks) = Unit {0}
 
 -- members that may each be absent, the last in front, put to others
 abbrev pub put_all : List (List ℕ × Option Data) → Members → Members

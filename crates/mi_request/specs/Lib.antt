@@ -1,5 +1,5 @@
 pub mod Answers
-pub mod Bare
+pub mod NullaryCommand
 pub mod Commands
 pub mod Flat
 pub mod Json

@@ -3,7 +3,7 @@
 use Rattle.std.specs.Prelude.{ℕ, ◌^◌, List, [], ◌∷◌, ◌++◌, Bool, true, ◌&&◌, ◌||◌, ◌==◌, nat_lt, nat_le, if◌then◌else◌}
 use Rattle.std.specs.Prelude.{Option, Some, None, option_map, option_and_then, codes, decimal}
 use Rattle.std.specs.List.{list_all}
-use Rattle.mi_request.specs.Bare.{bare_of, bare_name}
+use Rattle.mi_request.specs.NullaryCommand.{nullary_of, nullary_name}
 use Rattle.mi_request.specs.declared.request.ChangeRequest.TheVariants as change
 use Rattle.mi_request.specs.declared.request.NumberLookUpRequest.TheVariants as by_number
 use Rattle.mi_request.specs.declared.request.Request.{Request}
@@ -97,7 +97,7 @@ words_of (request.NumberLookUp table (by_number.Nth index n)) = Some (codes "nth
 words_of (request.Change table (change.Relocate index id before)) =
     Some (codes "relocate", table_is table ∷ index_is index ∷ id_is id ∷ (codes "before", maybe_whole before) ∷ [])
 words_of (request.Session (session.Commit revision)) = Some (codes "commit", (codes "revision", whole revision) ∷ [])
-words_of (request.Session other) = option_map (λ b. (bare_name b, [])) (bare_of other)
+words_of (request.Session other) = option_map (λ b. (nullary_name b, [])) (nullary_of other)
 words_of other = None
 
 -- the line, where each member can stand in it

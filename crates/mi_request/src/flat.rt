@@ -13,7 +13,7 @@ ghost use Rattle.mi_tokens.specs.declared.tokens.Context.TheVariants.{AfterComma
 ghost use Rattle.mi_value.specs.declared.limits.TheConstants.{MAX_PAGE};
 ghost use Rattle.mi_request.specs.Commands.{lower_end, upper_end, page};
 ghost use Rattle.mi_request.specs.Flat.{IsMember, IsMaybe, IsLast, HasKey, end_object, command_start};
-ghost use Rattle.mi_request.specs.declared.request.End.TheVariants.{Open};
+ghost use Rattle.mi_request.specs.declared.request.Bound.TheVariants.{Unbounded};
 ghost use Rattle.mi_request.specs.Json.{natural, if_there, default_if};
 ghost use Rattle.mi_request.specs.Keyed.{key_name};
 ghost use Rattle.mi_request.specs.Lines.{command_line};
@@ -23,7 +23,7 @@ use crate::keyed::KeyCommand;
 use crate::name::Name;
 use crate::object::Object;
 use crate::reading::{if_page, natural_of};
-use crate::request::{ChangeRequest, End, KeyLookUpRequest, NumberLookUpRequest, Request};
+use crate::request::{Bound, ChangeRequest, KeyLookUpRequest, NumberLookUpRequest, Request};
 use crate::text::text_of;
 use bumpalo::Bump;
 use mi_tokens::{Json, Tokens, pass_object, pass_one};
@@ -167,7 +167,7 @@ fn one_end<'a, const N: usize>(
     tokens: &mut Tokens<'a>,
     with: &[u8; N],
     without: &[u8; N],
-) -> Option<End<'a>>
+) -> Option<Bound<'a>>
     ensures { (w o : List ℕ) → with.now ≡ name_text w → escape w ≡ w → without.now ≡ name_text o → escape o ≡ o
         → IfSome result (λ e. HasKey e × (converted of_json (value 126 tokens.old) ≡ Some (end_object w o e, tokens.new))) }
 {
@@ -175,32 +175,32 @@ fn one_end<'a, const N: usize>(
         return None;
     }
     if tokens.take_key(with) {
-        return Some(End::With(last_key(arena, tokens)?));
+        return Some(Bound::Included(last_key(arena, tokens)?));
     }
     if !tokens.take_key(without) {
         return None;
     }
-    Some(End::Without(last_key(arena, tokens)?))
+    Some(Bound::Excluded(last_key(arena, tokens)?))
 }
 
 /// The lower end of a range, if it comes next, with a key of one value.
 #[inline(always)]
-fn lower<'a>(arena: &'a Bump, tokens: &mut Tokens<'a>) -> Option<End<'a>>
-    ensures { IfSome result (λ e. (o : Option Data) × IsMaybe tokens.old (codes "lower") o tokens.new × (default_if Open lower_end o ≡ Some e)) }
+fn lower<'a>(arena: &'a Bump, tokens: &mut Tokens<'a>) -> Option<Bound<'a>>
+    ensures { IfSome result (λ e. (o : Option Data) × IsMaybe tokens.old (codes "lower") o tokens.new × (default_if Unbounded lower_end o ≡ Some e)) }
 {
     if !tokens.take_key(b"\"lower\":") {
-        return Some(End::Open);
+        return Some(Bound::Unbounded);
     }
     one_end(arena, tokens, b"\"ge\":", b"\"gt\":")
 }
 
 /// The upper end of a range, if it comes next, with a key of one value.
 #[inline(always)]
-fn upper<'a>(arena: &'a Bump, tokens: &mut Tokens<'a>) -> Option<End<'a>>
-    ensures { IfSome result (λ e. (o : Option Data) × IsMaybe tokens.old (codes "upper") o tokens.new × (default_if Open upper_end o ≡ Some e)) }
+fn upper<'a>(arena: &'a Bump, tokens: &mut Tokens<'a>) -> Option<Bound<'a>>
+    ensures { IfSome result (λ e. (o : Option Data) × IsMaybe tokens.old (codes "upper") o tokens.new × (default_if Unbounded upper_end o ≡ Some e)) }
 {
     if !tokens.take_key(b"\"upper\":") {
-        return Some(End::Open);
+        return Some(Bound::Unbounded);
     }
     one_end(arena, tokens, b"\"le\":", b"\"lt\":")
 }

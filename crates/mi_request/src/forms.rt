@@ -9,8 +9,8 @@ ghost use Rattle.mi_request.specs.Json.{has_only, option_map₂};
 ghost use Rattle.mi_request.specs.Lines as lines;
 ghost use Rattle.mi_request.specs.declared.request.Request.TheVariants as request;
 
-use crate::bare::Bare;
 use crate::keyed::KeyCommand;
+use crate::nullary_command::NullaryCommand;
 use crate::object::Object;
 use crate::reading::{
     end, flag, id_in, index_in, key_in, limit_in, natural, natural_if_there, natural_or_absent,
@@ -40,7 +40,7 @@ pub(crate) enum CommandName {
     /// One over a key of an index.
     Keyed(KeyCommand),
     /// One without members.
-    Bare(Bare),
+    NullaryCommand(NullaryCommand),
 }
 
 /// The session command with members or reserve of a name, or else the command without members, or none.
@@ -51,7 +51,7 @@ fn step_of(text: &str) -> Option<CommandName>
     match text {
         "commit" => Some(CommandName::Commit),
         "reserve" => Some(CommandName::Reserve),
-        _ => Some(CommandName::Bare(Bare::of(text)?)),
+        _ => Some(CommandName::NullaryCommand(NullaryCommand::of(text)?)),
     }
 }
 
@@ -113,7 +113,7 @@ impl CommandName {
             CommandName::Size => object.has_only(&["cmd", "table"]),
             CommandName::Commit => object.has_only(&["cmd", "revision"]),
             CommandName::Reserve => object.has_only(&["cmd", "changes", "sessions"]),
-            CommandName::Bare(_) => object.has_only(&["cmd"]),
+            CommandName::NullaryCommand(_) => object.has_only(&["cmd"]),
         }
     }
 }
@@ -309,7 +309,9 @@ pub(crate) fn request_by<'a>(name: CommandName, members: &Object<'a>) -> Option<
         CommandName::Erase => erase_in(members),
         CommandName::Keyed(command) => keyed_request(members, command),
         CommandName::Relocate => relocate_in(members),
-        CommandName::Bare(bare) => Some(Request::Session(bare.command())),
+        CommandName::NullaryCommand(nullary_command) => Some(Request::Session(
+            nullary_command.command(),
+        )),
         CommandName::Commit => commit_in(members),
         CommandName::Reserve => reserve_in(members),
         CommandName::Get => get_in(members),

@@ -3,13 +3,13 @@
 #![tactic(auto)]
 
 mod array;
-mod bare;
 mod flat;
 mod forms;
 mod keyed;
 mod lending;
 mod line_reader;
 mod name;
+mod nullary_command;
 mod object;
 mod reading;
 mod request;
@@ -24,6 +24,6 @@ pub use mi_tokens::Json;
 pub use name::Name;
 pub use object::Object;
 pub use request::{
-    ChangeRequest, End, KeyLookUpRequest, NamedPlace, NumberLookUpRequest, Request, SessionCommand,
-    ShortRequest,
+    Bound, ChangeRequest, KeyLookUpRequest, NamedPlace, NumberLookUpRequest, Request,
+    SessionCommand, ShortRequest,
 };

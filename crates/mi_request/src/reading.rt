@@ -6,13 +6,13 @@ ghost use Rattle.mi_tokens.specs.Meaning.{meaning};
 ghost use Rattle.mi_request.specs.Commands as commands;
 ghost use Rattle.mi_request.specs.Json as kinds;
 ghost use Rattle.mi_request.specs.Json.{needed, optional, default};
-ghost use Rattle.mi_request.specs.declared.request.End.TheVariants.{Open};
+ghost use Rattle.mi_request.specs.declared.request.Bound.TheVariants.{Unbounded};
 ghost use Rattle.mi_value.specs.declared.limits.TheConstants.{MAX_PAGE};
 
 use crate::array::Array;
 use crate::name::Name;
 use crate::object::Object;
-use crate::request::{End, NamedPlace};
+use crate::request::{Bound, NamedPlace};
 use mi_tokens::Json;
 use mi_value::limits::MAX_PAGE;
 
@@ -209,18 +209,18 @@ pub(crate) fn place<'a>(object: &Object<'a>, name: &str) -> Option<Option<NamedP
 }
 
 /// An end of a range by a key that is in it, or by one that isn't, and not both.
-fn one_end<'a>(with: Option<&Json<'a>>, without: Option<&Json<'a>>) -> Option<End<'a>>
+fn one_end<'a>(with: Option<&Json<'a>>, without: Option<&Json<'a>>) -> Option<Bound<'a>>
     ensures { result ≡ commands.one_end (option_map (λ v. meaning v.now) with.entry) (option_map (λ v. meaning v.now) without.entry) }
 {
     match (with, without) {
-        (Some(value), None) => Some(End::With(array_of(value)?)),
-        (None, Some(value)) => Some(End::Without(array_of(value)?)),
+        (Some(value), None) => Some(Bound::Included(array_of(value)?)),
+        (None, Some(value)) => Some(Bound::Excluded(array_of(value)?)),
         _ => None,
     }
 }
 
 #[inline(always)]
-fn end_of<'a>(object: &Object<'a>, with: &str, without: &str) -> Option<End<'a>>
+fn end_of<'a>(object: &Object<'a>, with: &str, without: &str) -> Option<Bound<'a>>
     ensures { result ≡ commands.end_of with.now without.now object.now }
 {
     if !object.has_only(&[with, without]) {
@@ -231,11 +231,16 @@ fn end_of<'a>(object: &Object<'a>, with: &str, without: &str) -> Option<End<'a>>
 
 /// An end of a range: an object with exactly one of two members, an array. Absent it is open.
 #[inline(always)]
-pub(crate) fn end<'a>(object: &Object<'a>, name: &str, with: &str, without: &str) -> Option<End<'a>>
-    ensures { result ≡ default Open (λ d. option_and_then (commands.end_of with.now without.now) (as_object d)) name.now object.now }
+pub(crate) fn end<'a>(
+    object: &Object<'a>,
+    name: &str,
+    with: &str,
+    without: &str,
+) -> Option<Bound<'a>>
+    ensures { result ≡ default Unbounded (λ d. option_and_then (commands.end_of with.now without.now) (as_object d)) name.now object.now }
 {
     match object.get(name) {
         Some(value) => end_of(&object_of(value)?, with, without),
-        None => Some(End::Open),
+        None => Some(Bound::Unbounded),
     }
 }

@@ -21,10 +21,10 @@ pub struct NamedPlace<'a> {
 
 /// An end of a range: none, a key that is in it, or a key that isn't.
 #[derive(Drop)]
-pub enum End<'a> {
-    Open,
-    With(Array<'a>),
-    Without(Array<'a>),
+pub enum Bound<'a> {
+    Unbounded,
+    Included(Array<'a>),
+    Excluded(Array<'a>),
 }
 
 /// A change of a table as it is asked: names as they were written, ids 0 to 2^63 - 1.
@@ -97,8 +97,8 @@ pub enum KeyLookUpRequest<'a> {
     /// At most `limit` rows, 1 to 1,000.
     Range {
         index: Name<'a>,
-        lower: End<'a>,
-        upper: End<'a>,
+        lower: Bound<'a>,
+        upper: Bound<'a>,
         reverse: bool,
         limit: usize,
     },

@@ -1,14 +1,14 @@
 //! Lines whose members are names and whole numbers, read where they stand as they are written without spaces. It takes no memory.
 ghost use Rattle.std.specs.Prelude.{◌≡◌, ◌∷◌, [], ℕ, List, IfSome, IsSome, is_some, Option, Some, codes, option_map, option_and_then};
-ghost use Rattle.mi_request.specs.Bare.{bare_line};
+ghost use Rattle.mi_request.specs.NullaryCommand.{nullary_line};
 ghost use Rattle.mi_request.specs.Short.{short_line, asked_short, table_is, index_is, id_is, whole, maybe_whole, whole_front};
 ghost use Rattle.mi_request.specs.ShortCode as code;
 ghost use Rattle.mi_request.specs.ShortCode.{IsRead, Template, read_members, a_name, perhaps_name, a_whole, perhaps_whole};
 ghost use Rattle.mi_request.specs.declared.request.ChangeRequest.{ChangeRequest as AskedChange};
 ghost use Rattle.mi_request.specs.declared.request.Request.TheVariants as request;
 
-use crate::bare::Bare;
 use crate::name::Name;
+use crate::nullary_command::NullaryCommand;
 use crate::request::{ChangeRequest, NumberLookUpRequest, Request, SessionCommand, ShortRequest};
 use crate::words::{
     behind, is_end, maybe_name_behind, maybe_whole_behind, name_behind, whole_behind,
@@ -172,9 +172,9 @@ fn relocate(line: &[u8]) -> Option<Request<'_>>
 #[inline(always)]
 fn without_members(line: &[u8]) -> Option<ShortRequest<'_>>
     ensures value { IfSome result (λ r. short_line (asked_short r) ≡ Some line.now) }
-    ensures whole { is_some result ≡ is_some (bare_line line.now) }
+    ensures whole { is_some result ≡ is_some (nullary_line line.now) }
 {
-    let found = Bare::of_line(line)?;
+    let found = NullaryCommand::of_line(line)?;
     Some(ShortRequest::Session(found.command()))
 }
 

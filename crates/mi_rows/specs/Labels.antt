@@ -12,26 +12,26 @@ use Rattle.mi_rows.specs.Shown.{first_data}
 use Rattle.mi_rows.specs.declared.shown.Member.{Member}
 use Rattle.mi_rows.specs.declared.shown.Source.{Source}
 use Rattle.mi_rows.specs.declared.shown.Source.TheVariants.{Id, Column}
-use Rattle.mi_rows.specs.declared.cells.Cell.{Cell}
-use Rattle.mi_rows.specs.declared.cells.Cell.TheVariants as cell
+use Rattle.mi_rows.specs.declared.row_values.RowValue.{RowValue}
+use Rattle.mi_rows.specs.declared.row_values.RowValue.TheVariants as row_value
 
--- a member of rows: the bytes before its value, and which of a row's cells has it
+-- a member of rows: the bytes before its value, and which of a row's values has it
 pub record LabelShape : Type 0 where
   pub text : List ℕ
   pub place : ℕ
 
--- the value that a cell holds
-abbrev pub held : Cell → Value
-held (cell.Int n) = Int n
-held (cell.Text t) = Text t.now
-held cell.False = Flag false
-held cell.True = Flag true
+-- the value that a value holds
+abbrev pub held : RowValue → Value
+held (row_value.Int n) = Int n
+held (row_value.Text t) = Text t.now
+held row_value.False = Flag false
+held row_value.True = Flag true
 
--- the cells of a row: its id and its values
-abbrev pub cells_of : ℕ → List Value → List Value
-cells_of id vs = Int (pos id) ∷ vs
+-- the values of a row: its id and its values
+abbrev pub row_values_of : ℕ → List Value → List Value
+row_values_of id vs = Int (pos id) ∷ vs
 
--- the cell that has what stands somewhere in a row
+-- the value that has what stands somewhere in a row
 abbrev pub place_of : Source → ℕ
 place_of Id = 0
 place_of (Column i) = suc i
@@ -50,8 +50,8 @@ labels_in later (m ∷ ms) = label_of later m ∷ labels_in true ms
 
 -- the members of a row with these labels, with the closing bracket
 abbrev pub labelled_text : List Value → List LabelShape → List ℕ
-labelled_text cells [] = 125 ∷ []
-labelled_text cells (l ∷ ls) = (l.text ++ compact_text (first_data (drop l.place cells))) ++ labelled_text cells ls
+labelled_text row_values [] = 125 ∷ []
+labelled_text row_values (l ∷ ls) = (l.text ++ compact_text (first_data (drop l.place row_values))) ++ labelled_text row_values ls
 
 -- the room for the bytes of a text, each of which may need an escape of six
 abbrev pub text_room : Value → ℕ
@@ -73,8 +73,8 @@ source_room vs (Column i) = first_room (drop i vs)
 
 -- the room for the members of a row with these labels
 abbrev pub labels_room : List Value → List LabelShape → ℕ
-labels_room cells [] = 0
-labels_room cells (l ∷ ls) = 64 + first_room (drop l.place cells) + labels_room cells ls
+labels_room row_values [] = 0
+labels_room row_values (l ∷ ls) = 64 + first_room (drop l.place row_values) + labels_room row_values ls
 
 -- the same by members that aren't labelled yet
 abbrev pub members_room : List Value → List Member → ℕ
@@ -84,6 +84,6 @@ members_room vs (m ∷ ms) = 64 + source_room vs m.source + members_room vs ms
 -- labels of columns: with them each row that has a value for every column, and no more, has its text, in this room; none are labels of any
 abbrev pub AreLabels : List TableColumn → Option (ArrayVec LabelShape) → Type 0
 AreLabels cs labels = IfSome labels (λ ls.
-    ((id : ℕ) (vs : List Value) → length cs ≤ length vs → labelled_text (cells_of id vs) ls.items ≡ 123 ∷ members_text false (row_members cs id vs))
-    × ((id : ℕ) (vs : List Value) → labels_room (cells_of id vs) ls.items ≤ 64 * (length cs + 1) + texts_room vs)
+    ((id : ℕ) (vs : List Value) → length cs ≤ length vs → labelled_text (row_values_of id vs) ls.items ≡ 123 ∷ members_text false (row_members cs id vs))
+    × ((id : ℕ) (vs : List Value) → labels_room (row_values_of id vs) ls.items ≤ 64 * (length cs + 1) + texts_room vs)
     × All (λ l. l.place ≤ length cs) ls.items)

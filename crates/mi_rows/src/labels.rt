@@ -1,5 +1,5 @@
 //! What is the same in each row of a reply: the members in the order of their names, each as a label. A label is the bytes that stand before
-//! a member's value, the row's bracket or the comma among them, and which cell has the value. They are made without memory, and kept with a
+//! a member's value, the row's bracket or the comma among them, and which value has the value. They are made without memory, and kept with a
 //! copy of the columns that they were made of.
 ghost use Rattle.std.specs.Prelude.{◌≡◌, ◌≤◌, length, false, IfOk, IfSome};
 ghost use Rattle.std.specs.List.{All};
@@ -19,7 +19,7 @@ use std::marker::Model;
 /// A bracket or a comma, a name of up to 32 bytes, its quotation marks, a colon, and bytes that don't count.
 const LABEL: usize = 40;
 
-/// A member of a row: its label, whose first bytes count, and which of a row's cells has its value.
+/// A member of a row: its label, whose first bytes count, and which of a row's values has its value.
 #[derive(Drop)]
 pub(crate) struct Label {
     pub(crate) bytes: [u8; LABEL],
@@ -51,7 +51,7 @@ impl Default for Label {
 /// The labels of a row's members.
 pub(crate) type Labels = ArrayVec<Label, MAX_MEMBERS>;
 
-/// Which cell of a row has what stands there.
+/// Which value of a row has what stands there.
 fn place_of(source: Source) -> Option<usize>
     ensures { IfSome result (λ place. place ≡ given.place_of source) }
 {
@@ -82,7 +82,7 @@ fn label_of(later: bool, member: Member<'_>) -> Option<Label>
     })
 }
 
-/// The labels of members, in their order; none where one stands behind the cells of so many columns.
+/// The labels of members, in their order; none where one stands behind the values of so many columns.
 fn labels_in(order: &[Member], columns: usize) -> Option<Labels>
     requires { length order.now ≤ MAX_MEMBERS }
     ensures labels { IfSome result (λ labels. labels.items ≡ given.labels_in false order.now) }

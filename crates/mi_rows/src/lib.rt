@@ -2,8 +2,8 @@
 //! tables, requests or other replies; it reads and writes no stream, and takes memory for the text alone.
 #![tactic(auto)]
 
-mod cells;
 mod labels;
+mod row_values;
 mod rows;
 mod shown;
 

@@ -14,8 +14,8 @@ ghost use Rattle.mi_rows.specs.Shown.{first_data};
 ghost use Rattle.mi_value.specs.Block.{texts_length};
 ghost use Rattle.mi_rows.specs.Labels.{held, labelled_text, labels_room, first_room, text_room, AreLabels};
 
-use crate::cells::{Cell, NO_CELLS, lend_values};
 use crate::labels::{Label, Labels, RowLabels, labels_of};
+use crate::row_values::{NO_ROW_VALUES, RowValue, lend_values};
 use crate::shown::{MAX_MEMBERS, row_by_tokens};
 use mi_catalog::Column;
 use mi_print::{make_room, put_byte, put_comma, put_i64, put_label, put_string, put_text};
@@ -29,7 +29,7 @@ const PAGE_ROOM: usize = 128;
 /// So many rows are written token by token in less time than labels take to be made.
 const FEW_ROWS: usize = 3;
 
-/// So many cells are enough for a row of few columns, and take less time to be made.
+/// So many values are enough for a row of few columns, and take less time to be made.
 const FEW_CELLS: usize = 5;
 
 /// Room for a member of a row: a short name and a short value.
@@ -44,43 +44,49 @@ const ESCAPED: usize = 6;
 /// The text before the row of a reply.
 static ROW_FRONT: [u8; 17] = *b"{\"ok\":true,\"row\":";
 
-/// Puts the value of a cell.
+/// Puts the value of a value.
 #[inline(always)]
-fn put_value(buf: &mut [u8], at: usize, value: Cell<'_>) -> usize
+fn put_value(buf: &mut [u8], at: usize, value: RowValue<'_>) -> usize
     requires { at + 21 + text_room (held value) ≤ length buf.old }
     ensures value { Placed buf.old buf.new at (compact_text (rows.value_data (held value.entry))) result }
     ensures bound { result ≤ at + 21 + text_room (held value.entry) }
 {
     match value {
-        Cell::Int(n) => put_i64(buf, at, n),
-        Cell::Text(text) => put_string(buf, at, text),
-        Cell::False => put_text(buf, at, b"false"),
-        Cell::True => put_text(buf, at, b"true"),
+        RowValue::Int(n) => put_i64(buf, at, n),
+        RowValue::Text(text) => put_string(buf, at, text),
+        RowValue::False => put_text(buf, at, b"false"),
+        RowValue::True => put_text(buf, at, b"true"),
     }
 }
 
 /// Puts a member with what stands before it.
 #[inline(always)]
-fn put_member(buf: &mut [u8], at: usize, cells: &[Cell<'_>], label: &Label) -> usize
-    requires there { label.now.place < length cells.now }
-    requires room { at + 64 + first_room (drop label.now.place (map held cells.now)) ≤ length buf.old }
-    ensures value { Placed buf.old buf.new at (label.now.text ++ compact_text (first_data (drop label.now.place (map held cells.now)))) result }
-    ensures bound { result ≤ at + 64 + first_room (drop label.now.place (map held cells.now)) }
+fn put_member(buf: &mut [u8], at: usize, row_values: &[RowValue<'_>], label: &Label) -> usize
+    requires there { label.now.place < length row_values.now }
+    requires room { at + 64 + first_room (drop label.now.place (map held row_values.now)) ≤ length buf.old }
+    ensures value { Placed buf.old buf.new at (label.now.text ++ compact_text (first_data (drop label.now.place (map held row_values.now)))) result }
+    ensures bound { result ≤ at + 64 + first_room (drop label.now.place (map held row_values.now)) }
 {
     let begun = put_label(buf, at, &label.bytes, label.len);
-    put_value(buf, begun, cells[label.place])
+    put_value(buf, begun, row_values[label.place])
 }
 
 /// Puts a row behind a comma, if there is one before it.
 #[inline(always)]
-fn put_row(buf: &mut [u8], at: usize, later: bool, cells: &[Cell<'_>], labels: &[Label]) -> usize
-    requires there { All (λ l. l.place < length cells.now) labels.now }
-    requires room { at + labels_room (map held cells.now) labels.now + 3 ≤ length buf.old }
-    ensures { Placed buf.old buf.new at (comma_if later ++ labelled_text (map held cells.now) labels.now) result }
+fn put_row(
+    buf: &mut [u8],
+    at: usize,
+    later: bool,
+    row_values: &[RowValue<'_>],
+    labels: &[Label],
+) -> usize
+    requires there { All (λ l. l.place < length row_values.now) labels.now }
+    requires room { at + labels_room (map held row_values.now) labels.now + 3 ≤ length buf.old }
+    ensures { Placed buf.old buf.new at (comma_if later ++ labelled_text (map held row_values.now) labels.now) result }
 {
     let mut end = put_comma(buf, at, later);
     'members: for label in labels {
-        end = put_member(buf, end, cells, label);
+        end = put_member(buf, end, row_values, label);
     }
     put_byte(buf, end, b'}')
 }
@@ -95,21 +101,21 @@ fn put_labelled<'a>(
     row: &'a Record,
     columns: &[Column],
     labels: &Labels,
-    cells: &mut [Cell<'a>],
+    row_values: &mut [RowValue<'a>],
 ) -> Option<usize>
     requires few { length columns.now ≤ MAX_COLUMNS }
-    requires cells { length columns.now < length cells.old }
+    requires row_values { length columns.now < length row_values.old }
     requires labels { AreLabels columns.now (Some labels.now) }
     requires room { at + 64 * (length columns.now + 1) + 6 * texts_length row.now + 3 ≤ length buf.old }
     ensures text { IfSome result (λ end. Placed buf.old buf.new at (comma_if later ++ compact_text (row_data columns.now id row.now)) end) }
     ensures kept { IfNone result (buf.new ≡ buf.old) }
-    ensures cells { length cells.new ≡ length cells.old }
+    ensures row_values { length row_values.new ≡ length row_values.old }
 {
     let count = columns.len() + 1;
-    if !lend_values(id, row, cells, count) {
+    if !lend_values(id, row, row_values, count) {
         return None;
     }
-    Some(put_row(buf, at, later, &cells[..count], labels.as_slice()))
+    Some(put_row(buf, at, later, &row_values[..count], labels.as_slice()))
 }
 
 /// Puts rows from one on, with commas between them, as long as there is room for one and it fits its labels. Answers where they end and
@@ -123,10 +129,10 @@ fn put_fitting<'a>(
     columns: &[Column],
     labels: &Labels,
     room: usize,
-    cells: &mut [Cell<'a>],
+    row_values: &mut [RowValue<'a>],
 ) -> (usize, usize)
     requires few { length columns.now ≤ MAX_COLUMNS }
-    requires cells { length columns.now < length cells.old }
+    requires row_values { length columns.now < length row_values.old }
     requires labels { AreLabels columns.now (Some labels.now) }
     requires room { All (λ r. 64 * (length columns.now + 1) + 6 * texts_length r.1.now + 3 ≤ room) rows.now }
     requires within { (at ≤ length buf.old) × (from ≤ length rows.now) }
@@ -139,7 +145,8 @@ fn put_fitting<'a>(
     let mut done = from;
     'rows: while done < rows.len() && room <= buf.len() - end {
         let (id, row) = rows[done];
-        let Some(next) = put_labelled(buf, end, done > 0, id, row, columns, labels, cells) else {
+        let Some(next) = put_labelled(buf, end, done > 0, id, row, columns, labels, row_values)
+        else {
             return (end, done);
         };
         end = next;
@@ -206,10 +213,10 @@ fn add_row<'a>(
     columns: &[Column],
     labels: &Option<Labels>,
     room: usize,
-    cells: &mut [Cell<'a>],
+    row_values: &mut [RowValue<'a>],
 ) -> Result<usize, AllocError>
     requires few { length columns.now ≤ MAX_COLUMNS }
-    requires cells { length columns.now < length cells.old }
+    requires row_values { length columns.now < length row_values.old }
     requires within { len ≤ vec_len text.old }
     requires labels { AreLabels columns.now labels.now }
     requires room { 64 * (length columns.now + 1) + 6 * texts_length row.now + 3 ≤ room }
@@ -220,7 +227,7 @@ fn add_row<'a>(
     if let Some(labels) = labels {
         make_room(text, len, room)?;
         let buf = text.as_mut_slice();
-        if let Some(end) = put_labelled(buf, len, later, id, row, columns, labels, cells) {
+        if let Some(end) = put_labelled(buf, len, later, id, row, columns, labels, row_values) {
             return Ok(end);
         }
     }
@@ -256,19 +263,28 @@ fn add_rows(
     ensures within { IfOk result (λ end. end ≤ vec_len text.new) }
 {
     let room = row_room(columns, longest(rows))?;
-    let mut cells = NO_CELLS;
+    let mut row_values = NO_ROW_VALUES;
     let mut end = at;
     let mut done = 0;
     'rows: while done < rows.len() {
         let (id, row) = rows[done];
         let later = done > 0;
         end = add_row(
-            alloc, text, end, later, id, row, columns, labels, room, &mut cells,
+            alloc,
+            text,
+            end,
+            later,
+            id,
+            row,
+            columns,
+            labels,
+            room,
+            &mut row_values,
         )?;
         done += 1;
         if let Some(labels) = labels {
             let buf = text.as_mut_slice();
-            (end, done) = put_fitting(buf, end, rows, done, columns, labels, room, &mut cells);
+            (end, done) = put_fitting(buf, end, rows, done, columns, labels, room, &mut row_values);
         }
     }
     Ok(end)
@@ -362,7 +378,7 @@ pub fn put_rows_reply(
     }
 }
 
-/// Puts the text of the reply that shows a row, by these labels, with these cells.
+/// Puts the text of the reply that shows a row, by these labels, with these values.
 #[inline(always)]
 fn put_one<'a>(
     alloc: Global,
@@ -372,10 +388,10 @@ fn put_one<'a>(
     row: &'a Record,
     columns: &[Column],
     labels: &Option<Labels>,
-    cells: &mut [Cell<'a>],
+    row_values: &mut [RowValue<'a>],
 ) -> Result<usize, AllocError>
     requires few { length columns.now ≤ MAX_COLUMNS }
-    requires cells { length columns.now < length cells.old }
+    requires row_values { length columns.now < length row_values.old }
     requires within { at ≤ vec_len text.old }
     requires labels { AreLabels columns.now labels.now }
     ensures text { IfOk result (λ end. take end text.new.items ≡ take at text.old.items
@@ -385,12 +401,12 @@ fn put_one<'a>(
     let room = row_room(columns, row.values().byte_count())?;
     let begun = put_behind(text, at, &ROW_FRONT)?;
     let end = add_row(
-        alloc, text, begun, false, id, row, columns, labels, room, cells,
+        alloc, text, begun, false, id, row, columns, labels, room, row_values,
     )?;
     put_behind(text, end, b"}")
 }
 
-/// The same with cells enough for any columns.
+/// The same with values enough for any columns.
 #[inline(never)]
 fn put_wide(
     alloc: Global,
@@ -408,8 +424,8 @@ fn put_wide(
         ++ compact_text (object (member (codes "ok") (boolean true) (member (codes "row") (row_data columns.now id row.now) no_members)))) }
     ensures within { IfOk result (λ end. end < vec_len text.new) }
 {
-    let mut cells = NO_CELLS;
-    put_one(alloc, text, at, id, row, columns, labels, &mut cells)
+    let mut row_values = NO_ROW_VALUES;
+    put_one(alloc, text, at, id, row, columns, labels, &mut row_values)
 }
 
 /// The same without labels.
@@ -459,6 +475,6 @@ pub fn put_row_reply(
     if columns.len() >= FEW_CELLS {
         return put_wide(alloc, text, at, id, row, columns, labels);
     }
-    let mut cells = [Cell::Int(0); FEW_CELLS];
-    put_one(alloc, text, at, id, row, columns, labels, &mut cells)
+    let mut row_values = [RowValue::Int(0); FEW_CELLS];
+    put_one(alloc, text, at, id, row, columns, labels, &mut row_values)
 }

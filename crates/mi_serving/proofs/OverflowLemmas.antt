@@ -1,11 +1,11 @@
--- Who has no place in the row.
+-- Who has no place in the list.
 -- Cited by `Overflow::keep`, `service::serve` and `service::turn`.
 use Rattle.std.proofs.Common.{◌≡◌, inl, inr, ◌≤◌, ◌<◌, ℕ, nat_lt, Bool, true, false, not, is_some, List, [], ◌∷◌, ◌++◌, Option, Some, None, refl, sym, ap, subst, ◌∙◌, arith}
 use Rattle.mi_hub.specs.Run.{HubState}
 use Rattle.mi_clients.specs.declared.client.Client.{Client}
-use Rattle.mi_clients.specs.declared.row.Admission.{Admission}
-use Rattle.mi_clients.specs.declared.row.Admission.TheVariants.{Seated, Refused}
-use Rattle.mi_clients.specs.Row.{Admits}
+use Rattle.mi_clients.specs.declared.clients.ConnectOutcome.{ConnectOutcome}
+use Rattle.mi_clients.specs.declared.clients.ConnectOutcome.TheVariants.{Connected, Refused}
+use Rattle.mi_clients.specs.Clients.{Admits}
 use Rattle.mi_clients.specs.Status.{IsStatus}
 use Rattle.mi_clients.specs.Beside.{Attended, InPlace}
 use Rattle.mi_clients.proofs.StepLemmas.{makes_then}
@@ -25,16 +25,16 @@ pub less_not : (m n : ℕ) → m < n → ¬ (nat_lt m n ≡ false)
 less_not m n lt is = let less : nat_lt m n ≡ true = grind (arith, lt) in (let bad : true ≡ false = sym less ∙ is in cc)
 
 -- who was attended to beside these connections was so beside the same ones, and what became of the place is the same
-pub attended_there : (after stays : Option (List ℕ)) (lacks : Bool) (seconds : ℕ) (hub : HubState) (schema : List ℕ) (row rows : List (Client Link))
-    (o p q : Option (Client Link)) → row ≡ rows → q ≡ p
-    → InPlace (λ was last. (status : List ℕ) × IsStatus after stays lacks seconds row hub status
+pub attended_there : (after stays : Option (List ℕ)) (lacks : Bool) (seconds : ℕ) (hub : HubState) (schema : List ℕ) (clients rows : List (Client Link))
+    (o p q : Option (Client Link)) → clients ≡ rows → q ≡ p
+    → InPlace (λ was last. (status : List ℕ) × IsStatus after stays lacks seconds clients hub status
     × Attended (λ _. None) (λ _. None) status schema was last) o p
     → InPlace (λ was last. (status : List ℕ) × IsStatus after stays lacks seconds rows hub status
     × Attended (λ _. None) (λ _. None) status schema was last) o q
-attended_there after stays lacks seconds hub schema row rows o p q same there is =
+attended_there after stays lacks seconds hub schema clients rows o p q same there is =
     subst (λ r. InPlace (λ was last. (status : List ℕ) × IsStatus after stays lacks seconds r hub status
     × Attended (λ _. None) (λ _. None) status schema was last) o q) same
-    (subst (λ r. InPlace (λ was last. (status : List ℕ) × IsStatus after stays lacks seconds row hub status
+    (subst (λ r. InPlace (λ was last. (status : List ℕ) × IsStatus after stays lacks seconds clients hub status
     × Attended (λ _. None) (λ _. None) status schema was last) o r) (sym there) is)
 
 -- ---- numbers
@@ -59,18 +59,18 @@ waits_placed last (Some c) old new hub mid olds news some le (inr kept) = elim k
   | inr stands ↦ waits_none last new.comer stands.0
 ]
 
-up_to_seated : (last : ℕ) (row : List (Client Link)) (client : Client Link) → AllUpTo last row → client.conn ≤ last → AllUpTo last (row ++ client ∷ [])
-up_to_seated last row client all le = λ c here. elim (in_join row (client ∷ []) c (in_from (row ++ client ∷ []) c here)) [
-  | inl old ↦ all c (in_to row c old)
+up_to_seated : (last : ℕ) (clients : List (Client Link)) (client : Client Link) → AllUpTo last clients → client.conn ≤ last → AllUpTo last (clients ++ client ∷ [])
+up_to_seated last clients client all le = λ c here. elim (in_join clients (client ∷ []) c (in_from (clients ++ client ∷ []) c here)) [
+  | inl old ↦ all c (in_to clients c old)
   | inr comer ↦ elim comer [
     | inl same ↦ subst (λ (x : Client Link). x.conn ≤ last) same le
     | inr none ↦ absurd none
   ]
 ]
 
-up_to_admits : (last conn : ℕ) (link : Link) (hub mid : HubState) (olds news : List (Client Link)) → conn ≤ last → AllUpTo last olds → (a : Admission)
+up_to_admits : (last conn : ℕ) (link : Link) (hub mid : HubState) (olds news : List (Client Link)) → conn ≤ last → AllUpTo last olds → (a : ConnectOutcome)
     → Admits conn link hub mid olds news a → AllUpTo last news
-up_to_admits last conn link hub mid olds news le all Seated p =
+up_to_admits last conn link hub mid olds news le all Connected p =
     subst (AllUpTo last) (sym p.1) (up_to_seated last olds p.0 all (subst (λ n. n ≤ last) (sym p.2) le))
 up_to_admits last conn link hub mid olds news le all (Refused fault) p = subst (AllUpTo last) (sym p.2) all
 

@@ -1,5 +1,5 @@
 -- What began with the tables of the options was served, or rebased.
--- Cited by `program::ledger_of`, `program::perform`, `program::rebase` and `start::standing`.
+-- Cited by `program::durable_of`, `program::perform`, `program::rebase` and `start::standing`.
 use Rattle.std.proofs.Common.{◌≡◌, ℕ, List, Bool, Option, Some, Result, Ok, Err, subst, sym}
 use Rattle.std.specs.Prelude.{IfOk, IfSome}
 use Rattle.std.specs.String.{string_bytes}

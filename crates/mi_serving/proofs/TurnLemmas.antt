@@ -13,9 +13,9 @@ use Rattle.mi_value.specs.declared.limits.TheConstants.{MAX_CONNECTIONS}
 use Rattle.mi_hub.specs.Connections.{rest_at}
 use Rattle.mi_hub.specs.declared.fault.HubFault.{HubFault}
 use Rattle.mi_hub.specs.declared.fault.HubFault.TheVariants as hub
-use Rattle.mi_clients.specs.Row.{ids, fresh, Attends, EachWoken, StayersSame, SameStreams, Admits}
-use Rattle.mi_clients.specs.declared.row.Admission.{Admission}
-use Rattle.mi_clients.specs.declared.row.Admission.TheVariants.{Seated, Refused}
+use Rattle.mi_clients.specs.Clients.{ids, fresh, Attends, EachWoken, StayersSame, SameStreams, Admits}
+use Rattle.mi_clients.specs.declared.clients.ConnectOutcome.{ConnectOutcome}
+use Rattle.mi_clients.specs.declared.clients.ConnectOutcome.TheVariants.{Connected, Refused}
 use Rattle.mi_clients.proofs.StreamLemmas.{streams_none, streams_comes}
 use Rattle.mi_clients.proofs.ServedLemmas.{IsIn, in_from, in_to, in_join, zip_from}
 use Rattle.mi_serving.specs.Turns.{Goes, AllUpTo}
@@ -26,7 +26,7 @@ goes_none s a b kept = ([], makes_none s a b kept)
 pub goes_then : (old mid new : HubState) (a b c : Option (List ℕ)) → Goes old mid a b → Goes mid new b c → Goes old new a c
 goes_then old mid new a b c p q = (p.0 ++ q.0, makes_then p.0 q.0 old mid new a b c p.1 q.1)
 
--- ---- the numbers of a row
+-- ---- the numbers of a list
 
 heads : (x y : ℕ) (xs ys : List ℕ) → x ∷ xs ≡ y ∷ ys → x ≡ y
 heads x y xs ys e = cc
@@ -38,8 +38,8 @@ module _ {S : Type 0} where
   pub up_to_none : (last : ℕ) → AllUpTo {S = S} last []
   up_to_none last = λ c here. absurd (in_from [] c here)
 
-  pub up_to_more : (last more : ℕ) (row : List (Client S)) → last ≤ more → AllUpTo last row → AllUpTo more row
-  up_to_more last more row le all = λ c here. omega (arith, le, all c here)
+  pub up_to_more : (last more : ℕ) (clients : List (Client S)) → last ≤ more → AllUpTo last clients → AllUpTo more clients
+  up_to_more last more clients le all = λ c here. omega (arith, le, all c here)
 
   pub up_to_stay : (handle : S → ℤ) (last : ℕ) (a b : List (Client S)) → AllUpTo last a → StayersSame handle a b → AllUpTo last b
   up_to_stay handle last a b all p = λ c here. let old = p c here in subst (λ n. n ≤ last) (sym old.2.0) (all old.0 old.1)
@@ -64,45 +64,45 @@ module _ {S : Type 0} where
           let old = find c a b (tails y.conn x.conn (ids b) (ids a) e) here in
           (old.0, inr old.1, old.2)
 
-  pub up_to_comes : (last more : ℕ) (row : List (Client S)) (client : Client S) → AllUpTo last row → last ≤ more → client.conn ≡ more
-      → AllUpTo more (row ++ client ∷ [])
-  up_to_comes last more row client all le is = λ c here. elim (in_join row (client ∷ []) c (in_from (row ++ client ∷ []) c here)) [
-    | inl old ↦ omega (arith, le, all c (in_to row c old))
+  pub up_to_comes : (last more : ℕ) (clients : List (Client S)) (client : Client S) → AllUpTo last clients → last ≤ more → client.conn ≡ more
+      → AllUpTo more (clients ++ client ∷ [])
+  up_to_comes last more clients client all le is = λ c here. elim (in_join clients (client ∷ []) c (in_from (clients ++ client ∷ []) c here)) [
+    | inl old ↦ omega (arith, le, all c (in_to clients c old))
     | inr comer ↦ elim comer [
       | inl same ↦ subst (λ (x : Client S). x.conn ≤ more) same (omega (arith, is))
       | inr none ↦ absurd none
     ]
   ]
 
--- ---- a connection that comes, under a number above all of a row
+-- ---- a connection that comes, under a number above all of a list
 
 less_test : (x y : ℕ) → x < y → nat_eq x y ≡ false
 less_test x y lt = grind arith
 
 module _ {S : Type 0} (handle : S → ℤ) (last conn : ℕ) (above : last < conn) where
-  not_attached : (row : List (Client S)) → AllUpTo last row → rest_at conn (map fresh (ids row)) ≡ None
+  not_attached : (clients : List (Client S)) → AllUpTo last clients → rest_at conn (map fresh (ids clients)) ≡ None
   not_attached [] all = refl
-  not_attached (x ∷ row) all =
-      let other : nat_eq x.conn conn ≡ false = less_test x.conn conn (omega (arith, all x (in_to (x ∷ row) x (inl refl)), above)) in
-      ap (λ b. cond b (Some (Some [])) (rest_at conn (map fresh (ids row)))) other
-      ∙ not_attached row (λ c here. all c (in_to (x ∷ row) c (inr (in_from row c here))))
+  not_attached (x ∷ clients) all =
+      let other : nat_eq x.conn conn ≡ false = less_test x.conn conn (omega (arith, all x (in_to (x ∷ clients) x (inl refl)), above)) in
+      ap (λ b. cond b (Some (Some [])) (rest_at conn (map fresh (ids clients)))) other
+      ∙ not_attached clients (λ c here. all c (in_to (x ∷ clients) c (inr (in_from clients c here))))
 
-  pub known_after : (stream : S) (old new : HubState) (olds news : List (Client S)) → AllUpTo last olds → (a : Admission)
+  pub known_after : (stream : S) (old new : HubState) (olds news : List (Client S)) → AllUpTo last olds → (a : ConnectOutcome)
       → Admits conn stream old new olds news a → AllUpTo conn news
-  known_after stream old new olds news all Seated p =
-      subst (λ row. AllUpTo conn row) (sym p.1) (up_to_comes last conn olds p.0 all (omega (arith, above)) p.2)
-  known_after stream old new olds news all (Refused fault) p = subst (λ row. AllUpTo conn row) (sym p.2) (up_to_more last conn olds (omega (arith, above)) all)
+  known_after stream old new olds news all Connected p =
+      subst (λ clients. AllUpTo conn clients) (sym p.1) (up_to_comes last conn olds p.0 all (omega (arith, above)) p.2)
+  known_after stream old new olds news all (Refused fault) p = subst (λ clients. AllUpTo conn clients) (sym p.2) (up_to_more last conn olds (omega (arith, above)) all)
 
-  pub same_after : (stream : S) (old new : HubState) (olds news : List (Client S)) → (a : Admission)
+  pub same_after : (stream : S) (old new : HubState) (olds news : List (Client S)) → (a : ConnectOutcome)
       → Admits conn stream old new olds news a → SameStreams handle last olds news
-  same_after stream old new olds news Seated p =
-      subst (λ row. SameStreams handle last olds row) (sym p.1) (streams_comes handle last olds p.0 (omega (arith, above, p.2)))
-  same_after stream old new olds news (Refused fault) p = subst (λ row. SameStreams handle last olds row) (sym p.2) (streams_none handle last olds)
+  same_after stream old new olds news Connected p =
+      subst (λ clients. SameStreams handle last olds clients) (sym p.1) (streams_comes handle last olds p.0 (omega (arith, above, p.2)))
+  same_after stream old new olds news (Refused fault) p = subst (λ clients. SameStreams handle last olds clients) (sym p.2) (streams_none handle last olds)
 
   pub refused_for : (stream : S) (old new : HubState) (olds news : List (Client S)) → Attends (ids olds) old.attached → AllUpTo last olds
-      → length olds < MAX_CONNECTIONS → (a : Admission) → Admits conn stream old new olds news a → (fault : HubFault) → Some a ≡ Some (Refused fault)
+      → length olds < MAX_CONNECTIONS → (a : ConnectOutcome) → Admits conn stream old new olds news a → (fault : HubFault) → Some a ≡ Some (Refused fault)
       → fault ≡ hub.Memory
-  refused_for stream old new olds news attends all room Seated p fault is = cc
+  refused_for stream old new olds news attends all room Connected p fault is = cc
   refused_for stream old new olds news attends all room (Refused other) p fault is =
       let same : other ≡ fault = cc in
       sym same ∙ reason other p.0

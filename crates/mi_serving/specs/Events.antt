@@ -5,7 +5,7 @@ use Rattle.mio.specs.Event.{event_token, is_readable, is_writable, is_error, is_
 use Rattle.mi_clients.specs.declared.client.Client.{Client}
 use Rattle.mi_clients.specs.Client.{told}
 use Rattle.mi_replay.specs.Replayed.{replayer}
-use Rattle.mi_serving.specs.declared.door.Callers.{Callers}
+use Rattle.mi_serving.specs.declared.acceptor.Callers.{Callers}
 
 -- what an event is reported under
 abbrev pub token_of : Event → ℕ
@@ -28,11 +28,11 @@ is_closing e = is_read_closed e || is_write_closed e || is_error e
 
 -- An event of a listener is no connection's; another tells the one of its number.
 abbrev pub told_by : {S : Type 0} → Event → List (Client S) → List (Client S)
-told_by e row = if is_listener (token_of e) then row else map (told (token_of e) (is_readable e) (is_writable e) (is_closing e)) row
+told_by e clients = if is_listener (token_of e) then clients else map (told (token_of e) (is_readable e) (is_writable e) (is_closing e)) clients
 
 abbrev pub told_by_all : {S : Type 0} → List Event → List (Client S) → List (Client S)
-told_by_all [] row = row
-told_by_all (e ∷ es) row = told_by_all es (told_by e row)
+told_by_all [] clients = clients
+told_by_all (e ∷ es) clients = told_by_all es (told_by e clients)
 
 -- at which listeners a connection may be there, behind an event of one
 abbrev pub called_by : Event → Callers → Callers

@@ -4,7 +4,7 @@ use Rattle.std.specs.List.{Contains}
 use Rattle.mi_clients.specs.declared.client.Client.{Client}
 use Rattle.mi_hub.specs.Run.{HubState}
 use Rattle.mi_clients.specs.Steps.{Step, Makes, GivesNone, AsksNone}
-use Rattle.mi_clients.specs.Row.{ids, Joins, Serves, AllOnlyAsk, StayersOnlyAsk, TellsWhatIs}
+use Rattle.mi_clients.specs.Clients.{ids, Joins, Serves, AllOnlyAsk, StayersOnlyAsk, TellsWhatIs}
 use Rattle.mi_clients.specs.Status.{IsStatus}
 use Rattle.mi_clients.specs.Beside.{Attended, InPlace}
 use Rattle.mi_serving.specs.declared.link.Link.{Link}
@@ -38,31 +38,31 @@ use Rattle.mi_serving.specs.declared.failure.Failure.TheVariants.{
 abbrev pub Goes : HubState → HubState → Option (List ℕ) → Option (List ℕ) → Type 0
 Goes old new before after = (steps : List Step) × Makes steps old new before after
 
--- no connection of a row has a number above this one
+-- no connection of a list has a number above this one
 abbrev pub AllUpTo : {S : Type 0} → ℕ → List (Client S) → Type 0
-AllUpTo {S} last row = (c : Client S) → Contains row c → c.conn ≤ last
+AllUpTo {S} last clients = (c : Client S) → Contains clients c → c.conn ≤ last
 
--- What a turn does. The row is served by the first steps, as who is there and has come asks. By the others who has waited for a place is
--- admitted, and nobody is asked or given anything. The one beside the row is attended to by the status of what these leave; it makes no step.
+-- What a turn does. The list is served by the first steps, as who is there and has come asks. By the others who has waited for a place is
+-- admitted, and nobody is asked or given anything. The one beside the list is attended to by the status of what these leave; it makes no step.
 pub record IsTurn (schema : List ℕ) (seconds : ℕ) (old new : HubState) (before after stays : Option (List ℕ)) (lacks : Bool) (olds news : List (Client Link))
     (waited beside : Overflow) : Type 0 where
   pub first : List Step
   pub comes : List Step
   pub mid : HubState
   pub kept : Option (List ℕ)
-  pub row : List (Client Link)
+  pub clients : List (Client Link)
   pub lacked : Bool
-  pub serves : Serves (λ _. None) first olds row
+  pub serves : Serves (λ _. None) first olds clients
   pub makes : Makes first old mid before kept
-  pub stayers : StayersOnlyAsk first olds row
+  pub stayers : StayersOnlyAsk first olds clients
   pub tells : TellsWhatIs (λ _. None) schema seconds first old before lacked olds
   pub admits : Makes comes mid new kept after
   pub none : GivesNone comes
   pub quiet : AsksNone comes
-  pub alone : AllOnlyAsk comes (ids row)
-  pub joins : Joins row news
+  pub alone : AllOnlyAsk comes (ids clients)
+  pub joins : Joins clients news
   pub at : Overflow
-  pub placed : IsPlaced waited.comer waited at mid new row news
+  pub placed : IsPlaced waited.comer waited at mid new clients news
   pub attended : InPlace (λ was last. (status : List ℕ) × IsStatus after stays lacks seconds news new status
       × Attended (λ _. None) (λ _. None) status schema was last) at.beside.client beside.beside.client
 

@@ -10,7 +10,7 @@ use Rattle.mi_recovery.specs.declared.device.Keeping.TheVariants.{Synced, Unsync
 use Rattle.mi_program.specs.Words.{option_rule, flag_rule, number_rule, is_set, IsNumber}
 use Rattle.mi_serving.specs.declared.move_words.MoveWords.{MoveWords}
 use Rattle.mi_serving.specs.declared.words.Options.{Options}
-use Rattle.mi_serving.specs.declared.words.Places.{Places}
+use Rattle.mi_serving.specs.declared.words.Addresses.{Addresses}
 use Rattle.mi_serving.specs.declared.words.JournalWords.{JournalWords}
 use Rattle.mi_serving.specs.declared.words.SyncMode.{SyncMode}
 use Rattle.mi_serving.specs.declared.words.TheConstants.{MOST_SECONDS}
@@ -88,13 +88,13 @@ abbrev pub IsPort : Option (List ℕ) → Option ℕ → Type 0
 IsPort word port = IsNumber 0 65535 word port
 
 -- `--listen` is the port, `--unix` the path
-pub record ArePlaces (rows : List Row) (places : Places) : Type 0 where
-  pub port : IsPort (one_of (codes "listen") rows) places.port
-  pub unix : option_map string_bytes places.unix ≡ first_of (codes "unix") rows
+pub record AreAddresses (rows : List Row) (addresses : Addresses) : Type 0 where
+  pub port : IsPort (one_of (codes "listen") rows) addresses.port
+  pub unix : option_map string_bytes addresses.unix ≡ first_of (codes "unix") rows
 
 -- whether there is a port or a path
-abbrev pub listens : Places → Bool
-listens places = is_some places.port || is_some places.unix
+abbrev pub listens : Addresses → Bool
+listens addresses = is_some addresses.port || is_some addresses.unix
 
 -- a rebase, and one to a new journal, has a journal and listens nowhere; a service listens somewhere; only one of them is asked for
 abbrev pub is_task : Bool → Bool → Bool → Bool → Bool
@@ -112,9 +112,9 @@ pub record AreLimits (rows : List Row) (limits : Limits) : Type 0 where
 -- The options are the values that were matched.
 pub record AreValues (options : Options) (rows : List Row) : Type 0 where
   pub schema : option_map string_bytes options.schema ≡ first_of (codes "schema") rows
-  pub places : ArePlaces rows options.places
+  pub addresses : AreAddresses rows options.addresses
   pub journal : IsJournal (first_of (codes "journal") rows) (first_of (codes "sync") rows) options.journal
   pub limits : AreLimits rows options.limits
   pub rebase : options.rebase ≡ is_set (one_of (codes "rebase") rows)
   pub moving : IsMove (first_of (codes "rebase-to") rows) (first_of (codes "new-schema") rows) options.moving
-  pub task : is_task options.rebase (is_some options.moving) (listens options.places) (is_some options.journal) ≡ true
+  pub task : is_task options.rebase (is_some options.moving) (listens options.addresses) (is_some options.journal) ≡ true

@@ -3,11 +3,11 @@ ghost use Rattle.std.specs.Prelude.{◌≡◌, ◌⊎◌, Some, true, false, opt
 ghost use Rattle.std.specs.String.{string_bytes};
 ghost use Rattle.mi_serving.specs.Moved.{failure_of_table};
 ghost use Rattle.mi_serving.specs.Status.{status_of, failure_of};
-ghost use Rattle.mi_ledger.specs.declared.fault.LedgerFault.TheVariants as ledger_fault;
+ghost use Rattle.mi_durable.specs.declared.fault.DurableFault.TheVariants as durable_fault;
 ghost use Rattle.mi_serving.specs.declared.failure.Failure.TheVariants as told;
 
 use mi_container::RestoreFault;
-use mi_ledger::LedgerFault;
+use mi_durable::DurableFault;
 use mi_recovery::{JournalFailure, JournalFault};
 use mi_schema::SchemaFault;
 use std::alloc::Global;
@@ -59,13 +59,13 @@ pub enum Failure {
 }
 
 impl Failure {
-    /// What a fault of the ledger is.
-    pub fn of_ledger(fault: LedgerFault) -> Failure
-        ensures { ((fault ≡ LedgerFault.Memory) × (result ≡ Failure.Memory)) ⊎ ((fault ≡ LedgerFault.Journal) × (result ≡ Failure.Journal)) }
+    /// What a fault of the durable hub is.
+    pub fn of_durable(fault: DurableFault) -> Failure
+        ensures { ((fault ≡ DurableFault.Memory) × (result ≡ Failure.Memory)) ⊎ ((fault ≡ DurableFault.Journal) × (result ≡ Failure.Journal)) }
     {
         match fault {
-            LedgerFault::Memory => Failure::Memory,
-            LedgerFault::Journal => Failure::Journal,
+            DurableFault::Memory => Failure::Memory,
+            DurableFault::Journal => Failure::Journal,
         }
     }
 
@@ -171,12 +171,12 @@ impl fmt::Display for Failure {
     }
 }
 
-impl From<LedgerFault> for Failure {
-    ghost from_gives = { λ fault failure. ((fault ≡ ledger_fault.Memory) × (failure ≡ told.Memory))
-        ⊎ ((fault ≡ ledger_fault.Journal) × (failure ≡ told.Journal)) };
+impl From<DurableFault> for Failure {
+    ghost from_gives = { λ fault failure. ((fault ≡ durable_fault.Memory) × (failure ≡ told.Memory))
+        ⊎ ((fault ≡ durable_fault.Journal) × (failure ≡ told.Journal)) };
 
-    fn from(fault: LedgerFault) -> Failure {
-        Failure::of_ledger(fault)
+    fn from(fault: DurableFault) -> Failure {
+        Failure::of_durable(fault)
     }
 }
 

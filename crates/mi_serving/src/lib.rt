@@ -1,8 +1,8 @@
-//! A service: its words, and connections that come through a door and go without end, over one hub whose lines are journaled. What a
+//! A service: its words, and connections that an acceptor accepts and go without end, over one hub whose lines are journaled. What a
 //! connection asks and is sent is `mi_clients`', and the journal at a start is `mi_recovery`'s. It knows nothing of commands.
 #![tactic(auto)]
 
-mod door;
+mod acceptor;
 mod failure;
 mod link;
 mod move_words;
@@ -16,7 +16,7 @@ mod source;
 mod start;
 mod words;
 
-pub use door::{Callers, Door};
+pub use acceptor::{Acceptor, Callers};
 pub use failure::{Failure, Fault};
 pub use link::Link;
 pub use mi_program::WordsFault;
@@ -26,4 +26,4 @@ pub use patience::Patience;
 pub use program::run;
 pub use service::{serve, take_turn, turn};
 pub use source::BUILT_IN;
-pub use words::{JournalWords, MOST_SECONDS, Options, Places, SyncMode, read_words};
+pub use words::{Addresses, JournalWords, MOST_SECONDS, Options, SyncMode, read_words};

@@ -1,11 +1,11 @@
 //! How long the service waits for connections that send nothing, by a clock that never goes back.
 ghost use Rattle.std.specs.Prelude.{◌≡◌, ◌≤◌, ◌⊎◌, IsSome};
-ghost use Rattle.mi_ledger.specs.Ledger.{hub_of, holder_conn};
-ghost use Rattle.mi_clients.specs.Row.{ids};
+ghost use Rattle.mi_durable.specs.Durable.{hub_of, holder_conn};
+ghost use Rattle.mi_clients.specs.Clients.{ids};
 ghost use Rattle.mi_clients.specs.Silence.{EachJudged};
 
 use mi_clients::{Client, Limits, give_up_silent};
-use mi_ledger::Ledger;
+use mi_durable::Durable;
 use mi_log::Log;
 use mi_sessions::Sessions;
 use std::time::{Clock, Duration, Instant};
@@ -74,20 +74,20 @@ impl<'a, C: Clock> Patience<'a, C> {
     /// them go.
     pub fn give_up<D: Sessions + Drop, L: Log + Drop, S>(
         &mut self,
-        ledger: &Ledger<D, L>,
-        row: &mut Vec<Client<S>>,
+        durable: &Durable<D, L>,
+        clients: &mut Vec<Client<S>>,
     )
         ensures judged { IsSome self.old.limits.hold ⊎ IsSome self.old.limits.idle
-            → EachJudged self.old.limits (holder_conn (hub_of ledger.now).held.holder) self.new.second row.old.items row.new.items }
-        ensures unlimited { ¬ (IsSome self.old.limits.hold ⊎ IsSome self.old.limits.idle) → row.new.items ≡ row.old.items }
-        ensures ids { ids row.new.items ≡ ids row.old.items }
+            → EachJudged self.old.limits (holder_conn (hub_of durable.now).held.holder) self.new.second clients.old.items clients.new.items }
+        ensures unlimited { ¬ (IsSome self.old.limits.hold ⊎ IsSome self.old.limits.idle) → clients.new.items ≡ clients.old.items }
+        ensures ids { ids clients.new.items ≡ ids clients.old.items }
         ensures rises { self.old.second ≤ self.new.second }
         ensures limits { self.new.limits ≡ self.old.limits }
     {
         self.advance();
         if self.limits.is_any() {
             let limits = self.limits;
-            give_up_silent(ledger, row, self.second, &limits);
+            give_up_silent(durable, clients, self.second, &limits);
         }
     }
 }

@@ -3,7 +3,7 @@
 ghost use Rattle.std.specs.Prelude.{◌≡◌, [], None, Ok, true, false, is_some, option_map, IfOk, IfSome, OnOk, MatchOption};
 ghost use Rattle.std.specs.Io.KnownBytes.{Keeps};
 ghost use Rattle.mi_log.specs.DeviceLog.{device_of};
-ghost use Rattle.mi_ledger.specs.Ledger.{hub_of, log_of};
+ghost use Rattle.mi_durable.specs.Durable.{hub_of, log_of};
 ghost use Rattle.mi_recovery.specs.Device.{is_staying, is_synced, told_of};
 ghost use Rattle.mi_serving.specs.Words as spec;
 ghost use Rattle.mi_serving.specs.Words.{asks_each};
@@ -13,7 +13,7 @@ ghost use Rattle.std.specs.String.{string_bytes};
 ghost use Rattle.mi_catalog.specs.Shape.{CatalogShape};
 ghost use Rattle.mi_program.specs.Source.{IsCatalog};
 
-use crate::door::Door;
+use crate::acceptor::Acceptor;
 use crate::failure::{Failure, Fault};
 use crate::moving::move_journal;
 use crate::patience::Patience;
@@ -26,7 +26,7 @@ use mi_clients::SchemaLine;
 use mi_hub::Hub;
 use mi_rebase::rebased;
 use mi_recovery::{
-    JournalFiles, JournalLedger, JournalSchema, Keeping, Position, SystemFiles, log_error,
+    JournalDurable, JournalFiles, JournalSchema, Keeping, Position, SystemFiles, log_error,
     opened_behind, without,
 };
 use mi_sessions::Sessions;
@@ -51,22 +51,22 @@ fn keeping_by(sync: SyncMode) -> Keeping
 }
 
 /// A hub that goes on with the journal that the words name, where they name one. It stands behind that position, or at the journal's start.
-fn ledger_of<P: JournalFiles, D: Sessions + Drop>(
+fn durable_of<P: JournalFiles, D: Sessions + Drop>(
     alloc: Global,
     files: &P,
     hub: Hub<D>,
     schema: &JournalSchema,
     position: Option<&Position>,
     journal: Option<&JournalWords>,
-) -> Result<JournalLedger<P::File, D>, Fault>
+) -> Result<JournalDurable<P::File, D>, Fault>
     requires { hub.attached ≡ [] }
-    ensures begins { IfOk result (λ ledger. Begins (λ file. P.File.is_locked file ≡ true) (P.is_seen files.now) (P.is_newest files.now) P.File.contents
-        schema.now (option_map (λ p. p.now) position.entry) hub (option_map (λ words. words.now) journal.entry) (hub_of ledger)
-        (told_of P.File.contents (device_of (log_of ledger)))) }
-    ensures attached { IfOk result (λ ledger. (hub_of ledger).attached ≡ []) }
-    ensures settled { IfOk result (λ ledger. Keeps (told_of P.File.contents (device_of (log_of ledger))) (told_of P.File.stays (device_of (log_of ledger)))) }
-    ensures stays { IfOk result (λ ledger. MatchOption journal.entry (is_staying (device_of (log_of ledger)) ≡ false)
-        (λ words. is_staying (device_of (log_of ledger)) ≡ is_synced (spec.keeping_by words.now.sync))) }
+    ensures begins { IfOk result (λ durable. Begins (λ file. P.File.is_locked file ≡ true) (P.is_seen files.now) (P.is_newest files.now) P.File.contents
+        schema.now (option_map (λ p. p.now) position.entry) hub (option_map (λ words. words.now) journal.entry) (hub_of durable)
+        (told_of P.File.contents (device_of (log_of durable)))) }
+    ensures attached { IfOk result (λ durable. (hub_of durable).attached ≡ []) }
+    ensures settled { IfOk result (λ durable. Keeps (told_of P.File.contents (device_of (log_of durable))) (told_of P.File.stays (device_of (log_of durable)))) }
+    ensures stays { IfOk result (λ durable. MatchOption journal.entry (is_staying (device_of (log_of durable)) ≡ false)
+        (λ words. is_staying (device_of (log_of durable)) ≡ is_synced (spec.keeping_by words.now.sync))) }
 {
     match journal {
         Some(words) => Ok(opened_behind(
@@ -124,7 +124,7 @@ fn serve_hub<P: JournalFiles, D: Sessions + Drop, C: Clock, W: Write>(
     schema: &JournalSchema,
     position: Option<&Position>,
     journal: Option<&JournalWords>,
-    door: &mut Door,
+    acceptor: &mut Acceptor,
     path: Option<&str>,
     patience: &mut Patience<'_, C>,
     line: &SchemaLine,
@@ -134,20 +134,20 @@ fn serve_hub<P: JournalFiles, D: Sessions + Drop, C: Clock, W: Write>(
     ensures { IfOk result (λ ended. Serves (λ file. P.File.is_locked file ≡ true) (P.is_seen files.now) (P.is_newest files.now) P.File.contents
         schema.now (option_map (λ p. p.now) position.entry) hub (option_map (λ words. words.now) journal.entry) ended.failure) }
 {
-    let port = door.port()?;
-    let mut ledger = ledger_of(alloc, files, hub, schema, position, journal)?;
+    let port = acceptor.port()?;
+    let mut durable = durable_of(alloc, files, hub, schema, position, journal)?;
     announce(output, port, path)?;
     let failure = serve(
         alloc,
-        &mut ledger,
-        door,
+        &mut durable,
+        acceptor,
         patience,
         syncs_each(journal),
         line,
     );
     Ok(Fault {
         failure,
-        error: log_error(ledger.log()),
+        error: log_error(durable.log()),
         is_of_path: false,
         place: None,
     })
@@ -165,7 +165,7 @@ fn perform<R: Files + Net + AllocGlobal + RandomSource + Clock, P: JournalFiles,
         ended.failure) }
 {
     let Source { catalog, line } = catalog(rt, options.schema.as_deref())?;
-    let mut door = Door::open(rt, &options.places)?;
+    let mut acceptor = Acceptor::open(rt, &options.addresses)?;
     let Ok(schema) = journal_schema(rt.alloc(), &catalog) else {
         return Err(Fault::from(Failure::Memory));
     };
@@ -179,8 +179,8 @@ fn perform<R: Files + Net + AllocGlobal + RandomSource + Clock, P: JournalFiles,
         &schema,
         position.as_ref(),
         journal,
-        &mut door,
-        options.places.unix.as_deref(),
+        &mut acceptor,
+        options.addresses.unix.as_deref(),
         &mut patience,
         &line,
         output,

@@ -4,7 +4,7 @@ ghost use Rattle.mi_program.specs.Status.{status_of_words};
 ghost use Rattle.mi_serving.specs.Status.{status_of};
 
 use crate::failure::{Failure, Fault};
-use crate::words::{Options, Places};
+use crate::words::{Addresses, Options};
 use mi_program::WordsFault;
 use std::alloc::Global;
 use std::io::Write;
@@ -27,11 +27,11 @@ impl<'a> fmt::Display for Place<'a> {
 }
 
 /// What can't be listened on: the path where that is told, else the port, or the path where no port is asked for.
-fn listened_place<'a>(is_of_path: bool, places: &'a Places) -> Option<Place<'a>> {
-    match places.port {
+fn listened_address<'a>(is_of_path: bool, addresses: &'a Addresses) -> Option<Place<'a>> {
+    match addresses.port {
         Some(port) if !is_of_path => Some(Place::Port(port)),
         _ => {
-            let path = places.unix.as_deref()?;
+            let path = addresses.unix.as_deref()?;
             Some(Place::File(path))
         }
     }
@@ -64,7 +64,7 @@ fn named_place<'a>(fault: &Fault, options: &'a Options) -> Option<Place<'a>> {
             let journal = options.journal.as_ref()?;
             Some(Place::File(journal.file.as_str()))
         }
-        Failure::Listen => listened_place(fault.is_of_path, &options.places),
+        Failure::Listen => listened_address(fault.is_of_path, &options.addresses),
         Failure::MovedType
         | Failure::MovedUnique(_, _)
         | Failure::MovedFull

@@ -56,7 +56,7 @@ fn failure_of(fault: DatabaseFault) -> Failure {
     }
 }
 
-/// The tables of a catalog, none of which has a row, under a hub with no connection. The failure is `Memory`.
+/// The tables of a catalog, none of which has a list, under a hub with no connection. The failure is `Memory`.
 fn open_tables<R: AllocGlobal + RandomSource>(
     rt: &R,
     catalog: Catalog,

@@ -5,7 +5,7 @@ ghost use Rattle.clap.specs.Words.{App, app_of, rule_of, rows_of, found_of, matc
 ghost use Rattle.clap.specs.Built.{IsPlainArg};
 ghost use Rattle.mi_program.specs.Words.{option_rule, flag_rule, number_rule, is_set, HasOptions};
 ghost use Rattle.mi_serving.specs.Words as spec;
-ghost use Rattle.mi_serving.specs.Words.{service_options, with_limits, with_places, sync_by, listens, is_task, IsJournal, IsPort, IsSeconds, AreLimits, ArePlaces, AreValues};
+ghost use Rattle.mi_serving.specs.Words.{service_options, with_limits, with_places, sync_by, listens, is_task, IsJournal, IsPort, IsSeconds, AreLimits, AreAddresses, AreValues};
 
 use crate::move_words::{MoveWords, movable, move_words};
 use clap::builder::ValueParser;
@@ -41,7 +41,7 @@ pub struct JournalWords {
 
 /// Where the service listens: on a port, at a path, or both; a rebase listens nowhere.
 #[derive(Drop)]
-pub struct Places {
+pub struct Addresses {
     /// The port of 127.0.0.1, where one is asked for; 0 for any that is free.
     pub port: Option<u16>,
     /// The path of a Unix socket, where one is asked for.
@@ -54,7 +54,7 @@ pub struct Options {
     /// The file that the schema is read from; without one it is the built-in schema.
     pub schema: Option<String>,
     /// Where it listens.
-    pub places: Places,
+    pub addresses: Addresses,
     /// The journal, where one is kept.
     pub journal: Option<JournalWords>,
     /// How long connections may be silent.
@@ -65,7 +65,7 @@ pub struct Options {
     pub moving: Option<MoveWords>,
 }
 
-impl Places {
+impl Addresses {
     /// Whether there is a port or a path.
     fn some(&self) -> bool
         ensures { result ≡ listens self.now }
@@ -292,12 +292,12 @@ fn port(matches: &ArgMatches<'_>) -> Result<Option<u16>, WordsFault>
 }
 
 /// Where the service listens, by the options that were matched. The fault is `Memory` or `Rules`.
-fn places_of(alloc: Global, matches: &ArgMatches<'_>) -> Result<Places, WordsFault>
-    ensures { IfOk result (ArePlaces (rows_of (found_of matches.now))) }
+fn addresses_of(alloc: Global, matches: &ArgMatches<'_>) -> Result<Addresses, WordsFault>
+    ensures { IfOk result (AreAddresses (rows_of (found_of matches.now))) }
 {
     let port = port(matches)?;
     let unix = owned(alloc, matches.get_str("unix"))?;
-    Ok(Places { port, unix })
+    Ok(Addresses { port, unix })
 }
 
 /// The seconds of an option, where it stands in the words. The fault is `Rules`.
@@ -325,15 +325,15 @@ fn limits(matches: &ArgMatches<'_>) -> Result<Limits, WordsFault>
 fn check_task(
     rebase: bool,
     moves: bool,
-    places: &Places,
+    addresses: &Addresses,
     journal: Option<&JournalWords>,
 ) -> Result<(), WordsFault>
-    ensures { OnOk result (is_task rebase moves (listens places.now) (is_some journal.entry) ≡ true) }
+    ensures { OnOk result (is_task rebase moves (listens addresses.now) (is_some journal.entry) ≡ true) }
 {
     let is_task = if rebase || moves {
-        !(rebase && moves) && !places.some() && journal.is_some()
+        !(rebase && moves) && !addresses.some() && journal.is_some()
     } else {
-        places.some()
+        addresses.some()
     };
     if is_task {
         Ok(())
@@ -347,15 +347,15 @@ fn values(alloc: Global, matches: &ArgMatches<'_>) -> Result<Options, WordsFault
     ensures { IfOk result (λ options. AreValues options (rows_of (found_of matches.now))) }
 {
     let schema = owned(alloc, matches.get_str("schema"))?;
-    let places = places_of(alloc, matches)?;
+    let addresses = addresses_of(alloc, matches)?;
     let journal = journal_words(alloc, matches.get_str("journal"), matches.get_str("sync"))?;
     let limits = limits(matches)?;
     let rebase = matches.get_one::<bool>("rebase").unwrap_or(false);
     let moving = move_words(alloc, matches)?;
-    check_task(rebase, moving.is_some(), &places, journal.as_ref())?;
+    check_task(rebase, moving.is_some(), &addresses, journal.as_ref())?;
     Ok(Options {
         schema,
-        places,
+        addresses,
         journal,
         limits,
         rebase,

@@ -135,7 +135,7 @@ module _ {T : Type 0} where
   pub same_tree : (m : Pooled T) (s : ℕ) (at : Option Ref) (t u : BinaryTree) → IsRooted m s at t → IsRooted m s at u → t ≡ u
   same_tree m s at t u g h = same_shape m s t u (sym g.root ∙ h.root) g.stands h.stands
 
-  -- the sides of a node on the way down
+  -- the sides of a node on the path down
   pub record Sides (m : Pooled T) (s : ℕ) (r : Ref) (y : Link) (u : BinaryTree) : Type 0 where
     pub A : BinaryTree
     pub B : BinaryTree

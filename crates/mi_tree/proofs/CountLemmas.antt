@@ -1,4 +1,4 @@
--- The way down that counts the nodes at a probe: what it takes away on either side is taken away from both places.
+-- The path down that counts the nodes at a probe: what it takes away on either side is taken away from both places.
 -- Cited by `Tree::count`, `look::count_beside` and `look::count_in`.
 use Rattle.std.proofs.Common.{◌≡◌, ℕ, ◌+◌, ◌*◌, ◌^◌, ◌<◌, ◌≤◌, Bool, true, false, not, cond, List, [], ◌∷◌, ◌++◌, length}
 use Rattle.std.proofs.Common.{Option, Some, None, refl, sym, ap, ◌∙◌, subst, arith}
@@ -84,7 +84,7 @@ module _ {T : Type 0} (s : ℕ) (at : Option Ref) where
 pub place_within_nodes : (f : Ref → Bool) (t : BinaryTree) → position_or_len f (nodes t) ≤ forks t
 place_within_nodes f t = let z = size-nodes t in let p = place_within f (nodes t) in omega arith
 
--- the way down until it parts
+-- the path down until it parts
 module _ {T : Type 0} where
   pub record Parting (m : Pooled T) (s : ℕ) (tag : T → ℕ) (P Q : Ref → Bool) (root at : Option Ref) (read0 read step0 step : ℕ) : Type 0 where
     pub t : BinaryTree

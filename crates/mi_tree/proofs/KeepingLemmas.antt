@@ -1,7 +1,7 @@
 -- A node that gets another value and another stamp, and the nodes that it passes as it moves to these.
---     pass_step, pass_lost      past one node on a way down that seeks the nearest, or not
---     Nearing      a way down in a subtree, as far as it has come
---     Above      the way down to the node, as far as it has come
+--     pass_step, pass_lost      past one node on a path down that seeks the nearest, or not
+--     Nearing      a path down in a subtree, as far as it has come
+--     Above      the path down to the node, as far as it has come
 --     own_sides      the two sides of a node of the tree, in the list
 -- Cited by `Tree::keeps_place`, `keeping::passes_none` and `keeping::passes_none_above`.
 use Rattle.std.proofs.Common.{◌≡◌, ℕ, ◌+◌, ◌*◌, ◌<◌, ◌≤◌, Bool, true, false, cond, not, List, [], ◌∷◌, ◌++◌, append_assoc}
@@ -38,10 +38,10 @@ is_facing_of false o e = ap (is_facing false) e
 pub not_true : {b : Bool} → b ≡ true → b ≡ false → ⊥
 not_true e f = cc
 
-pub turn_is : (rises : Bool) (o : Ordering) → rises ≡ is_gt o → is_eq o ≡ false → o ≡ facing (not rises)
-turn_is rises Less e f = ap (λ b. facing (not b)) (sym e)
-turn_is rises Equal e f = absurd (not_true refl f)
-turn_is rises Greater e f = ap (λ b. facing (not b)) (sym e)
+pub path_step_is : (rises : Bool) (o : Ordering) → rises ≡ is_gt o → is_eq o ≡ false → o ≡ facing (not rises)
+path_step_is rises Less e f = ap (λ b. facing (not b)) (sym e)
+path_step_is rises Equal e f = absurd (not_true refl f)
+path_step_is rises Greater e f = ap (λ b. facing (not b)) (sym e)
 
 pub some_of : (o : Option Ref) → is_some o ≡ true → (c : Ref) × (o ≡ Some c)
 some_of None e = absurd cc
@@ -61,7 +61,7 @@ module _ {T : Type 0} (order : T → T → Ordering) (m : Pooled T) (s : ℕ) (v
     pub tagged : AreTagged tag m s (nodes z)
     pub lower : height z + 1 ≤ height u
 
-  -- a way down in a subtree, along the side that is nearest
+  -- a path down in a subtree, along the side that is nearest
   pub record Nearing (tag : T → ℕ) (rises : Bool) (root at : Option Ref) (step0 step : ℕ) : Type 0 where
     pub t : BinaryTree
     pub u : BinaryTree
@@ -389,9 +389,9 @@ module _ {T : Type 0} (order : T → T → Ordering) (total : IsTotalOrder order
         }
 
         pub above_next : (o : Ordering) → R node r ≡ o → (o ≡ Equal → ⊥) → (b : Bool) → b ≡ is_gt o → Above order m s v stamp tag rises node root (cond b y.forth y.back) d f
-        above_next Less found differs b turn = subst (λ z. Above order m s v stamp tag rises node root (cond z y.forth y.back) d f) (sym turn) (above_left found)
-        above_next Equal found differs b turn = absurd (differs refl)
-        above_next Greater found differs b turn = subst (λ z. Above order m s v stamp tag rises node root (cond z y.forth y.back) d f) (sym turn) (above_right found)
+        above_next Less found differs b path_step = subst (λ z. Above order m s v stamp tag rises node root (cond z y.forth y.back) d f) (sym path_step) (above_left found)
+        above_next Equal found differs b path_step = absurd (differs refl)
+        above_next Greater found differs b path_step = subst (λ z. Above order m s v stamp tag rises node root (cond z y.forth y.back) d f) (sym path_step) (above_right found)
 
       -- it passes this one
       lost_left : (b : Bool) → R node r ≡ Less → R node r ≡ facing b → (F r ≡ facing b → ⊥) → (xs ys : List Ref)

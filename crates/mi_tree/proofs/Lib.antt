@@ -9,13 +9,13 @@ pub mod KeepingLemmas
 pub mod RankLemmas
 pub mod RetagLemmas
 pub mod BinaryTreeLemmas
-pub mod RemovalWayLemmas
+pub mod RemovalPathLemmas
 pub mod SortedLemmas
 pub mod StandingLemmas
-pub mod TurnLemmas
+pub mod PathStepLemmas
 pub mod RemoveLemmas
 pub mod RotationLemmas
 pub mod WalkLemmas
-pub mod WayLemmas
+pub mod PathLemmas
 pub mod ProbeRankLemmas
 pub mod CountLemmas

@@ -1,4 +1,4 @@
--- What the ways down find.
+-- What the paths down find.
 -- Cited by `Tree::bound`, `Tree::find`, `look::count_in`, `look::nth_in`, `look::past_rank_in`, 4 more and `mi_index`.
 use Rattle.std.proofs.Common.{◌≡◌, ℕ, suc, ◌+◌, ◌*◌, ◌<◌, ◌≤◌, Bool, true, false, cond, List, [], ◌∷◌}
 use Rattle.std.proofs.Common.{◌++◌, length, Option, Some, None, refl, sym, ap, ◌∙◌, subst, arith}
@@ -216,7 +216,7 @@ or_none : (o : Option Ref) → o ≡ or_found o None
 or_none None = refl
 or_none (Some r) = refl
 
--- the way of a search: what is found in the whole is found below, or was found before
+-- the path of a search: what is found in the whole is found below, or was found before
 module _ {T : Type 0} where
   pub record Seeking (m : Pooled T) (s : ℕ) (tag : T → ℕ) (f : Ref → Bool) (root at found : Option Ref) (read0 read step0 step : ℕ) : Type 0 where
     pub t : BinaryTree
@@ -286,7 +286,7 @@ module _ {T : Type 0} where
         let tip = tip_is m s h.u (moved m m s at None h.u refl e h.rooted) in
         (sym (ap (λ k. first_where f (nodes k)) same ∙ h.is ∙ ap (λ k. or_found (first_where f (nodes k)) found) tip), omega arith, omega arith)
 
-  -- the way to a node of an index
+  -- the path to a node of an index
   pub record Counting (m : Pooled T) (s : ℕ) (root at : Option Ref) (n0 n read0 read : ℕ) : Type 0 where
     pub t : BinaryTree
     pub u : BinaryTree
@@ -357,7 +357,7 @@ module _ {T : Type 0} where
   size_of_link m s None y e = ap (λ (z : Link). z.size) e
   size_of_link m s (Some r) y e = ap (λ (z : Link). z.size) e
 
-  -- a way down on which the link of the next node is read already
+  -- a path down on which the link of the next node is read already
   pub record Carrying (m : Pooled T) (s : ℕ) (root at back forth : Option Ref) (n0 n read0 read : ℕ) : Type 0 where
     pub counted : ℕ
     pub counting : Counting m s root at n0 n read0 counted

@@ -1,4 +1,4 @@
--- The way to a node of the tree, whose rank is counted.
+-- The path to a node of the tree, whose rank is counted.
 -- Cited by `look::rank_in`.
 use Rattle.std.proofs.Common.{◌≡◌, ℕ, ◌+◌, ◌-◌, ◌*◌, ◌^◌, ◌<◌, ◌≤◌, List, ◌∷◌, ◌++◌, length}
 use Rattle.std.proofs.Common.{Option, Some, None, refl, sym, ap, ◌∙◌, subst, arith, length-append}

@@ -1,5 +1,5 @@
 -- Turning a tree whose one side is two levels higher.
--- Cited by `balance::balance`, `balance::lean_left`, `balance::lean_left_twice`, `balance::lean_right` and 4 more.
+-- Cited by `balance::balance`, `balance::rotate_right`, `balance::rotate_left_right`, `balance::rotate_left` and 4 more.
 use Rattle.std.proofs.Common.{◌≡◌, ℕ, Bool, true, false, ◌+◌, ◌-◌, ◌<◌, ◌≤◌, max, List, [], ◌∷◌, ◌++◌, Option, Some, refl, sym, ap, ◌∙◌, subst, arith, append_assoc}
 use Rattle.mi_node.specs.Pool.{Pooled, link_of, Keeps}
 use Rattle.mi_node.specs.declared.link.Link.{Link}
@@ -169,7 +169,7 @@ module _ {T : Type 0} where
       let k = right_opened h.sides e i in let size = h.size_is in let turned : forks l + forks q + 1 ≡ forks q + forks l + 1 = omega arith in
       leaning false k.0 k.1 (size ∙ turned) h.tag_is i
 
-  -- the links that the nodes get where one turn is enough
+  -- the links that the nodes get where one rotation is enough
   pub down_put : {m : Pooled T} {s : ℕ} {x : Ref} {link : Link} {l q : BinaryTree} {r : Ref} {over : Link} (inner : Sub) {outer beside n low high : ℕ}
       (k : Leaning true m s x link l q r over) → outer ≡ height k.o.A → IsSized inner k.o.B → beside ≡ height q
       → n ≡ link.size - over.size + inner.size → low ≡ max inner.height beside + 1 → high ≡ max outer low + 1
@@ -195,7 +195,7 @@ module _ {T : Type 0} where
       → IsBoth m s x u y (record { back = Some x; forth = Some z; size = n; height = h; tag = tag }) z w A B C D
   both f first second whole = record { four = f; back = refl; forth = refl; first = first; second = second; whole = whole }
 
-  -- the same where there are two turns
+  -- the same where there are two rotations
   pub left_both_put : {m : Pooled T} {s : ℕ} {x : Ref} {link : Link} {l q : BinaryTree} {r : Ref} {over : Link} {z : Ref} {inner : Link}
       (near far : Sub) {outer beside n j low high top : ℕ} (k : Leaning true m s x link l q r over) (u : Sides m s z inner k.o.B)
       → Four m s over.back r inner.back z inner.forth x link.forth k.o.A u.A u.B q → inner.tag ≡ (link_of m z.name s).tag

@@ -228,7 +228,7 @@ module _ {T O : Type 0} where
       → IsTree l m order tag (xs ++ x ∷ ys) → IsHeld m x
   node_held {l} {m} xs x ys h = held_in m l.slot h.shape xs x ys h.nodes_are h.rooted.stands
 
-  -- the bound of a way down
+  -- the bound of a path down
   pub bound : {l : Tree O} {m : Pooled T} {order : T → T → Ordering} {tag : T → ℕ} {rs : List Ref} (h : IsTree l m order tag rs) (b : ℕ)
       → length rs < 2 ^ b → height h.shape ≤ 2 * b
   bound h b f = short h.shape h.even b (subst (λ k. k < 2 ^ b) (sym (tree_size h)) f)

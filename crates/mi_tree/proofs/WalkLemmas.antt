@@ -55,7 +55,7 @@ module _ {T : Type 0} where
   goes_depth {xs = []} h = let e = ap length h.path_is in omega arith
   goes_depth {xs = x ∷ xs} h = let e = ap length h.path_is in let i = path_length (x ∷ xs) in let room = h.pending.2 in omega arith
 
-  -- a node on the way down
+  -- a node on the path down
   pub record Entered (m : Pooled T) (s : ℕ) (d : Direction) (levels : ℕ) (items : List (Option Ref))
       (r : Ref) (y : Link) (xs : List Pending) (t : BinaryTree) : Type 0 where
     pub left : BinaryTree
@@ -139,7 +139,7 @@ down_right l r q t xs ys n k e is h =
     ∙ ap (λ z. z ++ reverse (nodes l)) (reverse-append (r ∷ []) (take k (nodes q))) ∙ append_assoc part (r ∷ []) (reverse (nodes l)) in
     h ∙ sym (append_assoc part (r ∷ reverse (nodes l)) (ahead Descending xs)) ∙ ap (λ z. z ++ ahead Descending xs) (sym whole)
 
--- what is pending on the way into either side
+-- what is pending on the path into either side
 abbrev pub pend_left : Direction → Ref → BinaryTree → List Pending → List Pending
 pend_left Ascending r q xs = record { node = r; after = q } ∷ xs
 pend_left Descending r q xs = xs
@@ -154,7 +154,7 @@ pub enters_moved : {T : Type 0} {m n : Pooled T} {s : ℕ} {d : Direction} {leve
 enters_moved {T} {s = s} {d} {levels} {xs = xs} {t} h same e f =
     subst (λ (k : Pooled T × List (Option Ref) × Option Ref). Enters k.0 s d levels k.1 k.2 xs t) (λ i. (sym same i, sym e i, sym f i)) h
 
--- the way into either side, in a pool n that is as m is; the node is pushed where the walk comes to it later
+-- the path into either side, in a pool n that is as m is; the node is pushed where the walk comes to it later
 module _ {T : Type 0} {m : Pooled T} {s levels : ℕ} {items : List (Option Ref)} {r : Ref} {y : Link} {xs : List Pending} {t : BinaryTree} where
   pub enters_left : {n : Pooled T} {new : List (Option Ref)} {up : Bool} (d : Direction) (o : Entered m s d levels items r y xs t) → n ≡ m
       → up ≡ is_ascending d → new ≡ cond up (items ++ Some r ∷ []) items → Enters n s d levels new y.back (pend_left d r o.right xs) o.left
@@ -182,17 +182,17 @@ pub goes_moved : {T : Type 0} {m n : Pooled T} {s : ℕ} {d : Direction} {levels
 goes_moved {T} {m} {n} {s} {d} {levels} {items} {xs} same h = subst (λ (z : Pooled T). Goes z s d levels items xs) same h
 
 -- the nodes ahead of a place in either side
-pub way_left : (d : Direction) (l : BinaryTree) (r : Ref) (q t : BinaryTree) (xs ys : List Pending) (n : ℕ) → t ≡ Fork l r q → n ≤ length (nodes l)
+pub path_left : (d : Direction) (l : BinaryTree) (r : Ref) (q t : BinaryTree) (xs ys : List Pending) (n : ℕ) → t ≡ Fork l r q → n ≤ length (nodes l)
     → ahead d ys ≡ beyond d (take n (nodes l)) (drop n (nodes l)) ++ ahead d (pend_left d r q xs)
     → ahead d ys ≡ beyond d (take n (nodes t)) (drop n (nodes t)) ++ ahead d xs
-way_left Ascending l r q t xs ys n e le h = up_left l r q t xs ys n e le h
-way_left Descending l r q t xs ys n e le h = down_left l r q t xs ys n e le h
+path_left Ascending l r q t xs ys n e le h = up_left l r q t xs ys n e le h
+path_left Descending l r q t xs ys n e le h = down_left l r q t xs ys n e le h
 
-pub way_right : (d : Direction) (l : BinaryTree) (r : Ref) (q t : BinaryTree) (xs ys : List Pending) (n k : ℕ) → t ≡ Fork l r q → n ≡ length (nodes l) + suc k
+pub path_right : (d : Direction) (l : BinaryTree) (r : Ref) (q t : BinaryTree) (xs ys : List Pending) (n k : ℕ) → t ≡ Fork l r q → n ≡ length (nodes l) + suc k
     → ahead d ys ≡ beyond d (take k (nodes q)) (drop k (nodes q)) ++ ahead d (pend_right d r l xs)
     → ahead d ys ≡ beyond d (take n (nodes t)) (drop n (nodes t)) ++ ahead d xs
-way_right Ascending l r q t xs ys n k e is h = up_right l r q t xs ys n k e is h
-way_right Descending l r q t xs ys n k e is h = down_right l r q t xs ys n k e is h
+path_right Ascending l r q t xs ys n k e is h = up_right l r q t xs ys n k e is h
+path_right Descending l r q t xs ys n k e is h = down_right l r q t xs ys n k e is h
 
 -- what the last node of a path is
 pub record IsPopped (xs : List Pending) (new : List (Option Ref)) (r : Ref) : Type 0 where

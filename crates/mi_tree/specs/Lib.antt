@@ -7,6 +7,6 @@ pub mod Probed
 pub mod BinaryTree
 pub mod Sorted
 pub mod Standing
-pub mod Turns
+pub mod PathSteps
 pub mod Walking
-pub mod Ways
+pub mod Paths

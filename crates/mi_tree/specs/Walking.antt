@@ -52,7 +52,7 @@ path_of [] = []
 path_of (x ∷ xs) = path_of xs ++ Some x.node ∷ []
 
 module _ {T : Type 0} where
-  -- each is held, with its subtree after it, of which every way down has room on a path of that many levels
+  -- each is held, with its subtree after it, of which every path down has room on a path of that many levels
   abbrev pub ArePending : Pooled T → ℕ → Direction → ℕ → List Pending → Type 0
   ArePending m s d levels [] = Unit {0}
   ArePending m s d levels (x ∷ xs) = IsHeld m x.node × IsRooted m s (far_of d (link_of m x.node.name s)) x.after

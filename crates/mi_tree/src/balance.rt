@@ -41,14 +41,14 @@ pub(crate) fn balance<T>(
         set_fork(p, slot, node, link);
         return (node, height);
     }
-    lean(p, slot, node, link, left.height, right.height)
+    rotate(p, slot, node, link, left.height, right.height)
 }
 
 /// Puts a node over its two sides again, which its link names and counts; they are so high, two levels apart.
 ///
 /// In line, so that its link isn't laid down for it.
 #[inline(always)]
-pub(crate) fn lean<T>(
+pub(crate) fn rotate<T>(
     p: &mut Pool<T>,
     slot: usize,
     node: NodeRef,
@@ -65,15 +65,15 @@ pub(crate) fn lean<T>(
     ensures height { result.1 ≡ height_at p.new slot (Some result.0) }
 {
     if left > right {
-        lean_left(p, slot, node, link, right)
+        rotate_right(p, slot, node, link, right)
     } else {
-        lean_right(p, slot, node, link, left)
+        rotate_left(p, slot, node, link, left)
     }
 }
 
-/// The left side is two levels higher than the right one, which is so high. What turns round is read alone: the size of the side
+/// The left side is two levels higher than the right one, which is so high. What rotates is read alone: the size of the side
 /// that stays follows from the others.
-fn lean_left<T>(
+fn rotate_right<T>(
     p: &mut Pool<T>,
     slot: usize,
     node: NodeRef,
@@ -92,7 +92,7 @@ fn lean_left<T>(
     let outer = height(p, slot, over.back);
     let inner = Sub::of(p, slot, over.forth);
     if outer < inner.height {
-        return lean_left_twice(p, slot, node, link, beside, top, over, outer);
+        return rotate_left_right(p, slot, node, link, beside, top, over, outer);
     }
     let low = inner.height.max(beside) + 1;
     let high = outer.max(low) + 1;
@@ -115,7 +115,7 @@ fn lean_left<T>(
 }
 
 /// The same where the inner side of the left one is its higher one, which comes to stand above both.
-fn lean_left_twice<T>(
+fn rotate_left_right<T>(
     p: &mut Pool<T>,
     slot: usize,
     node: NodeRef,
@@ -169,7 +169,7 @@ fn lean_left_twice<T>(
 }
 
 /// The right side is two levels higher than the left one, which is so high.
-fn lean_right<T>(
+fn rotate_left<T>(
     p: &mut Pool<T>,
     slot: usize,
     node: NodeRef,
@@ -190,7 +190,7 @@ fn lean_right<T>(
     let outer = height(p, slot, over.forth);
     let inner = Sub::of(p, slot, over.back);
     if outer < inner.height {
-        return lean_right_twice(p, slot, node, link, beside, top, over, outer);
+        return rotate_right_left(p, slot, node, link, beside, top, over, outer);
     }
     let low = beside.max(inner.height) + 1;
     let high = low.max(outer) + 1;
@@ -213,7 +213,7 @@ fn lean_right<T>(
 }
 
 /// The same where the inner side of the right one is its higher one, which comes to stand above both.
-fn lean_right_twice<T>(
+fn rotate_right_left<T>(
     p: &mut Pool<T>,
     slot: usize,
     node: NodeRef,

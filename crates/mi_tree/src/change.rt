@@ -1,4 +1,4 @@
-//! Nodes are put into a tree and taken out of it, each by one way down and back as far as heights change.
+//! Nodes are put into a tree and taken out of it, each by one path down and back as far as heights change.
 //! Links are set through `way` and `balance` alone, and nodes are only compared.
 ghost use Rattle.std.specs.Prelude.{◌≡◌, ◌<◌, ◌∷◌, ◌++◌, List, Some};
 ghost use Rattle.mi_node.specs.Pool.{link_of};
@@ -10,8 +10,8 @@ use crate::balance::balance;
 use crate::compare::compare_nodes;
 use crate::order::NodeOrder;
 use crate::parts::{Sub, height};
-use crate::turns::{START, no_nodes};
-use crate::way::{climb, go_first, go_in, go_to, replace};
+use crate::path::{climb, descend_first, descend_insert, descend_to, replace};
+use crate::path_steps::{START, no_nodes};
 use mi_node::{Counted, Link, NO_LINK, NodeRef, Pool, Tag};
 use mi_value::Steps;
 
@@ -39,8 +39,8 @@ pub(crate) fn put_in<T, O: NodeOrder<T>>(
         ..NO_LINK
     };
     let mut nodes = no_nodes();
-    let decided = order.decides(tag.key);
-    let depth = go_in(
+    let decided = order.is_complete(tag.key);
+    let depth = descend_insert(
         p, slot, order, above.back, node, tag, decided, &mut nodes, START, steps,
     );
     let mut top = above.back;
@@ -65,7 +65,7 @@ pub(crate) fn take_first<T>(
         return (root, at.forth);
     };
     let mut nodes = no_nodes();
-    let (first, depth) = go_first(p, slot, root, &mut nodes, START);
+    let (first, depth) = descend_first(p, slot, root, &mut nodes, START);
     let link = p.link(first, slot);
     let high = height(p, slot, link.forth);
     let mut rest = Some(root);
@@ -124,8 +124,8 @@ pub(crate) fn take_out<T, O: NodeOrder<T>>(
         ..NO_LINK
     };
     let mut nodes = no_nodes();
-    let decided = order.decides(tag.key);
-    let depth = go_to(
+    let decided = order.is_complete(tag.key);
+    let depth = descend_to(
         p, slot, order, above.back, node, tag, decided, &mut nodes, START, steps,
     );
     let link = p.link(node, slot);

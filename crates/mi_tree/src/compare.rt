@@ -1,5 +1,5 @@
 //! Comparisons by tags, and by values where tags don't decide.
-//! They read values through a counted pool, and no links: a caller has read those. It has also asked, once for its whole way
+//! They read values through a counted pool, and no links: a caller has read those. It has also asked, once for its whole path
 //! down, whether the tag that it goes by decides.
 ghost use Rattle.std.specs.Prelude.{◌≡◌, ◌+◌, Some};
 ghost use Rattle.mi_node.specs.Pool.{IsHeld, value_of};
@@ -50,7 +50,7 @@ pub(crate) fn compare_nodes<T, O: NodeOrder<T>>(
     )
 }
 
-/// The same by the values, and by these stamps. On a way down most nodes differ by their tags, so this
+/// The same by the values, and by these stamps. On a path down most nodes differ by their tags, so this
 /// stands apart.
 #[inline(never)]
 fn compare_values<T, O: NodeOrder<T>>(
@@ -74,11 +74,11 @@ fn compare_values<T, O: NodeOrder<T>>(
 }
 
 /// Whether the probe's tag decides: it has one, which says all of its key.
-pub(crate) fn probe_decides<T, O: NodeOrder<T>>(order: &O, probe_tag: Option<u64>) -> bool
+pub(crate) fn probe_is_complete<T, O: NodeOrder<T>>(order: &O, probe_tag: Option<u64>) -> bool
     ensures { result ≡ is_decided (O.is_exact order.now) probe_tag }
 {
     match probe_tag {
-        Some(sought) => order.decides(sought),
+        Some(sought) => order.is_complete(sought),
         None => false,
     }
 }
@@ -131,7 +131,7 @@ fn seek_value<T, O: NodeOrder<T>>(
     order.seek(p.value(node), probe, steps)
 }
 
-/// A place that a way down seeks: in front of the first node that the probe isn't after, or with `strict` of the first that it is
+/// A place that a path down seeks: in front of the first node that the probe isn't after, or with `strict` of the first that it is
 /// before. It has the probe's tag, and whether that decides.
 #[derive(Clone, Copy)]
 pub(crate) struct Sought<'a> {
@@ -171,7 +171,7 @@ pub(crate) fn compare_sought<T, O: NodeOrder<T>>(
     seek_place(p, order, node, sought, steps)
 }
 
-/// The same by the value. The place is lent, so that a way down stays a loop.
+/// The same by the value. The place is lent, so that a path down stays a loop.
 #[inline(never)]
 fn seek_place<T, O: NodeOrder<T>>(
     p: &Counted<T>,

@@ -86,7 +86,7 @@ pub(crate) fn passes_none_above<T, O: NodeOrder<T>>(
         → (IsTrue result ↔ AllAre (side_of_item (O.order order.now) p.now slot item.now.value.now item.now.tag.stamp) (facing rises) (ahead rises xs ys)) }
     ensures steps { (t : BinaryTree) → IsRooted p.now slot root t → steps.new.count ≤ steps.old.count + 2 * height t }
 {
-    let decided = order.decides(tag.key);
+    let decided = order.is_complete(tag.key);
     let mut at = root;
     while let Some(here) = at {
         let link = p.link(here, slot);

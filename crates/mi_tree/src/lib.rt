@@ -10,10 +10,10 @@ pub mod laws;
 mod look;
 mod order;
 mod parts;
+mod path;
+mod path_steps;
 mod tree;
-mod turns;
 mod walk;
-mod way;
 
 pub use order::NodeOrder;
 pub use tree::Tree;

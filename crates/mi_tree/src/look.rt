@@ -1,4 +1,4 @@
-//! Ways down from a node to one below it.
+//! Paths down from a node to one below it.
 //! They read links through a counted pool, and change nothing.
 ghost use Rattle.std.specs.Prelude.{◌≡◌, ◌+◌, ◌*◌, ◌^◌, ◌<◌, ◌≤◌, ◌∷◌, ◌++◌, List, length, true, false};
 ghost use Rattle.std.specs.List.{position_or_len};
@@ -100,7 +100,7 @@ pub(crate) fn rank_in<T, O: NodeOrder<T>>(
     ensures reads { (t : BinaryTree) → IsRooted p.old.pool slot root t → p.new.reads ≤ p.old.reads + 2 * height t }
     ensures steps { (t : BinaryTree) → IsRooted p.old.pool slot root t → steps.new.count ≤ steps.old.count + height t }
 {
-    let decided = order.decides(tag.key);
+    let decided = order.is_complete(tag.key);
     let (mut at, mut before) = (root, 0);
     while let Some(here) = at {
         let link = p.link(here, slot);
@@ -166,7 +166,7 @@ pub(crate) fn past_rank_in<T, O: NodeOrder<T>>(
     before
 }
 
-/// How many nodes of a subtree are at the probe: as many as more aren't behind it than are before it. The way down parts at the
+/// How many nodes of a subtree are at the probe: as many as more aren't behind it than are before it. The path down parts at the
 /// first node at the probe that it comes to.
 pub(crate) fn count_in<T, O: NodeOrder<T>>(
     p: &mut Counted<T>,

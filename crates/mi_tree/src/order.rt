@@ -51,7 +51,7 @@ pub trait NodeOrder<T> {
 
     /// Whether a tag says all of its key: two values that have it are equal, and each is at a probe that
     /// has it.
-    fn decides(&self, tag: u64) -> bool
+    fn is_complete(&self, tag: u64) -> bool
         ensures { result ≡ is_exact self.now tag };
 
     ghost total: { (o : Self) → IsTotalOrder (order o) };

@@ -10,7 +10,7 @@ ghost use Rattle.mi_tree.specs.Sorted.{side_of_new, IsPutIn};
 ghost use Rattle.mi_tree.specs.Probed.{is_past_node, is_node_at, first_where};
 
 use crate::change::{put_in, take_out};
-use crate::compare::{Item, Sought, compare_item, compare_probe, probe_decides};
+use crate::compare::{Item, Sought, compare_item, compare_probe, probe_is_complete};
 use crate::keeping::{passes_none, passes_none_above, side_ahead};
 use crate::look::{count_in, is_past, nth_in, past_rank_in, rank_in};
 use crate::order::NodeOrder;
@@ -133,7 +133,7 @@ impl<O> Tree<O> {
     {
         let link = p.link(node, self.slot);
         let key = self.order.tag(value);
-        let decided = self.order.decides(key);
+        let decided = self.order.is_complete(key);
         let item = Item {
             value,
             tag: Tag { key, stamp },
@@ -260,7 +260,7 @@ impl<O> Tree<O> {
         self.bound(p, probe, true, steps)
     }
 
-    /// How many nodes are before the probe: all in front of the first that isn't, in one way down. At most 2b
+    /// How many nodes are before the probe: all in front of the first that isn't, in one path down. At most 2b
     /// comparisons and 2b reads of links.
     pub fn lower_rank<T>(&self, p: &mut Counted<T>, probe: Probe<'_>, steps: &mut Steps) -> u32
     where
@@ -277,7 +277,7 @@ impl<O> Tree<O> {
         self.bound_rank(p, probe, false, steps)
     }
 
-    /// How many nodes aren't after the probe: all in front of the first that is, in one way down. At most 2b
+    /// How many nodes aren't after the probe: all in front of the first that is, in one path down. At most 2b
     /// comparisons and 2b reads of links.
     pub fn upper_rank<T>(&self, p: &mut Counted<T>, probe: Probe<'_>, steps: &mut Steps) -> u32
     where
@@ -314,7 +314,7 @@ impl<O> Tree<O> {
             → (b : ℕ) → length rs < 2 ^ b → steps.new.count ≤ steps.old.count + 2 * b }
     {
         let probe_tag = self.order.probe_tag(probe);
-        let decided = probe_decides::<T, O>(&self.order, probe_tag);
+        let decided = probe_is_complete::<T, O>(&self.order, probe_tag);
         let (mut at, mut found) = (self.root, None);
         while let Some(node) = at {
             let link = p.link(node, self.slot);
@@ -362,13 +362,13 @@ impl<O> Tree<O> {
         let sought = Sought {
             probe,
             tag,
-            decided: probe_decides::<T, O>(&self.order, tag),
+            decided: probe_is_complete::<T, O>(&self.order, tag),
             strict,
         };
         past_rank_in(p, self.slot, &self.order, self.root, &sought, steps)
     }
 
-    /// How many nodes are at the probe, in one way down, which parts at the first of them that it comes to. At most 4b comparisons and
+    /// How many nodes are at the probe, in one path down, which parts at the first of them that it comes to. At most 4b comparisons and
     /// 4b reads of links.
     pub fn count<T>(&self, p: &mut Counted<T>, probe: Probe<'_>, steps: &mut Steps) -> u32
     where
@@ -386,7 +386,7 @@ impl<O> Tree<O> {
         let sought = Sought {
             probe,
             tag,
-            decided: probe_decides::<T, O>(&self.order, tag),
+            decided: probe_is_complete::<T, O>(&self.order, tag),
             strict: false,
         };
         count_in(p, self.slot, &self.order, self.root, &sought, steps)
@@ -414,7 +414,7 @@ impl<O> Tree<O> {
             return None;
         };
         let (tag, probe_tag) = (p.link(node, self.slot).tag, self.order.probe_tag(probe));
-        let decided = probe_decides::<T, O>(&self.order, probe_tag);
+        let decided = probe_is_complete::<T, O>(&self.order, probe_tag);
         match compare_probe(p, &self.order, node, tag, probe, probe_tag, decided, steps) {
             Ordering::Equal => Some(node),
             _ => None,
@@ -461,7 +461,7 @@ impl<O> Tree<O> {
 
     /// A walk from the place behind the first `passed` nodes, up or down from there: up from the node of
     /// that rank on, counted from 0, or down from the node before it. For k nodes it reads 2k + 6b links in
-    /// all: at most 4b here, and 2k and as many as the path has levels, at most 2b, on the way.
+    /// all: at most 4b here, and 2k and as many as the path has levels, at most 2b, on the path.
     pub fn walk<T>(&self, p: &mut Counted<T>, direction: Direction, passed: u32) -> Walk
         requires { (order : T → T → Side) × (tag : T → ℕ) × (rs : List Ref) × IsTree self.now p.old.pool order tag rs }
         ensures walk { (order : T → T → Side) (tag : T → ℕ) (rs : List Ref) → IsTree self.now p.old.pool order tag rs
@@ -476,7 +476,7 @@ impl<O> Tree<O> {
 
     /// A walk from the place in front of the first node that isn't before the probe, or with `strict` of the first that is behind it:
     /// up from that node on, or down from the one before it. At most 2b comparisons, and for k nodes 2k + 4b reads of links in all:
-    /// at most 2b here, and 2k + 2b on the way.
+    /// at most 2b here, and 2k + 2b on the path.
     pub fn walk_past<T>(
         &self,
         p: &mut Counted<T>,

@@ -1,4 +1,4 @@
-//! A walk along a tree's nodes in order or against it, which remembers the way down to where it stands.
+//! A walk along a tree's nodes in order or against it, which remembers the path down to where it stands.
 //! It reads links of one slot, and changes nothing.
 ghost use Rattle.std.specs.Prelude.{◌≡◌, ◌↔◌, IsTrue, ℕ, ◌+◌, ◌*◌, ◌<◌, ◌≤◌, List, [], ◌∷◌, ◌++◌, length, drop, cond, None, Some};
 ghost use Rattle.std.specs.List.{position_or_len};
@@ -8,7 +8,7 @@ ghost use Rattle.mi_tree.specs.Sorted.{AreTagged};
 ghost use Rattle.mi_tree.specs.Probed.{is_decided, is_past_node, IsSteady};
 ghost use Rattle.mi_tree.specs.Walking.{Pending, IsWalk, Enters, Goes, ahead, onward, beyond_place, near_of, far_of, is_ascending};
 
-use crate::compare::{Sought, compare_sought, probe_decides};
+use crate::compare::{Sought, compare_sought, probe_is_complete};
 use crate::look::{is_past, size};
 use crate::order::NodeOrder;
 use arrayvec::ArrayVec;
@@ -125,7 +125,7 @@ impl Walk {
         let sought = Sought {
             probe,
             tag,
-            decided: probe_decides::<T, O>(order, tag),
+            decided: probe_is_complete::<T, O>(order, tag),
             strict,
         };
         seek_down(p, slot, direction, order, root, &sought, &mut path, steps);
@@ -164,7 +164,7 @@ impl Walk {
     }
 }
 
-/// Goes down to the first node in that direction, and puts each node on the way onto the path.
+/// Goes down to the first node in that direction, and puts each node that it passes onto the path.
 fn go_down<T>(
     p: &mut Counted<T>,
     slot: usize,

@@ -1,14 +1,14 @@
 //! A journal in a folder: it is started, asked lines and rebased as the service does it.
 ghost use Rattle.std.specs.Prelude.{◌≡◌, [], IfOk, OnOk};
-ghost use Rattle.mi_ledger.specs.Ledger.{hub_of, log_of, IsSettled};
-ghost use Rattle.mi_clients.specs.Row.{ids, Attends};
+ghost use Rattle.mi_durable.specs.Durable.{hub_of, log_of, IsSettled};
+ghost use Rattle.mi_clients.specs.Clients.{ids, Attends};
 
 use mi_base::Heading;
 use mi_catalog::Catalog;
-use mi_clients::{Client, Duplex, SchemaLine, admit, serve_all};
+use mi_clients::{Client, Duplex, SchemaLine, connect, serve_all};
 use mi_database::Linked;
+use mi_durable::Durable;
 use mi_hub::Hub;
-use mi_ledger::Ledger;
 use mi_log::Log;
 use mi_multi::MultiIndex;
 use mi_rebase::{Base, base_of, rebased};
@@ -208,39 +208,39 @@ impl<'a> Duplex for Pipe<'a> {
 /// A connection comes, and there is a turn, in which its lines are asked.
 fn serve<'a, D: Sessions + Drop, L: Log + Drop>(
     alloc: Global,
-    ledger: &mut Ledger<D, L>,
-    row: &mut Vec<Client<Pipe<'a>>>,
+    durable: &mut Durable<D, L>,
+    clients: &mut Vec<Client<Pipe<'a>>>,
     stream: Pipe<'a>,
 ) -> Result<(), JournalFailure>
-    requires attends { Attends (ids row.old.items) (hub_of ledger.old).attached }
-    requires settled { IsSettled L.appended L.synced ledger.old }
+    requires attends { Attends (ids clients.old.items) (hub_of durable.old).attached }
+    requires settled { IsSettled L.appended L.synced durable.old }
 {
     let Ok(schema) = SchemaLine::of(alloc, "a schema\n") else {
         return Err(JournalFailure::Memory);
     };
     let mut buffer = [0u8; 4096];
-    let _admission = admit(alloc, ledger, row, 2, stream)?;
-    serve_all(alloc, ledger, row, &mut buffer, false, &schema, 7)?;
+    let _admission = connect(alloc, durable, clients, 2, stream)?;
+    serve_all(alloc, durable, clients, &mut buffer, false, &schema, 7)?;
     Ok(())
 }
 
 /// What is replied to the lines of a connection that is alone.
 fn replied<D: Sessions + Drop, L: Log + Drop>(
     alloc: Global,
-    ledger: &mut Ledger<D, L>,
+    durable: &mut Durable<D, L>,
     lines: &[u8],
 ) -> Result<Vec<u8>, JournalFailure>
-    requires alone { (hub_of ledger.old).attached ≡ [] }
-    requires settled { IsSettled L.appended L.synced ledger.old }
+    requires alone { (hub_of durable.old).attached ≡ [] }
+    requires settled { IsSettled L.appended L.synced durable.old }
 {
     let out = Cell::new(Vec::new(alloc));
-    let mut row = Vec::new(alloc);
+    let mut clients = Vec::new(alloc);
     let stream = Pipe {
         alloc,
         bytes: lines,
         out: &out,
     };
-    serve(alloc, ledger, &mut row, stream)?;
+    serve(alloc, durable, &mut clients, stream)?;
     Ok(out.replace(Vec::new(alloc)))
 }
 
@@ -252,7 +252,7 @@ pub(crate) fn asked<P: JournalFiles>(
     lines: &[u8],
 ) -> Result<Vec<u8>, Refused> {
     let (hub, position) = begun(alloc, files, known)?;
-    let mut ledger = opened_behind(
+    let mut durable = opened_behind(
         alloc,
         files,
         hub,
@@ -261,7 +261,7 @@ pub(crate) fn asked<P: JournalFiles>(
         &known.schema,
         position.as_ref(),
     )?;
-    match replied(alloc, &mut ledger, lines) {
+    match replied(alloc, &mut durable, lines) {
         Ok(replies) => Ok(replies),
         Err(failure) => Err(Refused::from(JournalFault::from(failure))),
     }

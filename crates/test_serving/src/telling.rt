@@ -1,12 +1,12 @@
 //! Lines that the service answers itself, between lines of the tables, over streams in memory.
 ghost use Rattle.std.specs.Prelude.{◌≡◌, OnOk};
 ghost use Rattle.mi_log.specs.DeviceLog.{device_of};
-ghost use Rattle.mi_ledger.specs.Ledger.{hub_of, log_of, IsSettled};
-ghost use Rattle.mi_clients.specs.Row.{ids, Attends};
+ghost use Rattle.mi_durable.specs.Durable.{hub_of, log_of, IsSettled};
+ghost use Rattle.mi_clients.specs.Clients.{ids, Attends};
 
 use crate::tests::hub;
-use mi_clients::{Beside, Client, Duplex, SchemaLine, admit, end_asked, end_beside, serve_all};
-use mi_ledger::Ledger;
+use mi_clients::{Beside, Client, Duplex, SchemaLine, connect, end_asked, end_beside, serve_all};
+use mi_durable::Durable;
 use mi_log::{DeviceLog, Log, MemoryDevice};
 use mi_plain::Plain;
 use mi_sessions::Sessions;
@@ -54,17 +54,17 @@ impl<'a> Duplex for Pipe<'a> {
 /// A connection comes.
 fn come<'a, D: Sessions + Drop, L: Log + Drop>(
     alloc: Global,
-    ledger: &mut Ledger<D, L>,
-    row: &mut Vec<Client<Pipe<'a>>>,
+    durable: &mut Durable<D, L>,
+    clients: &mut Vec<Client<Pipe<'a>>>,
     conn: u64,
     stream: Pipe<'a>,
 ) -> Result<(), Fail>
-    requires attends { Attends (ids row.old.items) (hub_of ledger.old).attached }
-    requires settled { IsSettled L.appended L.synced ledger.old }
-    ensures attends { OnOk result (Attends (ids row.new.items) (hub_of ledger.new).attached) }
-    ensures settled { OnOk result (IsSettled L.appended L.synced ledger.new) }
+    requires attends { Attends (ids clients.old.items) (hub_of durable.old).attached }
+    requires settled { IsSettled L.appended L.synced durable.old }
+    ensures attends { OnOk result (Attends (ids clients.new.items) (hub_of durable.new).attached) }
+    ensures settled { OnOk result (IsSettled L.appended L.synced durable.new) }
 {
-    match admit(alloc, ledger, row, conn, stream) {
+    match connect(alloc, durable, clients, conn, stream) {
         Ok(_admission) => Ok(()),
         Err(_fault) => Err(Fail::from("a connection isn't admitted")),
     }
@@ -73,18 +73,18 @@ fn come<'a, D: Sessions + Drop, L: Log + Drop>(
 /// One turn.
 fn turn<'a, D: Sessions + Drop, L: Log + Drop>(
     alloc: Global,
-    ledger: &mut Ledger<D, L>,
-    row: &mut Vec<Client<Pipe<'a>>>,
+    durable: &mut Durable<D, L>,
+    clients: &mut Vec<Client<Pipe<'a>>>,
 ) -> Result<(), Fail>
-    requires attends { Attends (ids row.old.items) (hub_of ledger.old).attached }
-    requires settled { IsSettled L.appended L.synced ledger.old }
-    ensures attends { OnOk result (Attends (ids row.new.items) (hub_of ledger.new).attached) }
-    ensures settled { OnOk result (IsSettled L.appended L.synced ledger.new) }
+    requires attends { Attends (ids clients.old.items) (hub_of durable.old).attached }
+    requires settled { IsSettled L.appended L.synced durable.old }
+    ensures attends { OnOk result (Attends (ids clients.new.items) (hub_of durable.new).attached) }
+    ensures settled { OnOk result (IsSettled L.appended L.synced durable.new) }
 {
     let schema = SchemaLine::of(alloc, "a \"t\"\n")?;
     let mut buffer = [0u8; 4096];
-    end_asked(row);
-    match serve_all(alloc, ledger, row, &mut buffer, false, &schema, 7) {
+    end_asked(clients);
+    match serve_all(alloc, durable, clients, &mut buffer, false, &schema, 7) {
         Ok(()) => Ok(()),
         Err(_fault) => Err(Fail::from("a turn fails")),
     }
@@ -93,19 +93,19 @@ fn turn<'a, D: Sessions + Drop, L: Log + Drop>(
 /// Connections 2 and 3 come with these streams, and there are three turns.
 fn three_turns<'a, D: Sessions + Drop, L: Log + Drop>(
     alloc: Global,
-    ledger: &mut Ledger<D, L>,
-    row: &mut Vec<Client<Pipe<'a>>>,
+    durable: &mut Durable<D, L>,
+    clients: &mut Vec<Client<Pipe<'a>>>,
     first: Pipe<'a>,
     second: Pipe<'a>,
 ) -> Result<(), Fail>
-    requires attends { Attends (ids row.old.items) (hub_of ledger.old).attached }
-    requires settled { IsSettled L.appended L.synced ledger.old }
+    requires attends { Attends (ids clients.old.items) (hub_of durable.old).attached }
+    requires settled { IsSettled L.appended L.synced durable.old }
 {
-    come(alloc, ledger, row, 2, first)?;
-    come(alloc, ledger, row, 3, second)?;
-    turn(alloc, ledger, row)?;
-    turn(alloc, ledger, row)?;
-    turn(alloc, ledger, row)
+    come(alloc, durable, clients, 2, first)?;
+    come(alloc, durable, clients, 3, second)?;
+    turn(alloc, durable, clients)?;
+    turn(alloc, durable, clients)?;
+    turn(alloc, durable, clients)
 }
 
 /// Three turns of two connections, 2 and 3, that have sent these bytes, over a journal that has room for so many.
@@ -118,9 +118,9 @@ fn serve_two<'a>(
     let mut device = MemoryDevice::new(alloc, 100, 100);
     device.set_size(room);
     let log = DeviceLog::new(device);
-    let mut ledger = Ledger::<Plain, DeviceLog<MemoryDevice>>::new(hub(alloc)?, log);
-    let mut row = Vec::new(alloc);
-    three_turns(alloc, &mut ledger, &mut row, first, second)
+    let mut durable = Durable::<Plain, DeviceLog<MemoryDevice>>::new(hub(alloc)?, log);
+    let mut clients = Vec::new(alloc);
+    three_turns(alloc, &mut durable, &mut clients, first, second)
 }
 
 /// What is replied to connection 3, beside connection 2, which has sent other bytes.
@@ -250,17 +250,17 @@ fn a_holder_is_ended(rt: HostRuntime) -> Result<(), Fail> {
     Ok(())
 }
 
-/// Two lines of the connection beside a row are answered.
+/// Two lines of the connection beside a list are answered.
 fn serve_lines<'a, D: Sessions + Drop, L: Log + Drop>(
     alloc: Global,
-    ledger: &Ledger<D, L>,
-    row: &[Client<Pipe<'a>>],
+    durable: &Durable<D, L>,
+    clients: &[Client<Pipe<'a>>],
     beside: &mut Beside<Pipe<'a>>,
 ) -> Result<(), Fail> {
     let schema = SchemaLine::of(alloc, "a \"t\"\n")?;
     let mut buffer = [0u8; 4096];
     for _line in 0..2u64 {
-        beside.serve(alloc, ledger, row, &mut buffer, &schema, 7);
+        beside.serve(alloc, durable, clients, &mut buffer, &schema, 7);
     }
     Ok(())
 }
@@ -268,32 +268,32 @@ fn serve_lines<'a, D: Sessions + Drop, L: Log + Drop>(
 /// Connection 2 comes with a stream. The one beside it is served four times, and what that has asked to end is ended in between.
 fn turns_beside<'a, D: Sessions + Drop, L: Log + Drop>(
     alloc: Global,
-    ledger: &mut Ledger<D, L>,
-    row: &mut Vec<Client<Pipe<'a>>>,
+    durable: &mut Durable<D, L>,
+    clients: &mut Vec<Client<Pipe<'a>>>,
     first: Pipe<'a>,
     beside: &mut Beside<Pipe<'a>>,
 ) -> Result<(), Fail>
-    requires attends { Attends (ids row.old.items) (hub_of ledger.old).attached }
-    requires settled { IsSettled L.appended L.synced ledger.old }
+    requires attends { Attends (ids clients.old.items) (hub_of durable.old).attached }
+    requires settled { IsSettled L.appended L.synced durable.old }
 {
-    come(alloc, ledger, row, 2, first)?;
-    turn(alloc, ledger, row)?;
-    serve_lines(alloc, ledger, row.as_slice(), beside)?;
-    end_beside(beside, row);
-    serve_lines(alloc, ledger, row.as_slice(), beside)?;
-    turn(alloc, ledger, row)
+    come(alloc, durable, clients, 2, first)?;
+    turn(alloc, durable, clients)?;
+    serve_lines(alloc, durable, clients.as_slice(), beside)?;
+    end_beside(beside, clients);
+    serve_lines(alloc, durable, clients.as_slice(), beside)?;
+    turn(alloc, durable, clients)
 }
 
 /// A connection beside connection 2 is served four times, and what it has asked to end is ended in between. Whether connection 2 is gone then, nobody holds
 /// sessions, and the other one, whose last line was none of the service's, is gone too.
 fn serve_beside<'a>(alloc: Global, first: Pipe<'a>, other: Pipe<'a>) -> Result<bool, Fail> {
     let log = DeviceLog::new(MemoryDevice::new(alloc, 100, 100));
-    let mut ledger = Ledger::<Plain, DeviceLog<MemoryDevice>>::new(hub(alloc)?, log);
-    let mut row = Vec::new(alloc);
+    let mut durable = Durable::<Plain, DeviceLog<MemoryDevice>>::new(hub(alloc)?, log);
+    let mut clients = Vec::new(alloc);
     let mut beside = Beside::new();
-    beside.seat(alloc, 3, other);
-    match turns_beside(alloc, &mut ledger, &mut row, first, &mut beside) {
-        Ok(()) => Ok(row.is_empty() && ledger.hub().holder().is_none() && beside.is_free()),
+    beside.push_client(alloc, 3, other);
+    match turns_beside(alloc, &mut durable, &mut clients, first, &mut beside) {
+        Ok(()) => Ok(clients.is_empty() && durable.hub().holder().is_none() && beside.is_free()),
         Err(fail) => Err(fail),
     }
 }

@@ -199,7 +199,7 @@ fn left_of(
         &schema,
         None,
     ) {
-        Ok(ledger) => bytes_of(alloc, ledger.log().device().file()),
+        Ok(durable) => bytes_of(alloc, durable.log().device().file()),
         Err(fault) => Ok(Err(Failure::of_journal(fault.failure).to_string(alloc)?)),
     }
 }

@@ -1,2 +1,2 @@
 pub mod Handle
-pub mod Given
+pub mod OptionalId

@@ -11,17 +11,17 @@ ghost use Rattle.mi_embed.specs.Opening.{IsOpened};
 ghost use Rattle.mi_embed.specs.State.{EngineState, line_of, IsCopied};
 ghost use Rattle.weltiyo.specs.Handle.{engine_at, engine_where, TellsOpening};
 
-mod given;
 mod look_ups;
-mod loose;
 mod names;
 mod opened;
+mod optional_id;
 mod pages;
+mod raw_box;
 mod typed;
 
-use loose::Loose;
 use mi_embed::{Engine, OpenFault};
 use opened::Opened;
+use raw_box::RawBox;
 use std::alloc::Global;
 
 /// The engine that a schema's text opens, at an address of its own.
@@ -37,7 +37,7 @@ fn open_engine(alloc: Global, schema: &[u8], secret: u64) -> Opened
     ensures { TellsOpening schema.now result.status result.engine }
 {
     match boxed(alloc, schema, secret) {
-        Ok(made) => Opened::of(Loose::of(made)),
+        Ok(made) => Opened::of(RawBox::of(made)),
         Err(fault) => Opened::none(fault.status()),
     }
 }
@@ -128,8 +128,8 @@ pub unsafe extern "C" fn weltiyo_release(at: *mut u8, conn: u64)
 }
 
 /// The engine is let go of.
-fn freed(loose: Loose<Engine, Global>) {
-    let _whole = loose.into_box();
+fn freed(raw_box: RawBox<Engine, Global>) {
+    let _whole = raw_box.into_box();
 }
 
 /// Frees all that an engine holds, and its block.
@@ -138,7 +138,7 @@ pub unsafe extern "C" fn weltiyo_close(alloc: Global, at: *mut u8)
     ghost engine: { EngineState }
     requires* { sem 𝓛 (engine_at at engine) }
 {
-    freed(Loose {
+    freed(RawBox {
         at: at as *mut Engine,
         alloc,
     });

@@ -2,24 +2,24 @@
 ghost use Rattle.std.specs.Prelude.{◌≡◌};
 ghost use types.Logic.{sem};
 ghost use Rattle.mi_embed.specs.State.{EngineState};
-ghost use Rattle.mi_embed.specs.Told.{number_told};
+ghost use Rattle.mi_embed.specs.CallResults.{number_told};
 ghost use Rattle.mi_embed.specs.LookUps as look;
 ghost use Rattle.mi_embed.specs.LookUps.{TellsNumber, TellsFound, MayTellFound};
 ghost use Rattle.weltiyo.specs.Handle.{engine_at};
 
-use mi_embed::{Cell, Engine, Told};
+use mi_embed::{CallResult, Cell, Engine};
 
 /// Tells how many records a table has.
-fn sized(engine: &mut Engine, table: usize) -> Told
+fn sized(engine: &mut Engine, table: usize) -> CallResult
     ensures same { engine.new ≡ engine.old }
     ensures told { result ≡ number_told (look.size_by engine.old.held table) }
 {
-    Told::number(engine.size(table))
+    CallResult::number(engine.size(table))
 }
 
 /// Tells how many records a table has.
 #[unsafe(no_mangle)]
-pub unsafe extern "C" fn weltiyo_size(at: *mut u8, table: usize) -> Told
+pub unsafe extern "C" fn weltiyo_size(at: *mut u8, table: usize) -> CallResult
     ghost engine: { EngineState }
     requires* { sem 𝓛 (engine_at at engine) }
     ensures* { sem 𝓛 (engine_at at engine) ∗ ⌜ result ≡ number_told (look.size_by engine.held table) ⌝ }
@@ -28,11 +28,17 @@ pub unsafe extern "C" fn weltiyo_size(at: *mut u8, table: usize) -> Told
 }
 
 /// Tells how many records have a key.
-fn counted(engine: &mut Engine, table: usize, index: usize, key: &[Cell], texts: &[u8]) -> Told
+fn counted(
+    engine: &mut Engine,
+    table: usize,
+    index: usize,
+    key: &[Cell],
+    texts: &[u8],
+) -> CallResult
     ensures same { engine.new ≡ engine.old }
     ensures told { TellsNumber (look.count_by engine.old.held table index key.now texts.now) result }
 {
-    Told::number(engine.count(table, index, key, texts))
+    CallResult::number(engine.count(table, index, key, texts))
 }
 
 /// Tells how many records have a key, or in an ordered or ranked index the first values of one.
@@ -43,7 +49,7 @@ pub unsafe extern "C" fn weltiyo_count(
     index: usize,
     key: &[Cell],
     texts: &[u8],
-) -> Told
+) -> CallResult
     ghost engine: { EngineState }
     requires* { sem 𝓛 (engine_at at engine) }
     ensures* { sem 𝓛 (engine_at at engine) ∗ ⌜ TellsNumber (look.count_by engine.held table index key.now texts.now) result ⌝ }
@@ -52,16 +58,21 @@ pub unsafe extern "C" fn weltiyo_count(
 }
 
 /// Tells how many records stand before one.
-fn ranked(engine: &mut Engine, table: usize, index: usize, id: u64) -> Told
+fn ranked(engine: &mut Engine, table: usize, index: usize, id: u64) -> CallResult
     ensures same { engine.new ≡ engine.old }
     ensures told { result ≡ number_told (look.rank_by engine.old.held table index id) }
 {
-    Told::number(engine.rank(table, index, id))
+    CallResult::number(engine.rank(table, index, id))
 }
 
 /// Tells how many records stand before one in a ranked index.
 #[unsafe(no_mangle)]
-pub unsafe extern "C" fn weltiyo_rank(at: *mut u8, table: usize, index: usize, id: u64) -> Told
+pub unsafe extern "C" fn weltiyo_rank(
+    at: *mut u8,
+    table: usize,
+    index: usize,
+    id: u64,
+) -> CallResult
     ghost engine: { EngineState }
     requires* { sem 𝓛 (engine_at at engine) }
     ensures* { sem 𝓛 (engine_at at engine) ∗ ⌜ result ≡ number_told (look.rank_by engine.held table index id) ⌝ }
@@ -70,11 +81,17 @@ pub unsafe extern "C" fn weltiyo_rank(at: *mut u8, table: usize, index: usize, i
 }
 
 /// Tells how many keys are less than a key.
-fn ranked_below(engine: &mut Engine, table: usize, index: usize, key: &[Cell], texts: &[u8]) -> Told
+fn ranked_below(
+    engine: &mut Engine,
+    table: usize,
+    index: usize,
+    key: &[Cell],
+    texts: &[u8],
+) -> CallResult
     ensures same { engine.new ≡ engine.old }
     ensures told { TellsNumber (look.lower_rank_by engine.old.held table index key.now texts.now) result }
 {
-    Told::number(engine.lower_rank(table, index, key, texts))
+    CallResult::number(engine.lower_rank(table, index, key, texts))
 }
 
 /// Tells how many keys of a ranked index are less than a key or the first values of one.
@@ -85,7 +102,7 @@ pub unsafe extern "C" fn weltiyo_lower_rank(
     index: usize,
     key: &[Cell],
     texts: &[u8],
-) -> Told
+) -> CallResult
     ghost engine: { EngineState }
     requires* { sem 𝓛 (engine_at at engine) }
     ensures* { sem 𝓛 (engine_at at engine) ∗ ⌜ TellsNumber (look.lower_rank_by engine.held table index key.now texts.now) result ⌝ }
@@ -94,11 +111,17 @@ pub unsafe extern "C" fn weltiyo_lower_rank(
 }
 
 /// Tells how many keys are not greater than a key.
-fn ranked_up_to(engine: &mut Engine, table: usize, index: usize, key: &[Cell], texts: &[u8]) -> Told
+fn ranked_up_to(
+    engine: &mut Engine,
+    table: usize,
+    index: usize,
+    key: &[Cell],
+    texts: &[u8],
+) -> CallResult
     ensures same { engine.new ≡ engine.old }
     ensures told { TellsNumber (look.upper_rank_by engine.old.held table index key.now texts.now) result }
 {
-    Told::number(engine.upper_rank(table, index, key, texts))
+    CallResult::number(engine.upper_rank(table, index, key, texts))
 }
 
 /// Tells how many keys of a ranked index are not greater than a key or the first values of one.
@@ -109,7 +132,7 @@ pub unsafe extern "C" fn weltiyo_upper_rank(
     index: usize,
     key: &[Cell],
     texts: &[u8],
-) -> Told
+) -> CallResult
     ghost engine: { EngineState }
     requires* { sem 𝓛 (engine_at at engine) }
     ensures* { sem 𝓛 (engine_at at engine) ∗ ⌜ TellsNumber (look.upper_rank_by engine.held table index key.now texts.now) result ⌝ }
@@ -126,7 +149,7 @@ fn found(
     key_texts: &[u8],
     cells: &mut [Cell],
     texts: &mut [u8],
-) -> Told
+) -> CallResult
     ensures same { engine.new ≡ engine.old }
     ensures told { MayTellFound (look.find_by engine.old.held table index key.now key_texts.now) result cells.old cells.new texts.old texts.new }
 {
@@ -143,7 +166,7 @@ pub unsafe extern "C" fn weltiyo_find(
     key_texts: &[u8],
     cells: &mut [Cell],
     texts: &mut [u8],
-) -> Told
+) -> CallResult
     ghost engine: { EngineState }
     requires* { sem 𝓛 (engine_at at engine) }
     ensures* { sem 𝓛 (engine_at at engine) ∗ ⌜ MayTellFound (look.find_by engine.held table index key.now key_texts.now)
@@ -168,7 +191,7 @@ fn at_rank(
     n: u64,
     cells: &mut [Cell],
     texts: &mut [u8],
-) -> Told
+) -> CallResult
     ensures same { engine.new ≡ engine.old }
     ensures told { TellsFound (look.nth_by engine.old.held table index n) result cells.old cells.new texts.old texts.new }
 {
@@ -184,7 +207,7 @@ pub unsafe extern "C" fn weltiyo_nth(
     n: u64,
     cells: &mut [Cell],
     texts: &mut [u8],
-) -> Told
+) -> CallResult
     ghost engine: { EngineState }
     requires* { sem 𝓛 (engine_at at engine) }
     ensures* { sem 𝓛 (engine_at at engine) ∗ ⌜ TellsFound (look.nth_by engine.held table index n) result cells.old cells.new texts.old texts.new ⌝ }

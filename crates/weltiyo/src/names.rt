@@ -2,23 +2,23 @@
 ghost use Rattle.std.specs.Prelude.{◌≡◌};
 ghost use types.Logic.{sem};
 ghost use Rattle.mi_embed.specs.State.{EngineState};
-ghost use Rattle.mi_embed.specs.Told.{number_told};
+ghost use Rattle.mi_embed.specs.CallResults.{number_told};
 ghost use Rattle.mi_embed.specs.Named as meaning;
 ghost use Rattle.weltiyo.specs.Handle.{engine_at};
 
-use mi_embed::{Engine, Told};
+use mi_embed::{CallResult, Engine};
 
 /// Tells the number of the table of a name.
-fn table_named(engine: &mut Engine, name: &[u8]) -> Told
+fn table_named(engine: &mut Engine, name: &[u8]) -> CallResult
     ensures same { engine.new ≡ engine.old }
     ensures told { result ≡ number_told (meaning.table_named engine.old.held name.now) }
 {
-    Told::number(engine.table_named(name))
+    CallResult::number(engine.table_named(name))
 }
 
 /// Tells the number of the table of a name.
 #[unsafe(no_mangle)]
-pub unsafe extern "C" fn weltiyo_table(at: *mut u8, name: &[u8]) -> Told
+pub unsafe extern "C" fn weltiyo_table(at: *mut u8, name: &[u8]) -> CallResult
     ghost engine: { EngineState }
     requires* { sem 𝓛 (engine_at at engine) }
     ensures* { sem 𝓛 (engine_at at engine) ∗ ⌜ result ≡ number_told (meaning.table_named engine.held name.now) ⌝ }
@@ -27,16 +27,16 @@ pub unsafe extern "C" fn weltiyo_table(at: *mut u8, name: &[u8]) -> Told
 }
 
 /// Tells the number of the index of a name.
-fn index_named(engine: &mut Engine, table: usize, name: &[u8]) -> Told
+fn index_named(engine: &mut Engine, table: usize, name: &[u8]) -> CallResult
     ensures same { engine.new ≡ engine.old }
     ensures told { result ≡ number_told (meaning.index_named engine.old.held table name.now) }
 {
-    Told::number(engine.index_named(table, name))
+    CallResult::number(engine.index_named(table, name))
 }
 
 /// Tells the number of the index of a name.
 #[unsafe(no_mangle)]
-pub unsafe extern "C" fn weltiyo_index(at: *mut u8, table: usize, name: &[u8]) -> Told
+pub unsafe extern "C" fn weltiyo_index(at: *mut u8, table: usize, name: &[u8]) -> CallResult
     ghost engine: { EngineState }
     requires* { sem 𝓛 (engine_at at engine) }
     ensures* { sem 𝓛 (engine_at at engine) ∗ ⌜ result ≡ number_told (meaning.index_named engine.held table name.now) ⌝ }
@@ -45,16 +45,16 @@ pub unsafe extern "C" fn weltiyo_index(at: *mut u8, table: usize, name: &[u8]) -
 }
 
 /// Tells the number of the column of a name.
-fn column_named(engine: &mut Engine, table: usize, name: &[u8]) -> Told
+fn column_named(engine: &mut Engine, table: usize, name: &[u8]) -> CallResult
     ensures same { engine.new ≡ engine.old }
     ensures told { result ≡ number_told (meaning.column_named engine.old.held table name.now) }
 {
-    Told::number(engine.column_named(table, name))
+    CallResult::number(engine.column_named(table, name))
 }
 
 /// Tells the number of the column of a name.
 #[unsafe(no_mangle)]
-pub unsafe extern "C" fn weltiyo_column(at: *mut u8, table: usize, name: &[u8]) -> Told
+pub unsafe extern "C" fn weltiyo_column(at: *mut u8, table: usize, name: &[u8]) -> CallResult
     ghost engine: { EngineState }
     requires* { sem 𝓛 (engine_at at engine) }
     ensures* { sem 𝓛 (engine_at at engine) ∗ ⌜ result ≡ number_told (meaning.column_named engine.held table name.now) ⌝ }

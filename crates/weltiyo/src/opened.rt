@@ -3,7 +3,7 @@ ghost use Rattle.std.specs.Prelude.{◌≡◌, ◌<◌};
 ghost use Rattle.mi_embed.specs.State.{EngineState};
 ghost use Rattle.mi_embed.specs.contracts.engine.Engine.{the_row};
 
-use crate::loose::Loose;
+use crate::raw_box::RawBox;
 use mi_embed::Engine;
 use std::alloc::Global;
 use std::marker::Model;
@@ -24,11 +24,11 @@ impl Model for Opened {
 
 impl Opened {
     /// An engine, at its address.
-    pub(crate) fn of(loose: Loose<Engine, Global>) -> Opened
+    pub(crate) fn of(raw_box: RawBox<Engine, Global>) -> Opened
         ensures status { result.status ≡ 0 }
-        ensures engine { result.engine ≡ loose.value }
+        ensures engine { result.engine ≡ raw_box.value }
     {
-        let Loose { at, alloc: _ } = loose;
+        let RawBox { at, alloc: _ } = raw_box;
         Opened { at, status: 0 }
     }
 

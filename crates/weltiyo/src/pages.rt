@@ -4,11 +4,11 @@ ghost use types.Logic.{sem};
 ghost use Rattle.mi_embed.specs.State.{EngineState};
 ghost use Rattle.mi_embed.specs.Pages as pages;
 ghost use Rattle.mi_embed.specs.Pages.{page_limit, MayTellPage};
-ghost use Rattle.weltiyo.specs.Given.{given};
+ghost use Rattle.weltiyo.specs.OptionalId.{optional_id};
 ghost use Rattle.weltiyo.specs.Handle.{engine_at};
 
-use crate::given::given;
-use mi_embed::{Cell, End, Engine, Told};
+use crate::optional_id::optional_id;
+use mi_embed::{CallResult, Cell, End, Engine};
 
 /// Puts the rows between two bounds into ids, cells and bytes, and tells how many they are.
 fn ranged(
@@ -24,7 +24,7 @@ fn ranged(
     ids: &mut [u64],
     cells: &mut [Cell],
     texts: &mut [u8],
-) -> Told
+) -> CallResult
     ensures same { engine.new ≡ engine.old }
     ensures told { MayTellPage (pages.range_by engine.old.held table index lower lower_key.now upper upper_key.now
         key_texts.now (not (reverse == 0)) (page_limit ids.old))
@@ -60,7 +60,7 @@ pub unsafe extern "C" fn weltiyo_range(
     ids: &mut [u64],
     cells: &mut [Cell],
     texts: &mut [u8],
-) -> Told
+) -> CallResult
     ghost engine: { EngineState }
     requires* { sem 𝓛 (engine_at at engine) }
     ensures* { sem 𝓛 (engine_at at engine) ∗ ⌜ MayTellPage (pages.range_by engine.held table index lower lower_key.now upper upper_key.now
@@ -93,12 +93,19 @@ fn listed(
     ids: &mut [u64],
     cells: &mut [Cell],
     texts: &mut [u8],
-) -> Told
+) -> CallResult
     ensures same { engine.new ≡ engine.old }
-    ensures told { MayTellPage (pages.list_by engine.old.held table index (given has_after after) (page_limit ids.old))
+    ensures told { MayTellPage (pages.list_by engine.old.held table index (optional_id has_after after) (page_limit ids.old))
         result ids.old ids.new cells.old cells.new texts.old texts.new }
 {
-    engine.list(table, index, given(has_after, after), ids, cells, texts)
+    engine.list(
+        table,
+        index,
+        optional_id(has_after, after),
+        ids,
+        cells,
+        texts,
+    )
 }
 
 /// Puts the rows of a sequenced index behind the record `after` into ids, cells and bytes, and tells how many they are and whether others
@@ -113,10 +120,10 @@ pub unsafe extern "C" fn weltiyo_list(
     ids: &mut [u64],
     cells: &mut [Cell],
     texts: &mut [u8],
-) -> Told
+) -> CallResult
     ghost engine: { EngineState }
     requires* { sem 𝓛 (engine_at at engine) }
-    ensures* { sem 𝓛 (engine_at at engine) ∗ ⌜ MayTellPage (pages.list_by engine.held table index (given has_after after) (page_limit ids.old))
+    ensures* { sem 𝓛 (engine_at at engine) ∗ ⌜ MayTellPage (pages.list_by engine.held table index (optional_id has_after after) (page_limit ids.old))
         result ids.old ids.new cells.old cells.new texts.old texts.new ⌝ }
 {
     listed(

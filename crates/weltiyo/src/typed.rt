@@ -6,14 +6,20 @@ ghost use Rattle.mi_embed.specs.State.{EngineState};
 ghost use Rattle.mi_embed.specs.Calls as call;
 ghost use Rattle.mi_embed.specs.Calls.{Tells};
 ghost use Rattle.mi_embed.specs.Shown.{got, TellsRow};
-ghost use Rattle.weltiyo.specs.Given.{given};
+ghost use Rattle.weltiyo.specs.OptionalId.{optional_id};
 ghost use Rattle.weltiyo.specs.Handle.{engine_at};
 
-use crate::given::given;
-use mi_embed::{Cell, EditCell, Engine, Told};
+use crate::optional_id::optional_id;
+use mi_embed::{CallResult, Cell, EditCell, Engine};
 
 /// Adds a record, and tells its id.
-fn inserted(engine: &mut Engine, conn: u64, table: usize, cells: &[Cell], texts: &[u8]) -> Told
+fn inserted(
+    engine: &mut Engine,
+    conn: u64,
+    table: usize,
+    cells: &[Cell],
+    texts: &[u8],
+) -> CallResult
     ensures { Tells conn (call.insert table cells.now texts.now) result engine.old engine.new }
 {
     engine.insert(conn, table, cells, texts)
@@ -27,7 +33,7 @@ pub unsafe extern "C" fn weltiyo_insert(
     table: usize,
     cells: &[Cell],
     texts: &[u8],
-) -> Told
+) -> CallResult
     ghost engine: { EngineState }
     requires* { sem 𝓛 (engine_at at engine) }
     ensures* { sem 𝓛 (fex EngineState (λ new. fex (Tells conn (call.insert table cells.now texts.now) result engine new)
@@ -37,7 +43,13 @@ pub unsafe extern "C" fn weltiyo_insert(
 }
 
 /// Puts a record into cells and bytes, and tells its id.
-fn shown(engine: &mut Engine, table: usize, id: u64, cells: &mut [Cell], texts: &mut [u8]) -> Told
+fn shown(
+    engine: &mut Engine,
+    table: usize,
+    id: u64,
+    cells: &mut [Cell],
+    texts: &mut [u8],
+) -> CallResult
     ensures same { engine.new ≡ engine.old }
     ensures row { TellsRow id (got engine.old.held table id) result cells.old cells.new texts.old texts.new }
 {
@@ -52,7 +64,7 @@ pub unsafe extern "C" fn weltiyo_get(
     id: u64,
     cells: &mut [Cell],
     texts: &mut [u8],
-) -> Told
+) -> CallResult
     ghost engine: { EngineState }
     requires* { sem 𝓛 (engine_at at engine) }
     ensures* { sem 𝓛 (engine_at at engine) ∗ ⌜ TellsRow id (got engine.held table id) result cells.old cells.new texts.old texts.new ⌝ }
@@ -61,7 +73,7 @@ pub unsafe extern "C" fn weltiyo_get(
 }
 
 /// Opens a session, and tells the new revision.
-fn started(engine: &mut Engine, conn: u64) -> Told
+fn started(engine: &mut Engine, conn: u64) -> CallResult
     ensures { Tells conn call.start result engine.old engine.new }
 {
     engine.start(conn)
@@ -69,7 +81,7 @@ fn started(engine: &mut Engine, conn: u64) -> Told
 
 /// Opens a session, which the connection then holds, and tells the new revision.
 #[unsafe(no_mangle)]
-pub unsafe extern "C" fn weltiyo_start(at: *mut u8, conn: u64) -> Told
+pub unsafe extern "C" fn weltiyo_start(at: *mut u8, conn: u64) -> CallResult
     ghost engine: { EngineState }
     requires* { sem 𝓛 (engine_at at engine) }
     ensures* { sem 𝓛 (fex EngineState (λ new. fex (Tells conn call.start result engine new) (λ _. engine_at at new))) }
@@ -78,7 +90,7 @@ pub unsafe extern "C" fn weltiyo_start(at: *mut u8, conn: u64) -> Told
 }
 
 /// Undoes the newest session, and tells the new revision.
-fn undone(engine: &mut Engine, conn: u64) -> Told
+fn undone(engine: &mut Engine, conn: u64) -> CallResult
     ensures { Tells conn call.undo result engine.old engine.new }
 {
     engine.undo(conn)
@@ -86,7 +98,7 @@ fn undone(engine: &mut Engine, conn: u64) -> Told
 
 /// Undoes the newest session, and tells the new revision. It takes no memory.
 #[unsafe(no_mangle)]
-pub unsafe extern "C" fn weltiyo_undo(at: *mut u8, conn: u64) -> Told
+pub unsafe extern "C" fn weltiyo_undo(at: *mut u8, conn: u64) -> CallResult
     ghost engine: { EngineState }
     requires* { sem 𝓛 (engine_at at engine) }
     ensures* { sem 𝓛 (fex EngineState (λ new. fex (Tells conn call.undo result engine new) (λ _. engine_at at new))) }
@@ -102,7 +114,7 @@ fn replaced(
     id: u64,
     cells: &[Cell],
     texts: &[u8],
-) -> Told
+) -> CallResult
     ensures { Tells conn (call.replace table id cells.now texts.now) result engine.old engine.new }
 {
     engine.replace(conn, table, id, cells, texts)
@@ -117,7 +129,7 @@ pub unsafe extern "C" fn weltiyo_replace(
     id: u64,
     cells: &[Cell],
     texts: &[u8],
-) -> Told
+) -> CallResult
     ghost engine: { EngineState }
     requires* { sem 𝓛 (engine_at at engine) }
     ensures* { sem 𝓛 (fex EngineState (λ new. fex (Tells conn (call.replace table id cells.now texts.now) result engine new)
@@ -135,7 +147,7 @@ fn added(
     column: usize,
     n: i64,
     rollback: u32,
-) -> Told
+) -> CallResult
     ensures { Tells conn (call.modify_add table id column n (not (rollback == 0))) result engine.old engine.new }
 {
     engine.modify_add(conn, table, id, column, n, rollback != 0)
@@ -151,7 +163,7 @@ pub unsafe extern "C" fn weltiyo_modify_add(
     column: usize,
     n: i64,
     rollback: u32,
-) -> Told
+) -> CallResult
     ghost engine: { EngineState }
     requires* { sem 𝓛 (engine_at at engine) }
     ensures* { sem 𝓛 (fex EngineState (λ new. fex (Tells conn (call.modify_add table id column n (not (rollback == 0)))
@@ -169,7 +181,7 @@ pub unsafe extern "C" fn weltiyo_modify_add(
 }
 
 /// Erases a record.
-fn erased(engine: &mut Engine, conn: u64, table: usize, id: u64) -> Told
+fn erased(engine: &mut Engine, conn: u64, table: usize, id: u64) -> CallResult
     ensures { Tells conn (call.erase table id) result engine.old engine.new }
 {
     engine.erase(conn, table, id)
@@ -177,7 +189,7 @@ fn erased(engine: &mut Engine, conn: u64, table: usize, id: u64) -> Told
 
 /// Erases a record.
 #[unsafe(no_mangle)]
-pub unsafe extern "C" fn weltiyo_erase(at: *mut u8, conn: u64, table: usize, id: u64) -> Told
+pub unsafe extern "C" fn weltiyo_erase(at: *mut u8, conn: u64, table: usize, id: u64) -> CallResult
     ghost engine: { EngineState }
     requires* { sem 𝓛 (engine_at at engine) }
     ensures* { sem 𝓛 (fex EngineState (λ new. fex (Tells conn (call.erase table id) result engine new) (λ _. engine_at at new))) }
@@ -186,7 +198,7 @@ pub unsafe extern "C" fn weltiyo_erase(at: *mut u8, conn: u64, table: usize, id:
 }
 
 /// Joins the newest session into the one below, and tells the new revision.
-fn squashed(engine: &mut Engine, conn: u64) -> Told
+fn squashed(engine: &mut Engine, conn: u64) -> CallResult
     ensures { Tells conn call.squash result engine.old engine.new }
 {
     engine.squash(conn)
@@ -194,7 +206,7 @@ fn squashed(engine: &mut Engine, conn: u64) -> Told
 
 /// Joins the newest session into the one below, and tells the new revision. It takes no memory.
 #[unsafe(no_mangle)]
-pub unsafe extern "C" fn weltiyo_squash(at: *mut u8, conn: u64) -> Told
+pub unsafe extern "C" fn weltiyo_squash(at: *mut u8, conn: u64) -> CallResult
     ghost engine: { EngineState }
     requires* { sem 𝓛 (engine_at at engine) }
     ensures* { sem 𝓛 (fex EngineState (λ new. fex (Tells conn call.squash result engine new) (λ _. engine_at at new))) }
@@ -203,7 +215,7 @@ pub unsafe extern "C" fn weltiyo_squash(at: *mut u8, conn: u64) -> Told
 }
 
 /// Ends the sessions up to a number, and tells how many.
-fn committed(engine: &mut Engine, conn: u64, number: u64) -> Told
+fn committed(engine: &mut Engine, conn: u64, number: u64) -> CallResult
     ensures { Tells conn (call.commit number) result engine.old engine.new }
 {
     engine.commit(conn, number)
@@ -211,7 +223,7 @@ fn committed(engine: &mut Engine, conn: u64, number: u64) -> Told
 
 /// Ends the sessions up to a number, keeps their changes, and tells how many. It takes no memory.
 #[unsafe(no_mangle)]
-pub unsafe extern "C" fn weltiyo_commit(at: *mut u8, conn: u64, number: u64) -> Told
+pub unsafe extern "C" fn weltiyo_commit(at: *mut u8, conn: u64, number: u64) -> CallResult
     ghost engine: { EngineState }
     requires* { sem 𝓛 (engine_at at engine) }
     ensures* { sem 𝓛 (fex EngineState (λ new. fex (Tells conn (call.commit number) result engine new) (λ _. engine_at at new))) }
@@ -228,7 +240,7 @@ fn inserted_before(
     texts: &[u8],
     index: usize,
     before: u64,
-) -> Told
+) -> CallResult
     ensures { Tells conn (call.insert_before table cells.now texts.now index before) result engine.old engine.new }
 {
     engine.insert_before(conn, table, cells, texts, index, before)
@@ -244,7 +256,7 @@ pub unsafe extern "C" fn weltiyo_insert_before(
     texts: &[u8],
     index: usize,
     before: u64,
-) -> Told
+) -> CallResult
     ghost engine: { EngineState }
     requires* { sem 𝓛 (engine_at at engine) }
     ensures* { sem 𝓛 (fex EngineState (λ new. fex (Tells conn (call.insert_before table cells.now texts.now index before)
@@ -270,7 +282,7 @@ fn modified(
     edits: &[EditCell],
     texts: &[u8],
     rollback: u32,
-) -> Told
+) -> CallResult
     ensures { Tells conn (call.modify table id edits.now texts.now (not (rollback == 0))) result engine.old engine.new }
 {
     engine.modify(conn, table, id, edits, texts, rollback != 0)
@@ -287,7 +299,7 @@ pub unsafe extern "C" fn weltiyo_modify(
     edits: &[EditCell],
     texts: &[u8],
     rollback: u32,
-) -> Told
+) -> CallResult
     ghost engine: { EngineState }
     requires* { sem 𝓛 (engine_at at engine) }
     ensures* { sem 𝓛 (fex EngineState (λ new. fex (Tells conn (call.modify table id edits.now texts.now (not (rollback == 0)))
@@ -312,7 +324,7 @@ fn erased_by_key(
     index: usize,
     key: &[Cell],
     texts: &[u8],
-) -> Told
+) -> CallResult
     ensures { Tells conn (call.erase_key table index key.now texts.now) result engine.old engine.new }
 {
     engine.erase_key(conn, table, index, key, texts)
@@ -327,7 +339,7 @@ pub unsafe extern "C" fn weltiyo_erase_key(
     index: usize,
     key: &[Cell],
     texts: &[u8],
-) -> Told
+) -> CallResult
     ghost engine: { EngineState }
     requires* { sem 𝓛 (engine_at at engine) }
     ensures* { sem 𝓛 (fex EngineState (λ new. fex (Tells conn (call.erase_key table index key.now texts.now) result engine new)
@@ -345,10 +357,10 @@ fn relocated(
     id: u64,
     has_before: u32,
     before: u64,
-) -> Told
-    ensures { Tells conn (call.relocate table index id (given has_before before)) result engine.old engine.new }
+) -> CallResult
+    ensures { Tells conn (call.relocate table index id (optional_id has_before before)) result engine.old engine.new }
 {
-    engine.relocate(conn, table, index, id, given(has_before, before))
+    engine.relocate(conn, table, index, id, optional_id(has_before, before))
 }
 
 /// Moves a record in a sequenced index directly before the record `before`, or where `has_before` is 0 to its end.
@@ -361,10 +373,10 @@ pub unsafe extern "C" fn weltiyo_relocate(
     id: u64,
     has_before: u32,
     before: u64,
-) -> Told
+) -> CallResult
     ghost engine: { EngineState }
     requires* { sem 𝓛 (engine_at at engine) }
-    ensures* { sem 𝓛 (fex EngineState (λ new. fex (Tells conn (call.relocate table index id (given has_before before))
+    ensures* { sem 𝓛 (fex EngineState (λ new. fex (Tells conn (call.relocate table index id (optional_id has_before before))
         result engine new) (λ _. engine_at at new))) }
 {
     relocated(
@@ -379,7 +391,7 @@ pub unsafe extern "C" fn weltiyo_relocate(
 }
 
 /// Undoes every open session, and tells how many.
-fn all_undone(engine: &mut Engine, conn: u64) -> Told
+fn all_undone(engine: &mut Engine, conn: u64) -> CallResult
     ensures { Tells conn call.undo_all result engine.old engine.new }
 {
     engine.undo_all(conn)
@@ -387,7 +399,7 @@ fn all_undone(engine: &mut Engine, conn: u64) -> Told
 
 /// Undoes every open session, and tells how many. It takes no memory.
 #[unsafe(no_mangle)]
-pub unsafe extern "C" fn weltiyo_undo_all(at: *mut u8, conn: u64) -> Told
+pub unsafe extern "C" fn weltiyo_undo_all(at: *mut u8, conn: u64) -> CallResult
     ghost engine: { EngineState }
     requires* { sem 𝓛 (engine_at at engine) }
     ensures* { sem 𝓛 (fex EngineState (λ new. fex (Tells conn call.undo_all result engine new) (λ _. engine_at at new))) }
@@ -396,7 +408,7 @@ pub unsafe extern "C" fn weltiyo_undo_all(at: *mut u8, conn: u64) -> Told
 }
 
 /// Lets go of the sessions of a connection, and tells how many.
-fn pushed(engine: &mut Engine, conn: u64) -> Told
+fn pushed(engine: &mut Engine, conn: u64) -> CallResult
     ensures { Tells conn call.push result engine.old engine.new }
 {
     engine.push(conn)
@@ -404,7 +416,7 @@ fn pushed(engine: &mut Engine, conn: u64) -> Told
 
 /// Lets go of the sessions that the connection holds, which stay open, and tells how many. It takes no memory.
 #[unsafe(no_mangle)]
-pub unsafe extern "C" fn weltiyo_push(at: *mut u8, conn: u64) -> Told
+pub unsafe extern "C" fn weltiyo_push(at: *mut u8, conn: u64) -> CallResult
     ghost engine: { EngineState }
     requires* { sem 𝓛 (engine_at at engine) }
     ensures* { sem 𝓛 (fex EngineState (λ new. fex (Tells conn call.push result engine new) (λ _. engine_at at new))) }

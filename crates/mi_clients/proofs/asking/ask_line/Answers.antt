@@ -3,8 +3,8 @@ use Rattle.std.proofs.Common.{◌≡◌, ◌<◌, ◌∙◌, [], ◌∷◌, ◌+
 use Rattle.std.proofs.lemmas.List.{length-append}
 use Rattle.std.proofs.Math.Seq.{drop-append_seam}
 use Rattle.mi_hub.specs.Ended.{ended}
-use Rattle.mi_ledger.specs.HeldReplies.{bytes_of}
-use Rattle.mi_ledger.specs.Ledger.{hub_of, holder_conn, is_conn}
+use Rattle.mi_durable.specs.HeldReplies.{bytes_of}
+use Rattle.mi_durable.specs.Durable.{hub_of, holder_conn, is_conn}
 use Rattle.mi_clients.specs.Input.{waiting, after_line}
 use Rattle.mi_clients.specs.Steps.{begins_in}
 use Rattle.mi_clients.specs.Output.{unsent}
@@ -26,11 +26,11 @@ returns-clause-one g c = λ _.
     let conn = c.args.client.now.conn in
     let lines = c.args.client.now.input.lines in
     let since = c.args.client.now.input.since in
-    let began : c.begins_to_hold-begins.result ≡ begins_in conn (hub_of c.args.ledger.now) (hub_of c.ask_in_room.new.self) =
+    let began : c.begins_to_hold-begins.result ≡ begins_in conn (hub_of c.args.durable.now) (hub_of c.ask_in_room.new.self) =
     c.begins_to_hold-begins.ensures ∙ ap (λ b. not b && c.holds_some-holds.result) c.holds_some-held.ensures
-    ∙ ap (λ b. not (is_conn (holder_conn (hub_of c.args.ledger.now).held.holder) conn) && b) c.holds_some-holds.ensures in
+    ∙ ap (λ b. not (is_conn (holder_conn (hub_of c.args.durable.now).held.holder) conn) && b) c.holds_some-holds.ensures in
     let one = line_step c.args.client.now.conn line (bytes_of c.args.client.now.held) (bytes_of c.ask_in_room.new.replies)
-    (hub_of c.args.ledger.now) (hub_of c.ask_in_room.new.self) _ _ _ ask.field-0 (sym c.if-is_service.ensures) ask.ensures.asked ask.ensures.turned_away in
+    (hub_of c.args.durable.now) (hub_of c.ask_in_room.new.self) _ _ _ ask.field-0 (sym c.if-is_service.ensures) ask.ensures.asked ask.ensures.turned_away in
     let left : waiting c.pass.new.self ≡ at.1 =
     c.pass.ensures.waiting ∙ ap (drop (length line)) at.2 ∙ drop-append_seam line at.1 in (
       line,
@@ -43,7 +43,7 @@ returns-clause-one g c = λ _.
       one.4,
       one.5,
       c.pass.ensures.lines ∙ sym (count_line lines line at.0),
-      c.pass.ensures.since ∙ ap (λ b. cond b (after_line lines) since) began ∙ ap (λ m. cond (begins_in conn (hub_of c.args.ledger.now) (hub_of c.ask_in_room.new.self)) m since) (sym (count_line lines line at.0))
+      c.pass.ensures.since ∙ ap (λ b. cond b (after_line lines) since) began ∙ ap (λ m. cond (begins_in conn (hub_of c.args.durable.now) (hub_of c.ask_in_room.new.self)) m since) (sym (count_line lines line at.0))
           ∙ sym (one.6 lines since (line_some line at.0)),
     )
 
@@ -51,4 +51,4 @@ pub returns-clause-attached : goal.returns-clause-attached
 returns-clause-attached g c =
     let ask = c.in_ok-ask_in_room in
     line_attached c.args.client.now.conn c.in-Some.line.now (bytes_of c.args.client.now.held) (bytes_of c.ask_in_room.new.replies)
-    (hub_of c.args.ledger.now) (hub_of c.ask_in_room.new.self) _ _ _ ask.field-0 c.requires.here ask.ensures.asked ask.ensures.turned_away
+    (hub_of c.args.durable.now) (hub_of c.ask_in_room.new.self) _ _ _ ask.field-0 c.requires.here ask.ensures.asked ask.ensures.turned_away

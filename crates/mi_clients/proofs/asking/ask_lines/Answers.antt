@@ -2,7 +2,7 @@
 use Rattle.std.proofs.Common.{◌≡◌, ◌++◌, ◌∷◌, [], ◌∙◌, inl, inr, refl, sym, ap, subst}
 use Rattle.std.proofs.KnownBytes.{Keeps-refl}
 use Rattle.mi_hub.specs.Run.{HubState}
-use Rattle.mi_ledger.specs.Ledger.{hub_of}
+use Rattle.mi_durable.specs.Durable.{hub_of}
 use Rattle.mi_clients.specs.Input.{waiting, count_on}
 use Rattle.mi_clients.specs.Client.{MayAsk}
 use Rattle.mi_clients.specs.declared.client.Client.{Client}
@@ -73,7 +73,7 @@ lines-preserved g c =
           c.lines.client.input.since c.ask_line.new.client.input.since before.steps step before.taken before.owes.conn before.lines before.since
           (asks_taken conn before.steps before.taken before.given before.own) one.10;
       idle = λ no. absurd (no (subst (λ (x : Client _). MayAsk x) (before.idle no) (c.may_ask.ensures.may.0 c.lines-test.true)));
-      makes = makes_kept (before.steps ++ step ∷ []) _ (hub_of c.ask_line.new.ledger) _ _ _ _
-          (makes_then before.steps (step ∷ []) _ (hub_of c.lines.ledger) _ _ _ _ before.makes one.7)
+      makes = makes_kept (before.steps ++ step ∷ []) _ (hub_of c.ask_line.new.durable) _ _ _ _
+          (makes_then before.steps (step ∷ []) _ (hub_of c.lines.durable) _ _ _ _ before.makes one.7)
           c.in_ok-release_each-in-Asked.ensures.hub c.in_ok-release_each-in-Asked.ensures.appended;
     }

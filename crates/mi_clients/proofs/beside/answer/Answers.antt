@@ -2,7 +2,7 @@
 use Rattle.std.proofs.Common.{◌≡◌, inl, inr, not, ◌++◌, [], length, drop, refl, sym, ap, ◌∙◌, arith}
 use Rattle.std.proofs.Math.Seq.{drop-append_seam}
 use Rattle.mi_hub.specs.Ended.{ended}
-use Rattle.mi_ledger.specs.HeldReplies.{bytes_of}
+use Rattle.mi_durable.specs.HeldReplies.{bytes_of}
 use Rattle.mi_clients.specs.Beside.{is_other}
 use Rattle.mi_clients.specs.Input.{waiting}
 use Rattle.mi_clients.specs.Output.{unsent}

@@ -1,6 +1,6 @@
 -- It is told that there is no place for it, behind what it is owed.
 use Rattle.std.proofs.Common.{◌≡◌, inl, inr, false, ◌++◌, [], refl, sym, ap, ◌∙◌}
-use Rattle.mi_ledger.specs.HeldReplies.{bytes_of}
+use Rattle.mi_durable.specs.HeldReplies.{bytes_of}
 use Rattle.mi_clients.specs.Output.{unsent}
 use Rattle.mi_clients.specs.ServiceLines.{places_line}
 use Rattle.mi_clients.specs.declared.client.Client.{Client}

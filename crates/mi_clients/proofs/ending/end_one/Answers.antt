@@ -1,7 +1,7 @@
 -- One more is ended.
 use Rattle.std.proofs.Common.{rules, ◌≡◌, ◌<◌, ◌≤◌, length, arith}
 use Rattle.mi_clients.specs.Ending.{IsEnded}
-use Rattle.mi_clients.proofs.RowLemmas.{done_set, whole_row}
+use Rattle.mi_clients.proofs.ClientsLemmas.{done_set, whole_clients}
 use Rattle.mi_clients.proofs.EndingLemmas.{ended_all, ended_ids}
 use Rattle.mi_clients.proofs.ending.end_one.Goals as goal
 
@@ -10,21 +10,21 @@ loop-client-init g c = record { done = c.deref_mut-client-items.ensures.value }
 
 pub loop-client-preserved : goal.loop-client-preserved
 loop-client-preserved g c =
-    let row = c.loop-client.client-items in
+    let clients = c.loop-client.client-items in
     let at = c.loop-client.client-index in
-    let within : at < length row = omega (arith, c.loop-client-test.true, c.loop-client.auto.client-items) in record {
-      done = done_set (λ x y. IsEnded c.args.conn x y) c.args.row.now.items row at c.client-item.result c.end.new.self within c.end.ensures
+    let within : at < length clients = omega (arith, c.loop-client-test.true, c.loop-client.auto.client-items) in record {
+      done = done_set (λ x y. IsEnded c.args.conn x y) c.args.clients.now.items clients at c.client-item.result c.end.new.self within c.end.ensures
           c.loop-client.invariant.done;
     }
 
 pub returns-clause-ended : goal.returns-clause-ended
 returns-clause-ended g c =
-    let old = c.args.row.now.items in
-    let row = c.loop-client.client-items in
-    let len : c.args.row.now.len ≡ length old = search rules in
-    let same : length row ≡ length old = search rules in
-    let le : length row ≤ c.loop-client.client-index = omega (arith, c.loop-client-test.false, c.loop-client.auto.client-items) in
-    ended_all c.args.conn old row _ c.loop-client.client-index le (whole_row old row c.args.row.now.len len same) c.loop-client.invariant.done
+    let old = c.args.clients.now.items in
+    let clients = c.loop-client.client-items in
+    let len : c.args.clients.now.len ≡ length old = search rules in
+    let same : length clients ≡ length old = search rules in
+    let le : length clients ≤ c.loop-client.client-index = omega (arith, c.loop-client-test.false, c.loop-client.auto.client-items) in
+    ended_all c.args.conn old clients _ c.loop-client.client-index le (whole_clients old clients c.args.clients.now.len len same) c.loop-client.invariant.done
 
 pub returns-clause-ids : goal.returns-clause-ids
-returns-clause-ids g c = ended_ids c.args.conn c.args.row.now.items _ (returns-clause-ended g c)
+returns-clause-ids g c = ended_ids c.args.conn c.args.clients.now.items _ (returns-clause-ended g c)

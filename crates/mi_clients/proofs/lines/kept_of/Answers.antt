@@ -2,7 +2,7 @@
 use Rattle.std.proofs.Common.{◌++◌, inl, inr, refl, sym, subst}
 use Rattle.mi_clients.specs.Lines.{SameLines}
 use Rattle.mi_clients.proofs.InputLemmas.{dropped_same}
-use Rattle.mi_clients.proofs.RowLemmas.{true_false}
+use Rattle.mi_clients.proofs.ClientsLemmas.{true_false}
 use Rattle.mi_clients.proofs.lines.kept_of.Goals as goal
 
 pub returns-then-is_over_long-clause-lines : goal.returns-then-is_over_long-clause-lines

@@ -1,6 +1,6 @@
 -- What was held is handed out, and the text behind it.
 use Rattle.std.proofs.Common.{inl, inr, ◌++◌, ◌∙◌, ap}
-use Rattle.mi_ledger.specs.HeldReplies.{bytes_of}
+use Rattle.mi_durable.specs.HeldReplies.{bytes_of}
 use Rattle.mi_clients.specs.Output.{unsent}
 use Rattle.mi_clients.specs.declared.client.Client.{Client}
 use Rattle.mi_clients.proofs.TellLemmas.{owes_given}

@@ -3,7 +3,7 @@ use Rattle.std.proofs.Common.{◌≡◌, ◌∷◌, ◌++◌, [], length, drop, 
 use Rattle.std.proofs.KnownBytes.{Keeps-refl}
 use Rattle.std.proofs.Math.Seq.{drop-append_seam}
 use Rattle.mi_hub.specs.Ended.{ended}
-use Rattle.mi_ledger.specs.Ledger.{hub_of}
+use Rattle.mi_durable.specs.Durable.{hub_of}
 use Rattle.mi_clients.specs.Client.{Owes, Takes}
 use Rattle.mi_clients.specs.Input.{waiting}
 use Rattle.mi_clients.specs.ServiceLines.{line_of, told_to}
@@ -18,7 +18,7 @@ use Rattle.mi_clients.proofs.telling.tell.Goals as goal
 pub returns-in_default-clause-tells : goal.returns-in_default-clause-tells
 returns-in_default-clause-tells g c =
     let old = c.args.client.now in
-    ([], tt, tt, owes_none old, takes_none old c.in_default.ensures, makes_none (hub_of c.args.ledger.now) _ _ (Keeps-refl _))
+    ([], tt, tt, owes_none old, takes_none old c.in_default.ensures, makes_none (hub_of c.args.durable.now) _ _ (Keeps-refl _))
 
 -- where no line waited none does
 pub invariant_of-client-clause-all_asked : goal.invariant_of-client-clause-all_asked
@@ -50,6 +50,6 @@ returns-clause-tells g c =
           (ap (λ (i : Input). i.is_first) gave.input ∙ c.pass.ensures.first)
           (ap (λ (i : Input). i.lines) gave.input ∙ c.pass.ensures.lines ∙ sym (count_line old.input.lines line may.1))
           (ap (λ (i : Input). i.since) gave.input ∙ c.pass.ensures.since) gave.far gave.has_lines (gave.ends ∙ c.ended_in-ends.ensures)),
-      makes_kept (tells old.conn line text ∷ []) (hub_of c.args.ledger.now) (hub_of c.args.ledger.now) (hub_of c.give.new.ledger) _ _ _
-          (tells_makes old.conn line text (hub_of c.args.ledger.now) _ _ may.2 some (Keeps-refl _)) c.give.ensures.hub c.give.ensures.appended,
+      makes_kept (tells old.conn line text ∷ []) (hub_of c.args.durable.now) (hub_of c.args.durable.now) (hub_of c.give.new.durable) _ _ _
+          (tells_makes old.conn line text (hub_of c.args.durable.now) _ _ may.2 some (Keeps-refl _)) c.give.ensures.hub c.give.ensures.appended,
     )

@@ -4,7 +4,7 @@ use Rattle.std.proofs.lemmas.List.{drop_more}
 use Rattle.mi_value.specs.declared.value.Value.{Value}
 use Rattle.mi_embed.specs.Cells.{texts_of}
 use Rattle.mi_embed.specs.Pages.{values_of}
-use Rattle.mi_embed.specs.Told.{in_64}
+use Rattle.mi_embed.specs.CallResults.{in_64}
 use Rattle.mi_embed.proofs.RowLemmas.{texts_of-append, counted, counted_capped}
 use Rattle.mi_embed.proofs.room.wanted.Goals as goal
 

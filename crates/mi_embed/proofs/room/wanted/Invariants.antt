@@ -1,7 +1,7 @@
 use Rattle.std.proofs.Common.{◌≡◌, ◌+◌, length, map, drop}
 use Rattle.mi_embed.specs.Cells.{texts_of}
 use Rattle.mi_embed.specs.Pages.{values_of}
-use Rattle.mi_embed.specs.Told.{in_64}
+use Rattle.mi_embed.specs.CallResults.{in_64}
 use Rattle.mi_embed.proofs.room.wanted.Given as goal
 
 -- what was counted, and what is to come, is what all want

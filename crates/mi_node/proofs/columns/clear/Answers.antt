@@ -1,4 +1,4 @@
--- The columns that were gone over have an empty cell at the place.
+-- The columns that were last_freed over have an empty cell at the place.
 use Rattle.std.proofs.Common.{◌<◌, ap, sym, subst, length, slice_index_or, ◌∙◌}
 use Rattle.mi_node.specs.Columns.{links_at, AreLong}
 use Rattle.mi_node.proofs.ColumnLemmas.{cleared_room, cleared_put, all_cleared, cleared-here, cleared-there, cleared-length, long-cleared}

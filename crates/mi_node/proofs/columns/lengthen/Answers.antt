@@ -1,4 +1,4 @@
--- The columns that were gone over have a cell for each place, and no link changed.
+-- The columns that were last_freed over have a cell for each place, and no link changed.
 use Rattle.std.proofs.Common.{◌∙◌}
 use Rattle.mi_node.proofs.ColumnLemmas.{lengthened_start, put_longer, lengthened_next}
 use Rattle.mi_node.proofs.columns.lengthen.Goals as goal

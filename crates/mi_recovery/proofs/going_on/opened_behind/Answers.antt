@@ -1,7 +1,7 @@
 -- What was asked was found, and is gone on with; what was held is undone.
 use Rattle.std.specs.String.{string_bytes}
 use Rattle.mi_log.specs.DeviceLog.{device_of}
-use Rattle.mi_ledger.specs.Ledger.{hub_of, log_of}
+use Rattle.mi_durable.specs.Durable.{hub_of, log_of}
 use Rattle.mi_recovery.specs.Device.{told_of}
 use Rattle.mi_recovery.proofs.SegmentLemmas.{asked_after, goes_by}
 use Rattle.mi_recovery.proofs.going_on.opened_behind.Goals as goal

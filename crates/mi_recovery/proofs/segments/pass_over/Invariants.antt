@@ -1,6 +1,6 @@
 use Rattle.std.proofs.Common.{◌≤◌, ◌-◌}
 use Rattle.mi_log.specs.LogLines.{reader_of}
-use Rattle.mi_ledger.specs.Replay.{HasPassed}
+use Rattle.mi_durable.specs.Replay.{HasPassed}
 use Rattle.mi_recovery.proofs.segments.pass_over.Given as goal
 
 -- so many lines were passed over

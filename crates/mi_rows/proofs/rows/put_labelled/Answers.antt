@@ -8,7 +8,7 @@ pub put_row-requires-clause-room : goal.put_row-requires-clause-room
 put_row-requires-clause-room c =
     omega (
       arith,
-      ap₂ labels_room c.if-not-lend_values.ensures.cells c.as_slice.ensures.value,
+      ap₂ labels_room c.if-not-lend_values.ensures.row_values c.as_slice.ensures.value,
       c.requires.labels.1 c.args.id c.args.row.now,
       six_times c.args.row.now,
       c.requires.room,

@@ -9,7 +9,7 @@ use Rattle.mi_rows.proofs.rows.put_row.Goals as goal
 
 pub put_member-end-requires-clause-room : goal.put_member-end-requires-clause-room
 put_member-end-requires-clause-room c =
-    let vs : List Value = map held c.args.cells.now in
+    let vs : List Value = map held c.args.row_values.now in
     let i = c.members.label-index in
     let label = c.label-item.result in
     let rest = drop (i + 1) c.args.labels.now in
@@ -20,7 +20,7 @@ put_member-end-requires-clause-room c =
 
 pub members-preserved : goal.members-preserved
 members-preserved c =
-    let vs : List Value = map held c.args.cells.now in
+    let vs : List Value = map held c.args.row_values.now in
     let i = c.members.label-index in
     let label = c.label-item.result in
     let rest = drop (i + 1) c.args.labels.now in
@@ -38,5 +38,5 @@ pub returns : goal.returns
 returns c =
     let inv = c.members.invariant in
     let none = drop_all c.members.label-index c.args.labels.now c.members-test.false in
-    let whole = ap (λ ls. inv.0 ++ labelled_text (map held c.args.cells.now) ls) (sym none) ∙ inv.2 in
+    let whole = ap (λ ls. inv.0 ++ labelled_text (map held c.args.row_values.now) ls) (sym none) ∙ inv.2 in
     subst (λ text. Placed c.args.buf.now c.put_byte.new.buf c.args.at text c.put_byte.result) whole (Placed-then inv.1 c.put_byte.ensures)

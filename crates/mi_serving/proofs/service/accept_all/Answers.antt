@@ -3,8 +3,8 @@ use Rattle.std.proofs.Common.{◌++◌, [], arith}
 use Rattle.mi_serving.specs.Link.{link_fd}
 use Rattle.mi_clients.proofs.StreamLemmas.{streams_none, streams_then}
 use Rattle.std.proofs.KnownBytes.{Keeps-refl}
-use Rattle.mi_ledger.specs.Ledger.{hub_of}
-use Rattle.mi_clients.specs.Row.{ids}
+use Rattle.mi_durable.specs.Durable.{hub_of}
+use Rattle.mi_clients.specs.Clients.{ids}
 use Rattle.mi_clients.proofs.StepLemmas.{makes_none, makes_then}
 use Rattle.mi_clients.proofs.ServedLemmas.{nothing_given, nothing_asked, none_join, quiet_join, joins_none, joins_then, only_none, all_only_then, only_before}
 use Rattle.mi_serving.proofs.service.accept_all.Goals as goal
@@ -14,13 +14,13 @@ places-init g c = record {
   attends = c.requires.attends;
   known = c.requires.known;
   rises = omega arith;
-  same = streams_none link_fd c.args.last.now c.args.row.now.items;
+  same = streams_none link_fd c.args.last.now c.args.clients.now.items;
   settled = c.requires.settled;
   steps = [];
   none = nothing_given;
   quiet = nothing_asked;
-  joins = joins_none c.args.row.now.items;
-  only = only_none (ids c.args.row.now.items);
+  joins = joins_none c.args.clients.now.items;
+  only = only_none (ids c.args.clients.now.items);
   makes = makes_none _ _ _ (Keeps-refl _);
 }
 
@@ -31,16 +31,16 @@ places-preserved g c =
       attends = c.in_ok-accept_one.ensures.attends;
       known = c.in_ok-accept_one.ensures.known;
       rises = omega (arith, before.rises, c.in_ok-accept_one.ensures.rises);
-      same = streams_then link_fd c.args.last.now c.places.last c.args.row.now.items c.places.row.items c.accept_one.new.row.items before.rises
+      same = streams_then link_fd c.args.last.now c.places.last c.args.clients.now.items c.places.clients.items c.accept_one.new.clients.items before.rises
           before.same c.in_ok-accept_one.ensures.same;
       settled = c.in_ok-accept_one.ensures.settled;
       steps = before.steps ++ one.0;
       none = none_join before.steps one.0 before.none one.1;
       quiet = quiet_join before.steps one.0 before.quiet one.5;
-      joins = joins_then c.args.row.now.items c.places.row.items c.accept_one.new.row.items before.joins one.2;
-      only = all_only_then before.steps one.0 (ids c.args.row.now.items) before.only
-          (only_before one.0 c.args.row.now.items c.places.row.items before.joins one.4);
-      makes = makes_then before.steps one.0 _ (hub_of c.places.ledger) _ _ _ _ before.makes one.3;
+      joins = joins_then c.args.clients.now.items c.places.clients.items c.accept_one.new.clients.items before.joins one.2;
+      only = all_only_then before.steps one.0 (ids c.args.clients.now.items) before.only
+          (only_before one.0 c.args.clients.now.items c.places.clients.items before.joins one.4);
+      makes = makes_then before.steps one.0 _ (hub_of c.places.durable) _ _ _ _ before.makes one.3;
     }
 
 pub returns-then-len-ge-MAX_CONNECTIONS-clause-known : goal.returns-then-len-ge-MAX_CONNECTIONS-clause-known

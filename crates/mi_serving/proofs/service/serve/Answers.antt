@@ -1,8 +1,8 @@
 -- A turn more.
 use Rattle.std.proofs.Common.{sym, ◌∙◌, subst, arith}
 use Rattle.std.proofs.KnownBytes.{Keeps-refl}
-use Rattle.mi_ledger.specs.Ledger.{hub_of}
-use Rattle.mi_clients.specs.Row.{ids, Attends}
+use Rattle.mi_durable.specs.Durable.{hub_of}
+use Rattle.mi_clients.specs.Clients.{ids, Attends}
 use Rattle.mi_serving.proofs.TurnLemmas.{goes_none, goes_then, up_to_none, up_to_woken, up_to_ids}
 use Rattle.mi_serving.proofs.OverflowLemmas.{waits_none, goes_turn}
 use Rattle.mi_serving.specs.Overflow.{WaitsUpTo}
@@ -11,7 +11,7 @@ use Rattle.mi_serving.proofs.service.serve.Goals as goal
 
 pub turns-init : goal.turns-init
 turns-init g c = record {
-  attends = subst (λ items. Attends (ids items) (hub_of c.args.ledger.now).attached) (sym c.in-Ok.ensures.items)
+  attends = subst (λ items. Attends (ids items) (hub_of c.args.durable.now).attached) (sym c.in-Ok.ensures.items)
       (record { there = c.requires.none; differ = tt });
   known = subst (λ items. AllUpTo _ items) (sym c.in-Ok.ensures.items) (up_to_none _);
   own = omega arith;
@@ -27,13 +27,13 @@ turns-preserved g c = record {
   own = omega (arith, c.turns.invariant.own, c.in_default-turn.ensures.rises);
   waits = subst (WaitsUpTo c.turn.new.last) (sym c.judge.ensures.comer) c.in_default-turn.ensures.waits;
   settled = c.in_default-turn.ensures.settled;
-  goes = goes_then _ (hub_of c.turns.ledger) _ _ _ _ c.turns.invariant.goes (goes_turn _ _ _ _ _ _ _ _ _ _ _ _ c.in_default-turn.ensures.turns);
+  goes = goes_then _ (hub_of c.turns.durable) _ _ _ _ c.turns.invariant.goes (goes_turn _ _ _ _ _ _ _ _ _ _ _ _ c.in_default-turn.ensures.turns);
 }
 
 pub turn-requires-clause-known : goal.turn-requires-clause-known
 turn-requires-clause-known g c =
-    up_to_ids c.turns.last c.wait.new.row.items c.give_up.new.row.items
-    (up_to_woken c.turns.last c.turns.row.items c.wait.new.row.items c.turns.invariant.known c.wait.ensures.woken) c.give_up.ensures.ids
+    up_to_ids c.turns.last c.wait.new.clients.items c.give_up.new.clients.items
+    (up_to_woken c.turns.last c.turns.clients.items c.wait.new.clients.items c.turns.invariant.known c.wait.ensures.woken) c.give_up.ensures.ids
 
 pub turn-requires-clause-waits : goal.turn-requires-clause-waits
 turn-requires-clause-waits g c =

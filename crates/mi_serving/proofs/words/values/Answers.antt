@@ -15,13 +15,13 @@ returns c =
     let moves : c.is_some.result ≡ is_some c.in_ok-moving.moving = search rules in
     record {
       schema = c.in_ok-schema.ensures ∙ c.get_str.ensures ∙ first_value-rows m (codes "schema");
-      places = c.in_ok-places.ensures;
+      addresses = c.in_ok-addresses.ensures;
       journal = named_by _ _ _ _ c.in_ok-journal.journal (c.get_str-2.ensures ∙ first_value-rows m (codes "journal"))
           (c.get_str-3.ensures ∙ first_value-rows m (codes "sync")) c.in_ok-journal.ensures;
       limits = c.in_ok-limits.ensures;
       rebase = c.unwrap_or-rebase.ensures ∙ flag_read _ _ c.get_one.result c.get_one.ensures.none c.get_one.ensures.value
           ∙ ap is_set (one_text-rows m (codes "rebase"));
       moving = c.in_ok-moving.ensures;
-      task = subst (λ m. is_task c.unwrap_or-rebase.result m (listens c.in_ok-places.places) (is_some c.in_ok-journal.journal) ≡ true) moves
-          (subst (λ s. is_task c.unwrap_or-rebase.result c.is_some.result (listens c.in_ok-places.places) s ≡ true) named c.in_ok-check_task.ensures);
+      task = subst (λ m. is_task c.unwrap_or-rebase.result m (listens c.in_ok-addresses.addresses) (is_some c.in_ok-journal.journal) ≡ true) moves
+          (subst (λ s. is_task c.unwrap_or-rebase.result c.is_some.result (listens c.in_ok-addresses.addresses) s ≡ true) named c.in_ok-check_task.ensures);
     }

@@ -33,13 +33,13 @@ returns-then-abs_diff-le1-clause-height g c =
     high ∙ sym (height-root c.set_fork.new.p c.args.slot (Some c.args.node) (Fork w.0 c.args.node w.1)
     (c.set_fork.ensures.tree w.0 w.1 (record { two = plain_parts w.2; size_is = omega arith; height_is = omega arith; tag_is = ap (λ (y : Link). y.tag) c.link.ensures })))
 
-pub lean-requires-clause-sides : goal.lean-requires-clause-sides
-lean-requires-clause-sides g c =
+pub rotate-requires-clause-sides : goal.rotate-requires-clause-sides
+rotate-requires-clause-sides g c =
     let w = c.requires.sides in (w.0, w.1, linked_by w.2 w.3 w.4 (ap (λ (y : Link). y.tag) c.link.ensures) refl, w.3.1, w.4.1)
 
-pub lean-requires-clause-apart : goal.lean-requires-clause-apart
-lean-requires-clause-apart g c = omega (arith, c.abs_diff.ensures, c.if-abs_diff-le1.false)
+pub rotate-requires-clause-apart : goal.rotate-requires-clause-apart
+rotate-requires-clause-apart g c = omega (arith, c.abs_diff.ensures, c.if-abs_diff-le1.false)
 
 pub returns-clause-tree : goal.returns-clause-tree
 returns-clause-tree g c l q h a b =
-    c.lean.ensures.tree l q (linked_by h a b (ap (λ (y : Link). y.tag) c.link.ensures) refl) a.1 b.1
+    c.rotate.ensures.tree l q (linked_by h a b (ap (λ (y : Link). y.tag) c.link.ensures) refl) a.1 b.1

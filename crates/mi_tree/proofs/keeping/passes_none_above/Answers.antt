@@ -10,7 +10,7 @@ use Rattle.mi_tree.proofs.KeepingLemmas.{above_here, above_steps, above_few, abo
 use Rattle.mi_tree.proofs.SortedLemmas.{side_read, tagged_read}
 use Rattle.std.specs.Ordering.{is_eq}
 use Rattle.mi_tree.specs.Sorted.{side}
-use Rattle.mi_tree.proofs.RemovalWayLemmas.{equal_is}
+use Rattle.mi_tree.proofs.RemovalPathLemmas.{equal_is}
 use Rattle.mi_tree.proofs.keeping.passes_none_above.Given.{Over}
 use Rattle.mi_tree.proofs.keeping.passes_none_above.Goals.{After-compare_nodes-side, else-is_facing-via-then-is_facing+else-not-is_facing, else-is_facing-via-else-is_facing}
 use Rattle.mi_tree.proofs.keeping.passes_none_above.Goals as goal

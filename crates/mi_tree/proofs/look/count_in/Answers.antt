@@ -1,4 +1,4 @@
--- The way down until it parts; from there each side is asked alone.
+-- The path down until it parts; from there each side is asked alone.
 use Rattle.std.proofs.Common.{◌≡◌, ◌+◌, ◌<◌, ◌≤◌, Bool, true, false, refl, sym, ap, ◌∙◌, subst, arith}
 use Rattle.std.specs.List.{position_or_len}
 use Rattle.std.specs.declared.cmp.Ordering.{Ordering}

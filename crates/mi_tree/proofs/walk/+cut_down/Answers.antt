@@ -1,10 +1,10 @@
--- The nodes ahead of a rank stand on the path and in their far sides; there is room for one more on the way.
+-- The nodes ahead of a rank stand on the path and in their far sides; there is room for one more on the path.
 use Rattle.std.proofs.Common.{◌≡◌, ℕ, suc, ◌+◌, ◌-◌, ◌<◌, ◌≤◌, length, refl, ap, ◌∙◌, arith}
 use Rattle.mi_node.specs.Pool.{Pooled}
 use Rattle.mi_tree.specs.BinaryTree.{BinaryTree, IsRooted, nodes, size_at}
 use Rattle.mi_tree.specs.declared.walk.TheConstants.{MAX_LEVELS}
 use Rattle.mi_tree.proofs.BinaryTreeLemmas.{size-root, size-nodes, slot-moved}
-use Rattle.mi_tree.proofs.WalkLemmas.{entered, enters_left, enters_right, enters_lower, goes_moved, way_left, way_right}
+use Rattle.mi_tree.proofs.WalkLemmas.{entered, enters_left, enters_right, enters_lower, goes_moved, path_left, path_right}
 use Rattle.mi_tree.proofs.walk.+cut_down.Given.{Over}
 use Rattle.mi_tree.proofs.walk.+cut_down.Goals.{In-Some, After-size-before}
 use Rattle.mi_tree.proofs.walk.+cut_down.Goals as goal
@@ -50,7 +50,7 @@ returns-then-passed-before-clause-way g t c levels xs u h =
     let on = entered h c.in-Some.is c.link-link.ensures.link in let count = count_is g t o.After-size-before on.left on.left_is in
     let few : c.args.passed ≤ length (nodes on.left) = omega (arith, c.if-passed-before.true) in
     let far = c.cut_down.ensures.way levels _ on.left (enters_left d on same c.is_ascending.ensures c.push_if.ensures) in
-    (far.0, goes_moved same far.1, way_left d on.left c.in-Some.node on.right u xs far.0 c.args.passed on.is few far.2)
+    (far.0, goes_moved same far.1, path_left d on.left c.in-Some.node on.right u xs far.0 c.args.passed on.is few far.2)
 
 pub returns-else-passed-before-clause-way : goal.returns-else-passed-before-clause-way
 returns-else-passed-before-clause-way g t c levels xs u h =
@@ -59,4 +59,4 @@ returns-else-passed-before-clause-way g t c levels xs u h =
     let k = c.args.passed - c.size-before.result - 1 in let is : c.args.passed ≡ length (nodes on.left) + suc k = omega (arith, c.if-passed-before.false) in
     let far = c.cut_down-else-passed-before.ensures.way levels _ on.right (enters_right d on same c.is_ascending-else-passed-before.ensures
     c.push_if-else-passed-before.ensures) in
-    (far.0, goes_moved same far.1, way_right d on.left c.in-Some.node on.right u xs far.0 c.args.passed k on.is is far.2)
+    (far.0, goes_moved same far.1, path_right d on.left c.in-Some.node on.right u xs far.0 c.args.passed k on.is is far.2)

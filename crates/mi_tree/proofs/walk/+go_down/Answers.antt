@@ -1,4 +1,4 @@
--- Each node on the way to the first one is ahead, so it goes onto the path, which has room.
+-- Each node on the path to the first one is ahead, so it goes onto the path, which has room.
 use Rattle.std.proofs.Common.{◌<◌, length, Option, refl, sym, subst, arith}
 use Rattle.mi_node.specs.Pool.{Pooled}
 use Rattle.mi_node.specs.Refs.{Ref}

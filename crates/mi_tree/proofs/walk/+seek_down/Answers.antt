@@ -14,7 +14,7 @@ use Rattle.mi_tree.proofs.BinaryTreeLemmas.{slot-moved}
 use Rattle.mi_tree.proofs.LookUpLemmas.{past_read, steady_left, steady_right}
 use Rattle.mi_tree.proofs.SortedLemmas.{tagged_read, tagged_left, tagged_right}
 use Rattle.mi_tree.proofs.ProbeRankLemmas.{place_left, place_right, place_within}
-use Rattle.mi_tree.proofs.WalkLemmas.{entered, enters_left, enters_right, enters_lower, goes_moved, way_left, way_right}
+use Rattle.mi_tree.proofs.WalkLemmas.{entered, enters_left, enters_right, enters_lower, goes_moved, path_left, path_right}
 use Rattle.mi_tree.proofs.walk.+seek_down.Given.{Over}
 use Rattle.mi_tree.proofs.walk.+seek_down.Goals.{In-Some, After-is_past}
 use Rattle.mi_tree.proofs.walk.+seek_down.Goals as goal
@@ -61,7 +61,7 @@ module _ (g : Over) (t : ℕ) (c : After-is_past g t) where
   passes_same : passes_now ≡ passes g t c
   passes_same = ap (is_past_node c.args.sought.now.strict place) c.link-link.ensures.pool
 
-  -- what the way into a side asks, in that pool
+  -- what the path into a side asks, in that pool
   moved_on : (rs : List Ref) → AreTagged tag c.args.p.now.pool c.args.slot rs → IsSteady (passes g t c) rs
       → AreTagged tag c.link-link.new.self.pool c.args.slot rs × IsSteady passes_now rs
   moved_on rs tags up =
@@ -107,7 +107,7 @@ returns-then-is_past-clause-way g t c levels xs u h up =
     ∙ sym (ap (λ k. position_or_len f (nodes k)) on.is ∙ place_left f (nodes on.left) x (nodes on.right) here) in (
       far.0,
       goes_moved same far.1,
-      way_left d on.left x on.right u xs far.0 _ on.is (place_within (passes_now g t a) (nodes on.left)) far.2
+      path_left d on.left x on.right u xs far.0 _ on.is (place_within (passes_now g t a) (nodes on.left)) far.2
           ∙ ap (λ k. beyond_place d k (nodes u) ++ ahead d xs) there,
     )
 
@@ -126,6 +126,6 @@ returns-else-is_past-clause-way g t c levels xs u h up =
     ∙ (let same_k : position_or_len f (nodes on.right) ≡ k = ap (λ z. position_or_len z (nodes on.right)) (sym (passes_same g t a)) in omega arith)) in (
       far.0,
       goes_moved same far.1,
-      way_right d on.left x on.right u xs far.0 (length (nodes on.left) + suc k) k on.is refl far.2
+      path_right d on.left x on.right u xs far.0 (length (nodes on.left) + suc k) k on.is refl far.2
           ∙ ap (λ z. beyond_place d z (nodes u) ++ ahead d xs) there,
     )

@@ -69,7 +69,7 @@ impl NodeOrder<Item> for ByKey<'_> {
         None
     }
 
-    fn decides(&self, _tag: u64) -> bool {
+    fn is_complete(&self, _tag: u64) -> bool {
         self.tagged
     }
 

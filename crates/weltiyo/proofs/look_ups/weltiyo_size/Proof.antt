@@ -1,7 +1,7 @@
 -- The engine at the pointer is lent to `sized` for the call, and lies there again as it was.
 use Rattle.std.proofs.Common.{[], ◌∷◌, w64}
-use Rattle.mi_embed.specs.contracts.told.Told.{the_row as Told}
-use Rattle.mi_embed.proofs.told.Told.TheLaws as told_laws
+use Rattle.mi_embed.specs.contracts.call_result.CallResult.{the_row as CallResult}
+use Rattle.mi_embed.proofs.call_result.CallResult.TheLaws as told_laws
 use Rattle.weltiyo.specs.contracts.look_ups.weltiyo_size as f
 use Rattle.weltiyo.proofs.look_ups.weltiyo_size.Statement.{statement}
 use Rattle.weltiyo.proofs.look_ups.weltiyo_size.Code as code
@@ -13,5 +13,5 @@ use Rattle.weltiyo.proofs.Lent.{lent, stays}
 
 pub weltiyo_size_spec : {M : Type 1} → statement M
 weltiyo_size_spec 𝓤 𝓛 𝓜 𝓡 wired =
-    lent 𝓛 𝓜 𝓡 0 (number w64 ∷ []) Told (λ κs a. (f.clauses 𝓛 𝓜.mem 𝓡.returns κs a).ensures) (λ κs a. (g.clauses 𝓛 𝓜.mem 𝓡.returns κs a).ensures) (told_laws.the_row_laws.lawful 𝓛)
+    lent 𝓛 𝓜 𝓡 0 (number w64 ∷ []) CallResult (λ κs a. (f.clauses 𝓛 𝓜.mem 𝓡.returns κs a).ensures) (λ κs a. (g.clauses 𝓛 𝓜.mem 𝓡.returns κs a).ensures) (told_laws.the_row_laws.lawful 𝓛)
     _ code.function (code.unfolded 𝓤 𝓛.H 𝓜 𝓡 wired) _ (met 𝓤 𝓛 𝓜 𝓡 (code.calls-weltiyo::look_ups::sized 𝓡.env wired)) (λ κs a. forwards_one 𝓛 𝓜 𝓡 code.function _ _ _ _ _) (λ κs α a loan r w ws p. stays 𝓛 _ _ _ _)

@@ -1,8 +1,8 @@
 -- The engine at the pointer is lent to `table_named` for the call, and lies there again as it was.
 use Rattle.std.proofs.Common.{[], ◌∷◌}
 use denote.Builtin.{u8}
-use Rattle.mi_embed.specs.contracts.told.Told.{the_row as Told}
-use Rattle.mi_embed.proofs.told.Told.TheLaws as told_laws
+use Rattle.mi_embed.specs.contracts.call_result.CallResult.{the_row as CallResult}
+use Rattle.mi_embed.proofs.call_result.CallResult.TheLaws as told_laws
 use Rattle.weltiyo.specs.contracts.names.weltiyo_table as f
 use Rattle.weltiyo.proofs.names.weltiyo_table.Statement.{statement}
 use Rattle.weltiyo.proofs.names.weltiyo_table.Code as code
@@ -14,5 +14,5 @@ use Rattle.weltiyo.proofs.Lent.{lent, stays}
 
 pub weltiyo_table_spec : {M : Type 1} → statement M
 weltiyo_table_spec 𝓤 𝓛 𝓜 𝓡 wired =
-    lent 𝓛 𝓜 𝓡 1 (slice u8 tt 0 tt ∷ []) Told (λ κs a. (f.clauses 𝓛 𝓜.mem 𝓡.returns κs a).ensures) (λ κs a. (g.clauses 𝓛 𝓜.mem 𝓡.returns κs a).ensures) (told_laws.the_row_laws.lawful 𝓛)
+    lent 𝓛 𝓜 𝓡 1 (slice u8 tt 0 tt ∷ []) CallResult (λ κs a. (f.clauses 𝓛 𝓜.mem 𝓡.returns κs a).ensures) (λ κs a. (g.clauses 𝓛 𝓜.mem 𝓡.returns κs a).ensures) (told_laws.the_row_laws.lawful 𝓛)
     _ code.function (code.unfolded 𝓤 𝓛.H 𝓜 𝓡 wired) _ (met 𝓤 𝓛 𝓜 𝓡 (code.calls-weltiyo::names::table_named 𝓡.env wired)) (λ κs a. forwards_one 𝓛 𝓜 𝓡 code.function _ _ _ _ _) (λ κs α a loan r w ws p. stays 𝓛 _ _ _ _)

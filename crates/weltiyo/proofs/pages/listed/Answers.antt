@@ -2,4 +2,4 @@
 use Rattle.weltiyo.proofs.pages.listed.Goals as goal
 
 pub returns-clause-told : goal.returns-clause-told
-returns-clause-told c = rw c.given.ensures at c.list.ensures
+returns-clause-told c = rw c.optional_id.ensures at c.list.ensures

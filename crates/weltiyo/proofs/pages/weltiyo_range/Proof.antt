@@ -9,8 +9,8 @@ use denote.Builtin.{u64, u8}
 use denote.Memory.{lone}
 use denote.Triple.Table.{framed}
 use Rattle.mi_embed.specs.contracts.cell.Cell.{the_row as Cell}
-use Rattle.mi_embed.specs.contracts.told.Told.{the_row as Told}
-use Rattle.mi_embed.proofs.told.Told.TheLaws as told_laws
+use Rattle.mi_embed.specs.contracts.call_result.CallResult.{the_row as CallResult}
+use Rattle.mi_embed.proofs.call_result.CallResult.TheLaws as told_laws
 use Rattle.weltiyo.specs.contracts.pages.weltiyo_range as f
 use Rattle.weltiyo.proofs.pages.weltiyo_range.Statement.{statement}
 use Rattle.weltiyo.proofs.pages.weltiyo_range.Code as code
@@ -21,10 +21,10 @@ use Rattle.weltiyo.proofs.Lent.{lent, stays, Asked, after}
 
 pub weltiyo_range_spec : {M : Type 1} → statement M
 weltiyo_range_spec 𝓤 𝓛 𝓜 𝓡 wired =
-    lent 𝓛 𝓜 𝓡 6 (number w64 ∷ number w64 ∷ number w32 ∷ slice Cell tt 0 tt ∷ number w32 ∷ slice Cell tt 1 tt ∷ slice u8 tt 2 tt ∷ number w32 ∷ buffer u64 tt 3 tt ∷ buffer Cell tt 4 tt ∷ buffer u8 tt 5 tt ∷ []) Told (λ κs a. (f.clauses 𝓛 𝓜.mem 𝓡.returns κs a).ensures) (λ κs a. (g.clauses 𝓛 𝓜.mem 𝓡.returns κs a).ensures) (told_laws.the_row_laws.lawful 𝓛)
+    lent 𝓛 𝓜 𝓡 6 (number w64 ∷ number w64 ∷ number w32 ∷ slice Cell tt 0 tt ∷ number w32 ∷ slice Cell tt 1 tt ∷ slice u8 tt 2 tt ∷ number w32 ∷ buffer u64 tt 3 tt ∷ buffer Cell tt 4 tt ∷ buffer u8 tt 5 tt ∷ []) CallResult (λ κs a. (f.clauses 𝓛 𝓜.mem 𝓡.returns κs a).ensures) (λ κs a. (g.clauses 𝓛 𝓜.mem 𝓡.returns κs a).ensures) (told_laws.the_row_laws.lawful 𝓛)
     _ code.function (code.unfolded 𝓤 𝓛.H 𝓜 𝓡 wired) _ (met 𝓤 𝓛 𝓜 𝓡 (code.calls-weltiyo::pages::ranged 𝓡.env wired)) (λ κs a typed b o K.
-    qed 𝓛 (raw (Asked 𝓛 𝓜 𝓡 _ (lone Told.mir) _ b o K) ∷ []) ∵ enter ! _ _ _ _ _ $ alloc_all ! (λ l. pass_all ! refl ((tt, tt), typed) $ sets ! (of_opd ! (get ! refl)) refl (tt, tt) $ sets ! (addr ! (through ! refl (stop !))) refl (tt, tt) $
+    qed 𝓛 (raw (Asked 𝓛 𝓜 𝓡 _ (lone CallResult.mir) _ b o K) ∷ []) ∵ enter ! _ _ _ _ _ $ alloc_all ! (λ l. pass_all ! refl ((tt, tt), typed) $ sets ! (of_opd ! (get ! refl)) refl (tt, tt) $ sets ! (addr ! (through ! refl (stop !))) refl (tt, tt) $
     sets ! (addr ! (from ! (fld ! refl (hop ! (look_in_at ! 10 (sub ! 0 refl (whole !))) (stop !))))) refl (tt, tt) $ sets ! (agg ! (and_then ! (get ! refl) (and_then ! (get_in ! (fld ! refl (stop !)) (sub ! 1 refl (whole !))) (no_more !)))) refl typed.1.1.1.1.1.1.1.1.0 $
     sets ! (addr ! (from ! (fld ! refl (hop ! (look_in_at ! 11 (sub ! 0 refl (whole !))) (stop !))))) refl (tt, tt) $ sets ! (agg ! (and_then ! (get ! refl) (and_then ! (get_in ! (fld ! refl (stop !)) (sub ! 1 refl (whole !))) (no_more !)))) refl typed.1.1.1.1.1.1.1.1.1.0 $
     sets ! (addr ! (from ! (fld ! refl (hop ! (look_in_at ! 12 (sub ! 0 refl (whole !))) (stop !))))) refl (tt, tt) $ sets ! (agg ! (and_then ! (get ! refl) (and_then ! (get_in ! (fld ! refl (stop !)) (sub ! 1 refl (whole !))) (no_more !)))) refl typed.1.1.1.1.1.1.1.1.1.1.0 $
-    calls ! (framed 𝓤 𝓛.H 𝓜 (tables 𝓤 𝓛.H 𝓜 𝓡 𝓡.env)) (after (lone Told.mir) K) (and_then ! (get ! refl) (and_then ! (get ! refl) (and_then ! (get ! refl) (and_then ! (get ! refl) (and_then ! (get ! refl) (and_then ! (get ! refl) (and_then ! (get ! refl) (and_then ! (get ! refl) (and_then ! (get ! refl) (and_then ! (get ! refl) (and_then ! (get ! refl) (and_then ! (get ! refl) (no_more !))))))))))))) (λ v. await ! tt $ learn ! (λ fits. lands_as ! refl refl fits $ returns ! (look_at ! 0 refl) $ free_all ! refl $ done !)))) (λ κs α a loan r w ws p. stays 𝓛 _ _ _ _)
+    calls ! (framed 𝓤 𝓛.H 𝓜 (tables 𝓤 𝓛.H 𝓜 𝓡 𝓡.env)) (after (lone CallResult.mir) K) (and_then ! (get ! refl) (and_then ! (get ! refl) (and_then ! (get ! refl) (and_then ! (get ! refl) (and_then ! (get ! refl) (and_then ! (get ! refl) (and_then ! (get ! refl) (and_then ! (get ! refl) (and_then ! (get ! refl) (and_then ! (get ! refl) (and_then ! (get ! refl) (and_then ! (get ! refl) (no_more !))))))))))))) (λ v. await ! tt $ learn ! (λ fits. lands_as ! refl refl fits $ returns ! (look_at ! 0 refl) $ free_all ! refl $ done !)))) (λ κs α a loan r w ws p. stays 𝓛 _ _ _ _)

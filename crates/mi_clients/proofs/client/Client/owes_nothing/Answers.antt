@@ -1,7 +1,7 @@
 -- Nothing is owed only where none is held.
-use Rattle.mi_ledger.specs.HeldReplies.{bytes_of}
+use Rattle.mi_durable.specs.HeldReplies.{bytes_of}
 use Rattle.mi_clients.specs.Output.{unsent}
-use Rattle.mi_clients.proofs.RowLemmas.{true_false, back_none}
+use Rattle.mi_clients.proofs.ClientsLemmas.{true_false, back_none}
 use Rattle.mi_clients.proofs.client.Client.owes_nothing.Goals as goal
 
 pub returns-else-is_empty : goal.returns-else-is_empty

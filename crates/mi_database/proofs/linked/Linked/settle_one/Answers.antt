@@ -3,7 +3,7 @@ use Rattle.std.proofs.Common.{◌∙◌, ◌<◌, map, set, ap, sym, subst}
 use Rattle.mi_container.specs.Data.{Data}
 use Rattle.mi_container.specs.Inverse.{Inverse, settled}
 use Rattle.mi_container.specs.Fits.{KeptBy}
-use Rattle.mi_inverses.proofs.SettleLemmas.{settles_alike, kept_alike}
+use Rattle.mi_journal.proofs.SettleLemmas.{settles_alike, kept_alike}
 use Rattle.mi_database.specs.LinkedData.{LinkedData, SettlesSome}
 use Rattle.mi_database.specs.Most.{AllHaveAtMost}
 use Rattle.mi_database.proofs.LinkedDataLemmas.{set_data, stays_at}

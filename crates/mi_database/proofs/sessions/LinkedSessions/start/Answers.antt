@@ -31,8 +31,8 @@ returns-clause-outcome g c =
     (c.depth.ensures ∙ ap (λ (q : LinkedData). length q.journal) c.self.view_is ∙ full) in
     let is = start_opens h low few in
     let revision : a.revision ≡ h.revision = ap (λ (q : LinkedData). q.revision) c.self-2.view_is
-    ∙ ap (λ (q : LinkedData). q.revision) c.make_place.ensures.same in
-    let same = ap meaning c.self-2.view_is ∙ ap meaning c.make_place.ensures.same in (
+    ∙ ap (λ (q : LinkedData). q.revision) c.reserve_session.ensures.same in
+    let same = ap meaning c.self-2.view_is ∙ ap meaning c.reserve_session.ensures.same in (
       ap (λ q. q.0) is ∙ ap (λ (n : ℕ). Ok (n + 1)) (sym revision),
       ap (λ (j : Journal). state_of a.catalog (map g.C.Container.plain a.containers.items) j (a.revision + 1)) c.open_session.ensures.sessions
           ∙ ap started same ∙ sym (ap (λ q. q.1) is),
@@ -44,5 +44,5 @@ returns-then-depth-eq-MAX_SESSIONS-clause-footprint g c =
 
 pub returns-clause-footprint : goal.returns-clause-footprint
 returns-clause-footprint g c =
-    ap (map kept_in) c.open_session.ensures.sessions ∙ ap (λ (h : LinkedData). [] ∷ kept_rows h) (c.self-2.view_is ∙ c.make_place.ensures.same)
+    ap (map kept_in) c.open_session.ensures.sessions ∙ ap (λ (h : LinkedData). [] ∷ kept_rows h) (c.self-2.view_is ∙ c.reserve_session.ensures.same)
     ∙ sym (ap (λ (r : Result ℕ Refusal). kept_on_start r (kept_rows c.args.self.now)) (returns-clause-outcome g c).0)

@@ -2,7 +2,7 @@
 use Rattle.std.proofs.Common.{sym, subst}
 use Rattle.mi_index.specs.Pass.{AreReady, IsPass}
 use Rattle.mi_index.specs.Passes.{joining, joined}
-use Rattle.mi_index.specs.declared.moves.Moves.TheVariants.{All}
+use Rattle.mi_index.specs.declared.moved_indexes.MovedIndexes.TheVariants.{All}
 use Rattle.mi_index.proofs.InsertLemmas.{roomy_all, like_both, nothing_all, can_insert, is_inserted}
 use Rattle.mi_index.proofs.nodes.Nodes.link_in.Goals as goal
 

@@ -4,4 +4,4 @@ use Rattle.mi_node.proofs.MapLemmas.{slots-seen}
 use Rattle.mi_node.proofs.places.Places.slots.Goals as goal
 
 pub returns : goal.returns
-returns g c = sym (slots-seen c.args.self.now.slots c.args.self.now.columns.items c.args.self.now.homes c.args.self.now.gone.marks)
+returns g c = sym (slots-seen c.args.self.now.slots c.args.self.now.columns.items c.args.self.now.slab c.args.self.now.last_freed.marks)

@@ -29,7 +29,7 @@ module _ (g : Over) (c : In-Some g) where
       let h = c.requires.1 in found_held c.args.p.now.pool c.args.self.now.slot h.shape (is_past_node false place c.args.p.now.pool) c.in-Some.node
       h.rooted.stands (first_is ∙ ap (first_where (is_past_node false place c.args.p.now.pool)) (sym h.nodes_are))
 
-  -- the tree has a node, so one level fewer bounds the way down
+  -- the tree has a node, so one level fewer bounds the path down
   bound_here : (order : g.row.T.Denot → g.row.T.Denot → Ordering) (tag : g.row.T.Denot → ℕ) (rs : List Ref)
       (h : IsTree c.args.self.now c.args.p.now.pool order tag rs) (b : ℕ) → length rs < 2 ^ b → c.lower.new.p.reads + 1 ≤ c.args.p.now.reads + 4 * b
   bound_here order tag rs h b f =

@@ -5,8 +5,8 @@ use Rattle.mi_node.specs.declared.link.Link.{Link}
 use Rattle.mi_tree.specs.BinaryTree.{IsRooted, height}
 use Rattle.mi_tree.specs.Keeping.{side_of_item}
 use Rattle.mi_tree.proofs.BinaryTreeLemmas.{same_tree}
-use Rattle.mi_tree.proofs.KeepingLemmas.{item_read, turn_is, some_of, own_side, keeps_back, keeps_forth, keeps_equal}
-use Rattle.mi_tree.proofs.RemovalWayLemmas.{equal_is}
+use Rattle.mi_tree.proofs.KeepingLemmas.{item_read, path_step_is, some_of, own_side, keeps_back, keeps_forth, keeps_equal}
+use Rattle.mi_tree.proofs.RemovalPathLemmas.{equal_is}
 use Rattle.mi_tree.proofs.SortedLemmas.{tagged_read, tagged_right}
 use Rattle.mi_tree.proofs.StandingLemmas.{bound_node, rising_in, tagged_in, node_held}
 use Rattle.mi_tree.proofs.tree.Tree.keeps_place.Given.{Over}
@@ -61,9 +61,9 @@ returns-then-is_some-clause-keeps g c xs ys h =
     h.shape xs c.args.node ys h.rooted.stands (rising_in h) h.nodes_are (g.O.NodeOrder.tag_of c.args.self.now.order) c.is_gt-rises.result (tagged_in h) in
     let is = c.passes_none.ensures.passes p.z (subst (λ k. IsRooted c.args.p.now c.args.self.now.slot k p.z) (sym next) p.rooted) in
     let there = some_of c.side_ahead-next.result (sym c.is_some.ensures ∙ c.if-is_some.true) in
-    let turn = side_found g o.After-compare_item-side ∙ turn_is c.is_gt-rises.result c.compare_item-side.result c.is_gt-rises.ensures (sym c.is_eq.ensures ∙ c.if-is_eq.false) in (
+    let path_step = side_found g o.After-compare_item-side ∙ path_step_is c.is_gt-rises.result c.compare_item-side.result c.is_gt-rises.ensures (sym c.is_eq.ensures ∙ c.if-is_eq.false) in (
       λ a. keeps_back (g.O.NodeOrder.order c.args.self.now.order) (g.met.O.NodeOrder.total c.args.self.now.order) c.args.p.now c.args.self.now.slot c.args.value.now c.args.stamp
-          h.shape xs c.args.node ys h.rooted.stands (rising_in h) h.nodes_are c.is_gt-rises.result turn (p.back there.0 (sym next ∙ there.1) (is.0 a)),
+          h.shape xs c.args.node ys h.rooted.stands (rising_in h) h.nodes_are c.is_gt-rises.result path_step (p.back there.0 (sym next ∙ there.1) (is.0 a)),
       λ k. is.1 (p.forth (keeps_forth (g.O.NodeOrder.order c.args.self.now.order) (g.met.O.NodeOrder.total c.args.self.now.order) c.args.p.now c.args.self.now.slot c.args.value.now c.args.stamp
           h.shape xs c.args.node ys h.rooted.stands (rising_in h) h.nodes_are c.is_gt-rises.result k)),
     )
@@ -82,9 +82,9 @@ pub returns-else-is_some-clause-keeps : goal.returns-else-is_some-clause-keeps
 returns-else-is_some-clause-keeps g c xs ys h =
     let o = goal.at.returns-else-is_some-clause-keeps g c in
     let is = c.passes_none_above.ensures.passes h.shape xs ys h.rooted h.nodes_are in
-    let turn = side_found g o.After-compare_item-side ∙ turn_is c.is_gt-rises.result c.compare_item-side.result c.is_gt-rises.ensures (sym c.is_eq.ensures ∙ c.if-is_eq.false) in (
+    let path_step = side_found g o.After-compare_item-side ∙ path_step_is c.is_gt-rises.result c.compare_item-side.result c.is_gt-rises.ensures (sym c.is_eq.ensures ∙ c.if-is_eq.false) in (
       λ a. keeps_back (g.O.NodeOrder.order c.args.self.now.order) (g.met.O.NodeOrder.total c.args.self.now.order) c.args.p.now c.args.self.now.slot c.args.value.now c.args.stamp
-          h.shape xs c.args.node ys h.rooted.stands (rising_in h) h.nodes_are c.is_gt-rises.result turn (is.0 a),
+          h.shape xs c.args.node ys h.rooted.stands (rising_in h) h.nodes_are c.is_gt-rises.result path_step (is.0 a),
       λ k. is.1 (keeps_forth (g.O.NodeOrder.order c.args.self.now.order) (g.met.O.NodeOrder.total c.args.self.now.order) c.args.p.now c.args.self.now.slot c.args.value.now c.args.stamp
           h.shape xs c.args.node ys h.rooted.stands (rising_in h) h.nodes_are c.is_gt-rises.result k),
     )

@@ -1,4 +1,4 @@
--- From an empty path the way down to a place gives a walk.
+-- From an empty path the path down to a place gives a walk.
 use Rattle.std.proofs.Common.{[], sym, ◌∙◌, subst}
 use Rattle.std.proofs.lemmas.List.{append-nil}
 use Rattle.mi_tree.specs.Walking.{Enters}

@@ -1,8 +1,0 @@
--- What can't be listened on was asked for.
-use Rattle.std.proofs.Common.{◌≡◌, ◌∙◌, is_some, rules, sym}
-use Rattle.mi_serving.proofs.door.Door.open.Goals as goal
-
-pub returns-in-Err-open_path-clause-fails : goal.returns-in-Err-open_path-clause-fails
-returns-in-Err-open_path-clause-fails g c =
-    let asked : is_some c.as_deref.result ≡ is_some c.args.places.now.unix = search rules in
-    (c.of_path.ensures.failure, λ _. sym asked ∙ c.in-Err-open_path.ensures.fails)
