@@ -17,8 +17,8 @@ use crate::path_steps::{Depth, Nodes, PathStep};
 use mi_node::{Counted, Link, NO_LINK, NodeRef, Pool, Tag};
 use mi_value::Steps;
 
-/// Goes down to where a node of that tag belongs, which no node there compares Equal to, and puts each
-/// node on the path onto the path. `decided` is whether the tag decides, which is asked once for the path. Each
+/// Goes down to where a node of that tag belongs, which no node there compares Equal to, and pushes each
+/// node that it passes onto the path. `decided` is whether the tag decides, which is asked once for the path. Each
 /// node on it gets a size that is one greater: a node is about to stand below it.
 ///
 /// Its size is read again right before it is set: the compiler then adds to it in its place.
@@ -69,7 +69,7 @@ pub(crate) fn descend_insert<T, O: NodeOrder<T>>(
     )
 }
 
-/// Goes down to a node of that tag, which stands there, and puts each node above it onto the path. Each
+/// Goes down to a node of that tag, which stands there, and pushes each node above it onto the path. Each
 /// gets a size that is one less: the node is about to leave.
 pub(crate) fn descend_to<T, O: NodeOrder<T>>(
     p: &mut Pool<T>,
