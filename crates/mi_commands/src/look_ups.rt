@@ -1,17 +1,19 @@
 //! The look-ups, by numbers and by keys. They change nothing; what they answer lends its rows of the database, and takes memory for pages
 //! alone.
-ghost use Rattle.std.specs.Prelude.{◌≡◌, ◌<◌, length, false};
+ghost use Rattle.std.specs.Prelude.{◌≡◌, ◌<◌, Some, length, false, IfSome};
+ghost use Rattle.std.specs.Option.{option_map};
 ghost use Rattle.mi_protocol.specs.Binding.{FitsCatalog};
 ghost use Rattle.mi_protocol.specs.Replies.{said, is_short, IsSaidOf};
 
 use crate::executor::Executor;
 use mi_protocol::{Command, KeyLookUp, NumberLookUp, Reply};
-use mi_query::{count, find, list, lower_rank, nth, range, rank, size, upper_rank};
+use mi_query::{count, list, lower_rank, range, rank, size, upper_rank};
 use mi_sessions::Sessions;
-use mi_value::{Lower, Refusal, Steps, Upper, Value};
+use mi_value::{Lower, Record, Refusal, Steps, Upper, Value};
 
 impl<D: Sessions + Drop> Executor<D> {
     ghost use Rattle.mi_model.specs.Database.{table_of};
+    ghost use Rattle.mi_model.specs.Table.{get as get_row};
     ghost use Rattle.mi_commands.specs.Performed as performed;
     ghost use Rattle.mi_commands.specs.Performed.{number_looked, key_looked};
     ghost use Rattle.mi_commands.specs.Told.{SaidOrMemory};
@@ -75,13 +77,14 @@ impl<D: Sessions + Drop> Executor<D> {
     }
 
     /// The record that a look-up found.
-    fn found(&self, table: usize, found: Option<u64>) -> Reply<'_>
-        requires { table < length self.now.database.catalog.tables }
-        ensures said { said result ≡ performed.show_found table (table_of self.now.database table) found }
+    fn found<'a>(&'a self, table: usize, found: Option<(u64, &'a Record)>) -> Reply<'a>
+        requires table { table < length self.now.database.catalog.tables }
+        requires row { IfSome found (λ r. get_row (table_of self.now.database table) r.0 ≡ Some r.1.now) }
+        ensures said { said result ≡ performed.show_found table (table_of self.now.database table) (option_map (λ r. r.0) found.entry) }
         ensures fits { IsSaidOf self.now.database.catalog (said result) }
     {
         match found {
-            Some(id) => self.get(table, id),
+            Some((id, row)) => Reply::Shown { table, id, row },
             None => Reply::Refused {
                 table,
                 refusal: Refusal::NoId,
@@ -96,7 +99,7 @@ impl<D: Sessions + Drop> Executor<D> {
         ensures fits { IsSaidOf self.now.database.catalog (said result) }
     {
         let mut steps = Steps::new();
-        let found = find(&self.database, table, index, key, &mut steps);
+        let found = self.database.find_row(table, index, key, &mut steps);
         self.found(table, found)
     }
 
@@ -106,7 +109,7 @@ impl<D: Sessions + Drop> Executor<D> {
         ensures said { said result ≡ number_looked self.now.database table (NumberLookUp.Nth index n) }
         ensures fits { IsSaidOf self.now.database.catalog (said result) }
     {
-        self.found(table, nth(&self.database, table, index, n))
+        self.found(table, self.database.nth_row(table, index, n))
     }
 
     /// How many records have a key.

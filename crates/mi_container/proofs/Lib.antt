@@ -18,3 +18,4 @@ pub mod MadeLemmas
 pub mod RestampLemmas
 pub mod RestoreLemmas
 pub mod StepLemmas
+pub mod KeyLemmas

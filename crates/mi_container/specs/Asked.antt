@@ -6,7 +6,7 @@ use Rattle.mi_value.specs.Edits.{NamesEachOnce}
 use Rattle.mi_value.specs.declared.value.Value.{Value}
 use Rattle.mi_value.specs.declared.edit.Edit.{Edit}
 use Rattle.mi_catalog.specs.declared.index.IndexKind.TheVariants.{Hashed, Sequenced}
-use Rattle.mi_catalog.specs.Kinds.{has_keys, is_sorted, shows_one_list}
+use Rattle.mi_catalog.specs.Kinds.{has_keys, is_sorted, is_hashed, shows_one_list}
 use Rattle.mi_catalog.specs.Shape.{Shape, index_at}
 use Rattle.mi_catalog.specs.Fits.{fits_record, fits_edit, fits_key}
 
@@ -44,3 +44,7 @@ WholeKey s i key = IsTrue (fits_key s.columns (index_at s i).parts true key)
 -- they are a key of it, or the first values of one
 abbrev pub KeyPrefix : Shape → ℕ → List Value → Type 0
 KeyPrefix s i key = IsTrue (fits_key s.columns (index_at s i).parts false key)
+
+-- they are what it is asked by: whole keys if it is hashed, and else also the first values of one
+abbrev pub LookUpKey : Shape → ℕ → List Value → Type 0
+LookUpKey s i key = IsTrue (fits_key s.columns (index_at s i).parts (is_hashed (index_at s i).kind) key)

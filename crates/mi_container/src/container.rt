@@ -1,8 +1,8 @@
 //! The calls of a container: the rows of one table, linked into its indexes, and changes with their inverses. It says what
 //! each call answers and leaves, by plain data and the definitions of tables, and nothing of how rows are linked. It knows
 //! no sessions.
-ghost use Rattle.std.specs.Prelude.{◌≡◌, ◌≢◌, ◌<◌, ◌≤◌, ◌+◌, ◌*◌, ◌^◌, ℕ, List, Option, false, [], length, map, IsTrue, IfOk, IfErr, IfSome};
-ghost use Rattle.std.specs.Option.{option_copied};
+ghost use Rattle.std.specs.Prelude.{◌≡◌, ◌≢◌, ◌<◌, ◌≤◌, ◌+◌, ◌*◌, ◌^◌, ℕ, List, Option, Some, None, false, [], length, map, IsTrue, IfOk, IfErr, IfSome, if◌then◌else◌};
+ghost use Rattle.std.specs.Option.{option_copied, option_map};
 ghost use Rattle.mi_value.specs.declared.refusal.Refusal.TheVariants.{Memory};
 ghost use Rattle.mi_catalog.specs.Shape.{Shape};
 ghost use Rattle.mi_model.specs.Table.{get as get_row, has as has_row, row as row_of, size as size_of};
@@ -11,7 +11,7 @@ ghost use Rattle.mi_model.specs.Conflict as meaning;
 ghost use Rattle.mi_model.specs.Page.{range as range_of};
 ghost use Rattle.mi_model.specs.Walk.{rows_from};
 ghost use Rattle.mi_model.specs.Verdict.{insert_outcome, replace_outcome, modify_outcome, erase_outcome, relocate_outcome};
-ghost use Rattle.mi_container.specs.Asked.{IsKeyed, IsHashed, IsSorted, IsSequenced, ShowsOneList, RecordFits, EditsFit, WholeKey, KeyPrefix};
+ghost use Rattle.mi_container.specs.Asked.{IsKeyed, IsHashed, IsSorted, IsSequenced, ShowsOneList, RecordFits, EditsFit, WholeKey, KeyPrefix, LookUpKey};
 ghost use Rattle.mi_container.specs.Data.{Data, IsData, as_table};
 ghost use Rattle.mi_container.specs.Held.{HoldsNodes};
 ghost use Rattle.mi_container.specs.Changes.{opened_data};
@@ -40,8 +40,8 @@ use std::alloc::{AllocError, Global};
 /// the data say. `secrets` has the secret of each index that hashes keys: what it chooses, the buckets, is seen in no answer.
 /// No call changes them.
 ///
-/// A call that takes `steps` counts each comparison of keys on them; `find`, `count`, `conflict`, `first_of` and `next_of`
-/// compare keys and count nothing. In a table whose size has b binary digits a look-up that is counted makes at most 2 b + 1.
+/// A call that takes `steps` counts each comparison of keys along an order on them. `find`, `conflict`, `first_of` and `next_of`
+/// count nothing. In a table whose size has b binary digits a look-up that is counted makes at most 2 b + 1.
 pub trait Container: Drop {
     ghost shape: { Self → Shape };
 
@@ -207,11 +207,22 @@ pub trait Container: Drop {
         requires key { WholeKey (shape self.now) index key.now }
         ensures { result ≡ look.find (shape self.now) (as_table (plain self.now)) index key.now };
 
-    /// How many records have a whole key in an index with keys. Takes no memory.
-    fn count(&self, index: usize, key: &[Value]) -> u64
+    /// The first id of a key in an index with keys and its record, or none. A hashed index is asked for a whole key, an ordered or
+    /// ranked one also for the first values of one. At most one look-up.
+    fn find_row(&self, index: usize, key: &[Value], steps: &mut Steps) -> Option<(u64, &Record)>
         requires index { IsKeyed (shape self.now) index }
-        requires key { WholeKey (shape self.now) index key.now }
-        ensures { result ≡ look.count (shape self.now) (as_table (plain self.now)) index key.now };
+        requires key { LookUpKey (shape self.now) index key.now }
+        ensures id { option_map (λ r. r.0) result ≡ look.find (shape self.now) (as_table (plain self.now)) index key.now }
+        ensures row { IfSome result (λ r. get_row (as_table (plain self.now)) r.0 ≡ Some r.1.now) }
+        ensures steps { (b : ℕ) → size_of (as_table (plain self.now)) < 2 ^ b → steps.new.count ≤ steps.old.count + (2 * b + 1) };
+
+    /// How many records have a key in an index with keys, which is asked as by `find_row`. At most two look-ups in an ordered or ranked
+    /// index; a hashed one walks the records of the key.
+    fn count(&self, index: usize, key: &[Value], steps: &mut Steps) -> u64
+        requires index { IsKeyed (shape self.now) index }
+        requires key { LookUpKey (shape self.now) index key.now }
+        ensures count { result ≡ look.count (shape self.now) (as_table (plain self.now)) index key.now }
+        ensures steps { (b : ℕ) → size_of (as_table (plain self.now)) < 2 ^ b → steps.new.count ≤ steps.old.count + 2 * (2 * b + 1) };
 
     /// The record of an id, or none. At most one look-up.
     fn get(&self, id: u64, steps: &mut Steps) -> Option<&Record>
@@ -313,26 +324,39 @@ pub trait Container: Drop {
         requires { IsSorted (shape self.now) index }
         ensures { result ≡ look.nth (shape self.now) (as_table (plain self.now)) index n };
 
-    /// How many records stand before a record in an ordered or ranked index. At most two look-ups.
+    /// The id with n records before it in an ordered or ranked index and its record, or none. It compares nothing.
+    fn nth_row(&self, index: usize, n: u64) -> Option<(u64, &Record)>
+        requires { IsSorted (shape self.now) index }
+        ensures id { option_map (λ r. r.0) result ≡ look.nth (shape self.now) (as_table (plain self.now)) index n }
+        ensures row { IfSome result (λ r. get_row (as_table (plain self.now)) r.0 ≡ Some r.1.now) };
+
+    /// How many records stand before a record in an ordered or ranked index, or none where it isn't there. At most one look-up.
+    fn rank(&self, index: usize, id: u64, steps: &mut Steps) -> Option<u64>
+        requires { IsSorted (shape self.now) index }
+        ensures rank { result ≡ (if has_row (as_table (plain self.now)) id
+            then Some (look.rank (shape self.now) (as_table (plain self.now)) index id) else None) }
+        ensures steps { (b : ℕ) → size_of (as_table (plain self.now)) < 2 ^ b → steps.new.count ≤ steps.old.count + (2 * b + 1) };
+
+    /// How many records stand before a record in an ordered or ranked index. At most one look-up.
     fn rank_of(&self, index: usize, id: u64, steps: &mut Steps) -> u64
         requires index { IsSorted (shape self.now) index }
         requires id { IsTrue (has_row (as_table (plain self.now)) id) }
         ensures rank { result ≡ look.rank (shape self.now) (as_table (plain self.now)) index id }
-        ensures steps { (b : ℕ) → size_of (as_table (plain self.now)) < 2 ^ b → steps.new.count ≤ steps.old.count + 2 * (2 * b + 1) };
+        ensures steps { (b : ℕ) → size_of (as_table (plain self.now)) < 2 ^ b → steps.new.count ≤ steps.old.count + (2 * b + 1) };
 
-    /// How many records of an ordered or ranked index have a key less than a key or the first values of one. At most two
-    /// look-ups.
+    /// How many records of an ordered or ranked index have a key less than a key or the first values of one. At most one
+    /// look-up.
     fn lower_rank(&self, index: usize, key: &[Value], steps: &mut Steps) -> u64
         requires index { IsSorted (shape self.now) index }
         requires key { KeyPrefix (shape self.now) index key.now }
         ensures rank { result ≡ look.lower_rank (shape self.now) (as_table (plain self.now)) index key.now }
-        ensures steps { (b : ℕ) → size_of (as_table (plain self.now)) < 2 ^ b → steps.new.count ≤ steps.old.count + 2 * (2 * b + 1) };
+        ensures steps { (b : ℕ) → size_of (as_table (plain self.now)) < 2 ^ b → steps.new.count ≤ steps.old.count + (2 * b + 1) };
 
     /// How many records of an ordered or ranked index have a key not greater than a key or the first values of one. At most
-    /// two look-ups.
+    /// one look-up.
     fn upper_rank(&self, index: usize, key: &[Value], steps: &mut Steps) -> u64
         requires index { IsSorted (shape self.now) index }
         requires key { KeyPrefix (shape self.now) index key.now }
         ensures rank { result ≡ look.upper_rank (shape self.now) (as_table (plain self.now)) index key.now }
-        ensures steps { (b : ℕ) → size_of (as_table (plain self.now)) < 2 ^ b → steps.new.count ≤ steps.old.count + 2 * (2 * b + 1) };
+        ensures steps { (b : ℕ) → size_of (as_table (plain self.now)) < 2 ^ b → steps.new.count ≤ steps.old.count + (2 * b + 1) };
 }

@@ -191,7 +191,7 @@ impl<C: Container> Sessions for Linked<C> {
         ensures secrets { self.new.secrets ≡ self.old.secrets }
     {
         let _ = alloc;
-        let rows = self.at(table).count(index, key);
+        let rows = self.at(table).count(index, key, &mut Steps::new());
         if self.make_room(rows as usize).is_err() {
             return Err(Refusal::Memory);
         }
@@ -248,6 +248,20 @@ impl<C: Container> Sessions for Linked<C> {
 
     fn get(&self, table: usize, id: u64, steps: &mut Steps) -> Option<&Record> {
         self.at(table).get(id, steps)
+    }
+
+    fn find_row(
+        &self,
+        table: usize,
+        index: usize,
+        key: &[Value],
+        steps: &mut Steps,
+    ) -> Option<(u64, &Record)> {
+        self.at(table).find_row(index, key, steps)
+    }
+
+    fn count(&self, table: usize, index: usize, key: &[Value], steps: &mut Steps) -> u64 {
+        self.at(table).count(index, key, steps)
     }
 
     fn first(&self, table: usize, index: usize) -> Option<u64> {
@@ -313,6 +327,14 @@ impl<C: Container> Sessions for Linked<C> {
 
     fn nth(&self, table: usize, index: usize, n: u64) -> Option<u64> {
         self.at(table).nth(index, n)
+    }
+
+    fn nth_row(&self, table: usize, index: usize, n: u64) -> Option<(u64, &Record)> {
+        self.at(table).nth_row(index, n)
+    }
+
+    fn rank(&self, table: usize, index: usize, id: u64, steps: &mut Steps) -> Option<u64> {
+        self.at(table).rank(index, id, steps)
     }
 
     fn rank_of(&self, table: usize, index: usize, id: u64, steps: &mut Steps) -> u64 {

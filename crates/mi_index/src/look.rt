@@ -127,26 +127,29 @@ impl Structure {
         }
     }
 
-    /// The first node that has the key of the probe, in the order of the stamps, if there is one. A list has no keys.
-    pub fn find(&self, p: &Pool<Stored>, probe: Probe<'_>) -> Option<NodeRef>
+    /// The first node that has the key of the probe, in the order of the stamps, if there is one. A list has no keys. In a sorted index
+    /// it is one look-up: at most 2b + 1 comparisons for fewer than 2^b nodes.
+    pub fn find(&self, p: &Pool<Stored>, probe: Probe<'_>, steps: &mut Steps) -> Option<NodeRef>
         requires { (rs : Seq Ref) × Stands self.now p.now rs }
-        ensures { (rs : Seq Ref) → Stands self.now p.now rs → result ≡ first_where (look.has_sought self.now p.now probe.entry) rs }
+        ensures node { (rs : Seq Ref) → Stands self.now p.now rs → result ≡ first_where (look.has_sought self.now p.now probe.entry) rs }
+        ensures steps { (rs : Seq Ref) → Stands self.now p.now rs → (b : ℕ) → length rs < 2 ^ b → steps.new.count ≤ steps.old.count + (2 * b + 1) }
     {
         match self {
-            Structure::Sorted(tree) => find_in_tree(tree, p, probe),
+            Structure::Sorted(tree) => find_in_tree(tree, p, probe, steps),
             Structure::Hashed(chains) => find_in_chains(chains, p, probe),
             Structure::Sequenced(_) => None,
         }
     }
 
-    /// How many nodes have the key of the probe. A list has no keys. It costs one way down a sorted index, and a step for each of the
-    /// nodes in a hashed one.
-    pub fn count(&self, p: &Pool<Stored>, probe: Probe<'_>) -> u32
+    /// How many nodes have the key of the probe. A list has no keys. It costs one way down a sorted index, which parts at the first of them:
+    /// at most 4b comparisons for fewer than 2^b nodes. In a hashed one it costs a step for each of them.
+    pub fn count(&self, p: &Pool<Stored>, probe: Probe<'_>, steps: &mut Steps) -> u32
         requires { (rs : Seq Ref) × Stands self.now p.now rs }
-        ensures { (rs : Seq Ref) → Stands self.now p.now rs → result ≡ length (filter (look.has_sought self.now p.now probe.entry) rs) }
+        ensures count { (rs : Seq Ref) → Stands self.now p.now rs → result ≡ length (filter (look.has_sought self.now p.now probe.entry) rs) }
+        ensures steps { (rs : Seq Ref) → Stands self.now p.now rs → (b : ℕ) → length rs < 2 ^ b → steps.new.count ≤ steps.old.count + 4 * b }
     {
         match self {
-            Structure::Sorted(tree) => count_in_tree(tree, p, probe),
+            Structure::Sorted(tree) => count_in_tree(tree, p, probe, steps),
             Structure::Hashed(chains) => count_in_chains(chains, p, probe),
             Structure::Sequenced(_) => 0,
         }
@@ -265,11 +268,17 @@ fn past_rank_in_tree(
     }
 }
 
-fn find_in_tree(tree: &Tree<ByKey>, p: &Pool<Stored>, probe: Probe<'_>) -> Option<NodeRef>
+fn find_in_tree(
+    tree: &Tree<ByKey>,
+    p: &Pool<Stored>,
+    probe: Probe<'_>,
+    steps: &mut Steps,
+) -> Option<NodeRef>
     requires { (rs : Seq Ref) × Stands (Sorted tree.now) p.now rs }
-    ensures { (rs : Seq Ref) → Stands (Sorted tree.now) p.now rs → result ≡ first_where (look.has_sought (Sorted tree.now) p.now probe.entry) rs }
+    ensures node { (rs : Seq Ref) → Stands (Sorted tree.now) p.now rs → result ≡ first_where (look.has_sought (Sorted tree.now) p.now probe.entry) rs }
+    ensures steps { (rs : Seq Ref) → Stands (Sorted tree.now) p.now rs → (b : ℕ) → length rs < 2 ^ b → steps.new.count ≤ steps.old.count + (2 * b + 1) }
 {
-    tree.find(&mut Counted::new(p), probe, &mut Steps::new())
+    tree.find(&mut Counted::new(p), probe, steps)
 }
 
 fn find_in_chains(chains: &Chains<ByHash>, p: &Pool<Stored>, probe: Probe<'_>) -> Option<NodeRef>
@@ -279,12 +288,13 @@ fn find_in_chains(chains: &Chains<ByHash>, p: &Pool<Stored>, probe: Probe<'_>) -
     chains.first_of(p, probe)
 }
 
-fn count_in_tree(tree: &Tree<ByKey>, p: &Pool<Stored>, probe: Probe<'_>) -> u32
+fn count_in_tree(tree: &Tree<ByKey>, p: &Pool<Stored>, probe: Probe<'_>, steps: &mut Steps) -> u32
     requires { (rs : Seq Ref) × Stands (Sorted tree.now) p.now rs }
-    ensures { (rs : Seq Ref) → Stands (Sorted tree.now) p.now rs
+    ensures count { (rs : Seq Ref) → Stands (Sorted tree.now) p.now rs
         → result ≡ length (filter (look.has_sought (Sorted tree.now) p.now probe.entry) rs) }
+    ensures steps { (rs : Seq Ref) → Stands (Sorted tree.now) p.now rs → (b : ℕ) → length rs < 2 ^ b → steps.new.count ≤ steps.old.count + 4 * b }
 {
-    tree.count(&mut Counted::new(p), probe, &mut Steps::new())
+    tree.count(&mut Counted::new(p), probe, steps)
 }
 
 fn count_in_chains(chains: &Chains<ByHash>, p: &Pool<Stored>, probe: Probe<'_>) -> u32

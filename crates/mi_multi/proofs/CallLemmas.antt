@@ -4,7 +4,7 @@ use Rattle.std.proofs.Common.{◌≡◌, ℕ, ◌+◌, ◌*◌, ◌^◌, ◌<◌
 use Rattle.std.proofs.Common.{[], ◌∷◌, ◌++◌, length, slice_get, refl, ap, sym, ◌∙◌, subst, arith}
 use Rattle.std.specs.Prelude.{IsTrue, IfSome}
 use Rattle.std.specs.List.{AllByRecursion}
-use Rattle.std.specs.Option.{option_map}
+use Rattle.std.specs.Option.{option_map, is_some}
 use Rattle.std.proofs.lemmas.Bool.{false≢true}
 use Rattle.std.specs.declared.option.Option.{Option}
 use Rattle.std.specs.declared.option.Option.TheVariants.{None, Some}
@@ -31,9 +31,10 @@ use Rattle.mi_ids.specs.IdMap.{live_node}
 use Rattle.mi_multi.specs.Multi.{id_at}
 use Rattle.mi_multi.specs.Seen.{Seen, seen_of, AreMulti}
 use Rattle.mi_multi.specs.declared.multi.MultiIndex.TheInside.{Inside}
-use Rattle.mi_multi.proofs.AnswerLemmas.{none_has}
+use Rattle.mi_multi.proofs.AnswerLemmas.{live_is, none_has, record_of}
 use Rattle.mi_multi.proofs.IndexNumberLemmas.{Numbered, numbered, reaches}
 use Rattle.mi_multi.proofs.FoundIdLemmas.{all_first, all_last, all_nth, all_before, all_behind, none_past, length_ids}
+use Rattle.mi_multi.proofs.LiveNodeLemmas.{IsLiveRef}
 use Rattle.mi_multi.proofs.LookUpLemmas as known
 
 right : (a b : Bool) → (a && b) ≡ true → b ≡ true
@@ -85,6 +86,18 @@ module _ (i : Inside) (is : AreMulti i) {w : Seen} (seen : seen_of i ≡ w) wher
   pub absent : (e : ℕ) {o : Option Ref} → o ≡ live_node i.ids.entries e → o ≡ None → IsTrue (has (as_table w.plain) e) → ⊥
   absent e live none h = false≢true (sym (none_has i.schema i.ids.entries m items i.next i.arrivals e (sym live ∙ none))
       ∙ subst (λ (v : Seen). IsTrue (has (as_table v.plain) e)) (sym seen) h)
+
+  pub isnt_there : (e : ℕ) {o : Option Ref} → o ≡ live_node i.ids.entries e → o ≡ None → has (as_table w.plain) e ≡ false
+  isnt_there e live none =
+      ap (λ (v : Seen). has (as_table v.plain) e) (sym seen) ∙ none_has i.schema i.ids.entries m items i.next i.arrivals e (sym live ∙ none)
+
+  -- an id with one is
+  pub is_there : (e : ℕ) {o : Option Ref} → o ≡ live_node i.ids.entries e → {r : Ref} → o ≡ Some r → has (as_table w.plain) e ≡ true
+  is_there e live {r} found =
+      let here = sym live ∙ found in
+      let node = is.held e (record { node = r; live = true }) (live_is i.ids.entries e r here) in
+      ap (λ (v : Seen). has (as_table v.plain) e) (sym seen)
+      ∙ ap is_some (record_of i.schema i.ids.entries m items i.next i.arrivals e r node.value here node.is)
 
   -- the index of the ids is sorted
   pub id_sorted : IsTrue (is_schema i.schema) → IsSorted w.shape 0
@@ -151,6 +164,9 @@ module _ (i : Inside) (is : AreMulti i) {w : Seen} (seen : seen_of i ≡ w) wher
     pub nth_held : (k : ℕ) {o : Option Ref} → ((qs : List Ref) → Stands y m qs → o ≡ nth_of qs k) → IfSome o (IsHeld m)
     nth_held k h = subst (λ q. IfSome q (IsHeld m)) (sym (h rs n.stood.stands)) (all_nth (IsHeld m) rs k alls)
 
+    pub nth_live : (k : ℕ) {o : Option Ref} → ((qs : List Ref) → Stands y m qs → o ≡ nth_of qs k) → IfSome o (IsLiveRef i.ids.entries m)
+    nth_live k h = subst (λ q. IfSome q (IsLiveRef i.ids.entries m)) (sym (h rs n.stood.stands)) (all_nth (IsLiveRef i.ids.entries m) rs k n.stood.live.rows)
+
     pub nth_is : (k : ℕ) {o : Option Ref} → ((qs : List Ref) → Stands y m qs → o ≡ nth_of qs k)
         → option_map (id_at m) o ≡ look.nth w.shape (as_table w.plain) x k
     nth_is k h = id_shown (λ s t. look.nth s t x k) (h rs n.stood.stands) (known.nth_seen i.schema i.ids.entries m items i.next i.arrivals is x y n k)
@@ -208,14 +224,14 @@ module _ (i : Inside) (is : AreMulti i) {w : Seen} (seen : seen_of i ≡ w) wher
 
     -- one look-up, and what the contracts of calls with one or two allow
 
-    few_steps : (old : ℕ) {new : ℕ} → ((qs : List Ref) → Stands y m qs → (b : ℕ) → length qs < 2 ^ b → new ≤ old + 2 * b)
-        → (b : ℕ) → size (as_table w.plain) < 2 ^ b → new ≤ old + 2 * b
-    few_steps old h b l = h rs n.stood.stands b (subst (λ k. k < 2 ^ b) (sym long) l)
+    pub few_steps : (most : ℕ → ℕ) (old : ℕ) {new : ℕ} → ((qs : List Ref) → Stands y m qs → (b : ℕ) → length qs < 2 ^ b → new ≤ old + most b)
+        → (b : ℕ) → size (as_table w.plain) < 2 ^ b → new ≤ old + most b
+    few_steps most old h b l = h rs n.stood.stands b (subst (λ k. k < 2 ^ b) (sym long) l)
 
     pub one_look : (old : ℕ) {new : ℕ} → ((qs : List Ref) → Stands y m qs → (b : ℕ) → length qs < 2 ^ b → new ≤ old + 2 * b)
         → (b : ℕ) → size (as_table w.plain) < 2 ^ b → new ≤ old + (2 * b + 1)
-    one_look old {new} h b l = let few : new ≤ old + 2 * b = few_steps old h b l in omega arith
+    one_look old {new} h b l = let few : new ≤ old + 2 * b = few_steps (λ k. 2 * k) old h b l in omega arith
 
-    pub two_looks : (old : ℕ) {new : ℕ} → ((qs : List Ref) → Stands y m qs → (b : ℕ) → length qs < 2 ^ b → new ≤ old + 2 * b)
+    pub two_looks : (old : ℕ) {new : ℕ} → ((qs : List Ref) → Stands y m qs → (b : ℕ) → length qs < 2 ^ b → new ≤ old + 4 * b)
         → (b : ℕ) → size (as_table w.plain) < 2 ^ b → new ≤ old + 2 * (2 * b + 1)
-    two_looks old {new} h b l = let few : new ≤ old + 2 * b = few_steps old h b l in omega arith
+    two_looks old {new} h b l = let few : new ≤ old + 4 * b = few_steps (λ k. 4 * k) old h b l in omega arith

@@ -1,5 +1,5 @@
 -- What the calls by keys ask of an index and answer, by what contracts see of the container.
--- Cited by `MultiIndex::count`, `MultiIndex::find`, `MultiIndex::holder`, `MultiIndex::next_of`, `MultiIndex::past` and 1 more.
+-- Cited by `MultiIndex::count`, `MultiIndex::find`, `MultiIndex::find_row`, `MultiIndex::holder`, `MultiIndex::next_of`, `MultiIndex::past` and 1 more.
 use Rattle.std.proofs.Common.{Bor, ◌≡◌, ◌≢◌, ℕ, ◌<◌, Bool, true, false}
 use Rattle.std.proofs.Common.{List, [], ◌∷◌, ◌++◌, length, slice_get, ap, sym, ◌∙◌, subst}
 use Rattle.std.specs.Prelude.{IsTrue, IfSome}
@@ -11,6 +11,8 @@ use Rattle.std.specs.declared.option.Option.TheVariants.{None, Some}
 use Rattle.mi_value.specs.declared.value.Value.{Value}
 use Rattle.mi_value.specs.declared.bound.Probe.{Probe}
 use Rattle.mi_value.specs.declared.bound.Probe.TheVariants.{Key}
+use Rattle.mi_catalog.specs.Fits.{fits_key}
+use Rattle.mi_catalog.specs.Key.{parts_or_id}
 use Rattle.mi_catalog.specs.Kinds.{is_hashed}
 use Rattle.mi_catalog.specs.Rules.{is_schema}
 use Rattle.mi_catalog.specs.Shape.{index_at}
@@ -25,7 +27,7 @@ use Rattle.mi_index.specs.declared.structure.Structure.{Structure}
 use Rattle.mi_index.specs.declared.structure.Structure.TheVariants.{Sorted, Hashed, Sequenced}
 use Rattle.mi_index.specs.Looks as nodes
 use Rattle.mi_index.specs.Standing.{Stands}
-use Rattle.mi_container.specs.Asked.{IsSorted, IsKeyed, IsHashed, WholeKey}
+use Rattle.mi_container.specs.Asked.{IsSorted, IsKeyed, IsHashed, LookUpKey}
 use Rattle.mi_container.specs.Data.{as_table}
 use Rattle.mi_ids.specs.IdMap.{live_node}
 use Rattle.mi_multi.specs.Multi.{id_at, IsFor}
@@ -33,6 +35,7 @@ use Rattle.mi_multi.specs.Past.{rank_past}
 use Rattle.mi_multi.specs.Seen.{Seen, seen_of, AreMulti}
 use Rattle.mi_multi.specs.declared.multi.MultiIndex.TheInside.{Inside}
 use Rattle.mi_multi.proofs.IndexNumberLemmas.{Numbered, numbered, reaches}
+use Rattle.mi_multi.proofs.LiveNodeLemmas.{IsLiveRef}
 use Rattle.mi_multi.proofs.FoundIdLemmas.{all_where, all_first, all_filter, all_behind}
 use Rattle.mi_multi.proofs.LookUpLemmas as known
 use Rattle.mi_multi.proofs.ProbeLemmas as probes
@@ -72,6 +75,12 @@ module _ (i : Inside) (is : AreMulti i) {w : Seen} (seen : seen_of i ≡ w) wher
         → ((qs : List Ref) → Stands y m qs → o ≡ first_where (nodes.is_past past y m (Key k)) qs) → IfSome o (IsHeld m)
     past_held past k h = found_held (nodes.is_past past y m (Key k)) h
 
+    pub sought_live : (q : Probe) {o : Option Ref} → ((qs : List Ref) → Stands y m qs → o ≡ first_where (nodes.has_sought y m q) qs)
+        → IfSome o (IsLiveRef i.ids.entries m)
+    sought_live q h =
+        subst (λ k. IfSome k (IsLiveRef i.ids.entries m)) (sym (h rs n.stood.stands))
+        (all_where (IsLiveRef i.ids.entries m) (nodes.has_sought y m q) rs n.stood.live.rows)
+
     pub sought_held : (q : Probe) {o : Option Ref} → ((qs : List Ref) → Stands y m qs → o ≡ first_where (nodes.has_sought y m q) qs) → IfSome o (IsHeld m)
     sought_held q h = found_held (nodes.has_sought y m q) h
 
@@ -104,7 +113,7 @@ module _ (i : Inside) (is : AreMulti i) {w : Seen} (seen : seen_of i ≡ w) wher
         → ((qs : List Ref) → Stands y m qs → j ≡ position_or_len (nodes.is_past past y m (Key k)) qs) → j ≡ rank_past past w.shape t x k.now
     past_rank sorted past k h = h rs n.stood.stands ∙ place_is sorted past k
 
-    -- whole keys
+    -- keys as look-ups are asked by
 
     parts_kept : IsTrue (is_schema i.schema) → is_hashed (index_at i.schema x).kind ≡ true → (index_at i.schema x).parts ≢ []
     parts_kept rules hashed = probes.hashed_parts (length i.schema.columns) i.schema.indexes x _ n.few (and_parts _ _ (and_parts _ _ rules).0).1 hashed
@@ -112,22 +121,30 @@ module _ (i : Inside) (is : AreMulti i) {w : Seen} (seen : seen_of i ≡ w) wher
     pub in_some : (qs : List Ref) × Stands y m qs
     in_some = (rs, n.stood.stands)
 
+    -- a key of a hashed index is whole
+    long_if_hashed : (k : Bor (List Value)) → LookUpKey w.shape x k.now
+        → is_hashed (index_at i.schema x).kind ≡ true → length k.now ≡ length (parts_or_id (index_at i.schema x).parts)
+    long_if_hashed k asked hashed =
+        whole_key_long i.schema.columns (index_at i.schema x).parts k.now
+        (subst (λ b. IsTrue (fits_key i.schema.columns (index_at i.schema x).parts b k.now)) hashed
+        (subst (λ (v : Seen). LookUpKey v.shape x k.now) (sym seen) asked))
+
     pub find_is : (k : Bor (List Value)) {o : Option Ref} → IsTrue (is_schema i.schema) → IsKeyed w.shape x
-        → WholeKey w.shape x k.now → ((qs : List Ref) → Stands y m qs → o ≡ first_where (nodes.has_sought y m (Key k)) qs)
+        → LookUpKey w.shape x k.now → ((qs : List Ref) → Stands y m qs → o ≡ first_where (nodes.has_sought y m (Key k)) qs)
         → option_map (id_at m) o ≡ look.find w.shape t x k.now
-    find_is k rules keyed whole h =
+    find_is k rules keyed asked h =
         id_shown i is seen (λ s t. look.find s t x k.now) (h rs n.stood.stands)
         (probes.find_seen i.schema i.ids.entries m items i.next i.arrivals is x y n k
-        (whole_key_long i.schema.columns (index_at i.schema x).parts k.now (subst (λ (v : Seen). WholeKey v.shape x k.now) (sym seen) whole))
+        (long_if_hashed k asked)
         (parts_kept rules) (subst (λ (v : Seen). IsKeyed v.shape x) (sym seen) keyed).1)
 
     pub count_is : (k : Bor (List Value)) {j : ℕ} → IsTrue (is_schema i.schema) → IsKeyed w.shape x
-        → WholeKey w.shape x k.now → ((qs : List Ref) → Stands y m qs → j ≡ length (filter (nodes.has_sought y m (Key k)) qs))
+        → LookUpKey w.shape x k.now → ((qs : List Ref) → Stands y m qs → j ≡ length (filter (nodes.has_sought y m (Key k)) qs))
         → j ≡ look.count w.shape t x k.now
-    count_is k rules keyed whole h =
+    count_is k rules keyed asked h =
         h rs n.stood.stands
         ∙ probes.count_seen i.schema i.ids.entries m items i.next i.arrivals is x y n k
-        (whole_key_long i.schema.columns (index_at i.schema x).parts k.now (subst (λ (v : Seen). WholeKey v.shape x k.now) (sym seen) whole))
+        (long_if_hashed k asked)
         (parts_kept rules) (subst (λ (v : Seen). IsKeyed v.shape x) (sym seen) keyed).1
         ∙ ap (λ (v : Seen). look.count v.shape (as_table v.plain) x k.now) seen
 

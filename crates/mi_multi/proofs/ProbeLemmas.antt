@@ -248,7 +248,7 @@ module _ (s : Shape) (ids : FinMap nat_cmp IdEntry) (m : Pooled Stored) (xs : Li
   whole_is [] vs v some long = absurd (some refl)
   whole_is (p ∷ ps) vs v some long = ap (λ b. b && is_eq (compare_prefix (p ∷ ps) vs v.row)) (itself long)
 
-  module _ (k : Bor (List Value)) (long : length k.now ≡ length (parts_or_id i.parts)) (parts : is_hashed i.kind ≡ true → i.parts ≢ []) where
+  module _ (k : Bor (List Value)) (long : is_hashed i.kind ≡ true → length k.now ≡ length (parts_or_id i.parts)) (parts : is_hashed i.kind ≡ true → i.parts ≢ []) where
     sought_is : (w : Structure) → IsFor i w → (has_keys i.kind ≡ true) → (q : Ref) → IsLiveRef ids m q
         → nodes.has_sought w m (Key k) q ≡ is_eq (compare_to_id i t k.now (id_at m q))
     unfolding is_node_at has_key
@@ -262,7 +262,7 @@ module _ (s : Shape) (ids : FinMap nat_cmp IdEntry) (m : Pooled Stored) (xs : Li
         let has = node_of_row s ids m xs next arrivals is x y n q live in
         ap (passes (λ v. is_key_of c.keys.parts v (Key k))) has.is
         ∙ ap (λ ps. is_whole ps k.now has.value.row) f.1
-        ∙ whole_is i.parts k.now has.value (parts f.0) long
+        ∙ whole_is i.parts k.now has.value (parts f.0) (long f.0)
         ∙ ap is_eq (place_is k.now q has.value live has.is)
     sought_is (Sequenced l) f keyed q live = absurd (no_keys i.kind keyed f)
 

@@ -1,11 +1,13 @@
 -- What a walk along an index lends, by what contracts see of the container.
--- Cited by `MultiIndex::walk` and `MultiIndex::walk_range`.
+-- Cited by `MultiIndex::find_row`, `MultiIndex::nth_row`, `MultiIndex::walk` and `MultiIndex::walk_range`.
 use Rattle.std.proofs.Common.{◌≡◌, ℕ, suc, ◌+◌, ◌*◌, ◌^◌, ◌<◌, ◌≤◌, Bool, true, false, cond, ◌&&◌, List, [], ◌∷◌, ◌++◌, map, length, take, reverse}
 use Rattle.std.proofs.Common.{refl, ap, sym, ◌∙◌, subst, arith}
-use Rattle.std.specs.Prelude.{slice_get}
+use Rattle.std.specs.Prelude.{slice_get, IfSome}
 use Rattle.std.specs.List.{AllByRecursion, filter}
 use Rattle.std.specs.Ordering.{is_le, is_lt, is_ge, is_gt}
-use Rattle.std.specs.declared.option.Option.TheVariants.{Some}
+use Rattle.std.specs.Option.{option_map}
+use Rattle.std.specs.declared.option.Option.{Option}
+use Rattle.std.specs.declared.option.Option.TheVariants.{None, Some}
 use Rattle.std.proofs.lemmas.List.{take-map, map-append, reverse-append}
 use Rattle.mi_value.specs.declared.bound.Lower.{Lower}
 use Rattle.mi_value.specs.declared.bound.Lower.TheVariants as lower
@@ -13,7 +15,7 @@ use Rattle.mi_value.specs.declared.bound.Upper.{Upper}
 use Rattle.mi_value.specs.declared.bound.Upper.TheVariants as upper
 use Rattle.mi_catalog.specs.Key.{Row, compare_to_row}
 use Rattle.mi_catalog.specs.Shape.{Shape, index_at}
-use Rattle.mi_model.specs.Table.{Table, row, size}
+use Rattle.mi_model.specs.Table.{Table, get, row, size}
 use Rattle.mi_model.specs.Page as page
 use Rattle.mi_model.specs.View.{view}
 use Rattle.mi_model.specs.Walk.{turned, from_in, rows_from}
@@ -32,11 +34,14 @@ use Rattle.mi_index.specs.Standing.{slot_in, Stands}
 use Rattle.mi_index.specs.Walks.{row_if, shown_row}
 use Rattle.mi_container.specs.Asked.{IsSorted}
 use Rattle.mi_container.specs.Data.{as_table}
-use Rattle.mi_ids.specs.IdMap.{live_node}
+use Rattle.mi_ids.specs.IdMap.{live_node, node_if_live}
+use Rattle.mi_container.proofs.PairLemmas.{none_some, some_is}
 use Rattle.mi_multi.specs.Multi.{id_at, ids_at, IsFor}
+use Rattle.mi_multi.specs.Physical.{stored_id}
 use Rattle.mi_multi.specs.Seen.{Seen, seen_of, AreMulti}
 use Rattle.mi_multi.specs.Walks.{direction_of}
 use Rattle.mi_multi.specs.declared.multi.MultiIndex.TheInside.{Inside}
+use Rattle.mi_multi.proofs.AnswerLemmas.{record_of}
 use Rattle.mi_multi.proofs.CallLemmas.{in_order, long}
 use Rattle.mi_multi.proofs.NeighbourLemmas.{ids_append}
 use Rattle.mi_multi.proofs.LiveNodeLemmas.{IsLiveRef}
@@ -78,16 +83,29 @@ ids_beyond f false us vs = refl
 
 -- the rows of live nodes are those of their ids
 module _ (i : Inside) (is : AreMulti i) (x : ℕ) {y : Structure} (at : slice_get i.nodes.structures.items x ≡ Some y) where
+  row_live : (q : Ref) → IsLiveRef i.ids.entries i.nodes.pool q → shown_row i.nodes.pool q ≡ row (as_table (seen_of i).plain) (id_at i.nodes.pool q)
+  row_live q live =
+      let m = i.nodes.pool in
+      let n = numbered i.schema i.ids.entries m i.nodes.structures.items i.next i.arrivals is x y at in
+      let has = node_of_row i.schema i.ids.entries m i.nodes.structures.items i.next i.arrivals is x y n q live in
+      ap row_if has.is ∙ sym (row_at i.schema i.ids.entries m i.nodes.structures.items i.next i.arrivals is q has.value live has has.is)
+
+  row_got : (q : Ref) → IsLiveRef i.ids.entries i.nodes.pool q
+      → get (as_table (seen_of i).plain) (shown_row i.nodes.pool q).0 ≡ Some (shown_row i.nodes.pool q).1
+  row_got q live =
+      let m = i.nodes.pool in let t = as_table (seen_of i).plain in
+      let n = numbered i.schema i.ids.entries m i.nodes.structures.items i.next i.arrivals is x y at in
+      let has = node_of_row i.schema i.ids.entries m i.nodes.structures.items i.next i.arrivals is x y n q live in
+      let here : live_node i.ids.entries (id_at m q) ≡ Some q = ap node_if_live live in
+      let id : id_at m q ≡ has.value.id = ap stored_id has.is in
+      subst (λ o. get t (row_if o).0 ≡ Some (row_if o).1) (sym has.is)
+      (subst (λ e. get t e ≡ Some has.value.row) id
+      (record_of i.schema i.ids.entries m i.nodes.structures.items i.next i.arrivals (id_at m q) q has.value here has.is))
+
   rows_live : (qs : List Ref) → AllByRecursion (IsLiveRef i.ids.entries i.nodes.pool) qs
       → map (shown_row i.nodes.pool) qs ≡ map (row (as_table (seen_of i).plain)) (ids_at i.nodes.pool qs)
   rows_live [] all = refl
-  rows_live (q ∷ qs) all =
-      let m = i.nodes.pool in let t = as_table (seen_of i).plain in
-      let n = numbered i.schema i.ids.entries m i.nodes.structures.items i.next i.arrivals is x y at in
-      let has = node_of_row i.schema i.ids.entries m i.nodes.structures.items i.next i.arrivals is x y n q all.0 in
-      let one : shown_row m q ≡ row t (id_at m q) =
-      ap row_if has.is ∙ sym (row_at i.schema i.ids.entries m i.nodes.structures.items i.next i.arrivals is q has.value all.0 has has.is) in
-      (λ j. one j ∷ rows_live qs all.1 j)
+  rows_live (q ∷ qs) all = (λ j. row_live q all.0 j ∷ rows_live qs all.1 j)
 
 module _ (i : Inside) (is : AreMulti i) (w : Seen) (seen : seen_of i ≡ w) (x : ℕ) (y : Structure)
     (at : slice_get i.nodes.structures.items x ≡ Some y) (e : ℕ) (r : Ref) (there : live_node i.ids.entries e ≡ Some r) where
@@ -140,6 +158,25 @@ module _ (i : Inside) (is : AreMulti i) {w : Seen} (seen : seen_of i ≡ w) (x :
     (at : slice_get i.nodes.structures.items x ≡ Some y) where
   abbrev pub of : Numbered i.schema i.ids.entries i.nodes.pool i.nodes.structures.items x y
   of = numbered i.schema i.ids.entries i.nodes.pool i.nodes.structures.items i.next i.arrivals is x y at
+
+  -- what is lent of a node has its id and is the record of that id
+  module _ {L : Type 0} (f : L → Row) where
+    pub lent_id : (o : Option L) (node : Option Ref) → IfSome node (IsLiveRef i.ids.entries i.nodes.pool)
+        → option_map f o ≡ option_map (shown_row i.nodes.pool) node → option_map (λ l. (f l).0) o ≡ option_map (id_at i.nodes.pool) node
+    lent_id None None live same = refl
+    lent_id None (Some q) live same = absurd (none_some same)
+    lent_id (Some l) None live same = absurd (none_some (sym same))
+    lent_id (Some l) (Some q) live same =
+        let one : f l ≡ row (as_table (seen_of i).plain) (id_at i.nodes.pool q) = some_is same ∙ row_live i is x at q live in
+        (λ j. Some (one j).0)
+
+    pub lent_row : (o : Option L) (node : Option Ref) → IfSome node (IsLiveRef i.ids.entries i.nodes.pool)
+        → option_map f o ≡ option_map (shown_row i.nodes.pool) node → IfSome o (λ l. get (as_table w.plain) (f l).0 ≡ Some (f l).1)
+    lent_row None node live same = tt
+    lent_row (Some l) None live same = absurd (none_some (sym same))
+    lent_row (Some l) (Some q) live same =
+        subst (λ (r : Row). get (as_table w.plain) r.0 ≡ Some r.1) (sym (some_is same))
+        (subst (λ (v : Seen). get (as_table v.plain) (shown_row i.nodes.pool q).0 ≡ Some (shown_row i.nodes.pool q).1) seen (row_got i is x at q live))
 
   -- the rows of the nodes are those that the index shows
   pub rows_shown : map (shown_row i.nodes.pool) of.stood.rs ≡ map (row (as_table w.plain)) (view w.shape (as_table w.plain) x)

@@ -10,7 +10,7 @@ ghost use Rattle.mi_multi.specs.Changed.{is_changed, changed_by};
 
 use crate::multi::MultiIndex;
 use crate::reading::{id_of, structure_at};
-use mi_value::{Probe, Record, Refusal};
+use mi_value::{Probe, Record, Refusal, Steps};
 
 /// The refusal of a conflict, if there is one.
 pub(crate) fn unique_refusal(conflict: Option<(usize, u64)>) -> Option<Refusal>
@@ -30,7 +30,7 @@ impl MultiIndex {
     {
         self.schema.keeps_rules();
         let structure = structure_at(&self.nodes, index);
-        let node = structure.find(&self.nodes.pool, Probe::Of(row));
+        let node = structure.find(&self.nodes.pool, Probe::Of(row), &mut Steps::new());
         id_of(&self.nodes.pool, node)
     }
 

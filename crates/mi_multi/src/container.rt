@@ -112,8 +112,12 @@ impl Container for MultiIndex {
         self.find(index, key)
     }
 
-    fn count(&self, index: usize, key: &[Value]) -> u64 {
-        self.count(index, key)
+    fn find_row(&self, index: usize, key: &[Value], steps: &mut Steps) -> Option<(u64, &Record)> {
+        self.find_row(index, key, steps)
+    }
+
+    fn count(&self, index: usize, key: &[Value], steps: &mut Steps) -> u64 {
+        self.count(index, key, steps)
     }
 
     fn get(&self, id: u64, steps: &mut Steps) -> Option<&Record> {
@@ -182,6 +186,14 @@ impl Container for MultiIndex {
 
     fn nth(&self, index: usize, n: u64) -> Option<u64> {
         self.nth(index, n)
+    }
+
+    fn nth_row(&self, index: usize, n: u64) -> Option<(u64, &Record)> {
+        self.nth_row(index, n)
+    }
+
+    fn rank(&self, index: usize, id: u64, steps: &mut Steps) -> Option<u64> {
+        self.rank(index, id, steps)
     }
 
     fn rank_of(&self, index: usize, id: u64, steps: &mut Steps) -> u64 {

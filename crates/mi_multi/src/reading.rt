@@ -1,14 +1,15 @@
 //! What a container answers of its rows. It changes nothing.
-ghost use Rattle.std.specs.Prelude.{◌≡◌, ◌<◌, ◌≤◌, ◌+◌, ◌*◌, ◌^◌, ℕ, IsTrue, IfSome, List as Seq, Some, length, slice_get};
+ghost use Rattle.std.specs.Prelude.{◌≡◌, ◌<◌, ◌≤◌, ◌+◌, ◌*◌, ◌^◌, ℕ, IsTrue, IfSome, List as Seq, Some, None, length, slice_get, if◌then◌else◌};
 ghost use Rattle.std.specs.Option.{option_map};
-ghost use Rattle.mi_model.specs.Table.{has as has_row, size as size_of};
+ghost use Rattle.mi_model.specs.Table.{get as get_row, has as has_row, size as size_of};
 ghost use Rattle.mi_model.specs.LookUp as look;
-ghost use Rattle.mi_container.specs.Asked.{IsKeyed, IsHashed, IsSorted, ShowsOneList, WholeKey, KeyPrefix};
+ghost use Rattle.mi_container.specs.Asked.{IsKeyed, IsHashed, IsSorted, ShowsOneList, WholeKey, KeyPrefix, LookUpKey};
 ghost use Rattle.mi_container.specs.Data.{as_table};
 ghost use Rattle.mi_node.specs.Pool.{IsHeld};
 ghost use Rattle.mi_node.specs.Refs.{Ref};
 ghost use Rattle.mi_index.specs.Standing.{Stands};
 ghost use Rattle.mi_index.specs.Looks as nodes;
+ghost use Rattle.mi_index.specs.Walks.{shown_row};
 ghost use Rattle.mi_index.specs.declared.structure.Structure.TheVariants.{Sorted};
 ghost use Rattle.mi_multi.specs.Multi.{id_at};
 ghost use Rattle.mi_multi.specs.Past.{rank_past};
@@ -17,7 +18,7 @@ use crate::multi::MultiIndex;
 use mi_index::{ByKey, Nodes, Stored, Structure};
 use mi_node::{NodeRef, Pool};
 use mi_tree::Tree;
-use mi_value::{Probe, Steps, Value};
+use mi_value::{Probe, Record, Steps, Value};
 
 /// The structure of the index of a number.
 pub(crate) fn structure_at(nodes: &Nodes, index: usize) -> &Structure
@@ -34,6 +35,20 @@ pub(crate) fn id_of(p: &Pool<Stored>, node: Option<NodeRef>) -> Option<u64>
 {
     match node {
         Some(node) => Some(p.value(node).id),
+        None => None,
+    }
+}
+
+/// The id and the record of a node, if there is one.
+pub(crate) fn row_in(p: &Pool<Stored>, node: Option<NodeRef>) -> Option<(u64, &Record)>
+    requires { IfSome node (λ r. IsHeld p.now r) }
+    ensures { option_map (λ r. (r.0, r.1.now)) result ≡ option_map (shown_row p.now) node }
+{
+    match node {
+        Some(node) => {
+            let stored = p.value(node);
+            Some((stored.id, &stored.row))
+        }
         None => None,
     }
 }
@@ -128,12 +143,40 @@ impl MultiIndex {
         id_of(&self.nodes.pool, node)
     }
 
-    /// How many records stand before a record in an ordered or ranked index. At most two look-ups.
+    /// The id with n records before it in an ordered or ranked index and its record, or none. It compares nothing.
+    pub fn nth_row(&self, index: usize, n: u64) -> Option<(u64, &Record)>
+        requires { IsSorted self.now.shape index }
+        ensures id { option_map (λ r. r.0) result ≡ look.nth self.now.shape (as_table self.now.plain) index n }
+        ensures row { IfSome result (λ r. get_row (as_table self.now.plain) r.0 ≡ Some r.1.now) }
+    {
+        let structure = structure_at(&self.nodes, index);
+        if n > u32::MAX as u64 {
+            return None;
+        }
+        let found = structure.nth(&self.nodes.pool, n as u32);
+        row_in(&self.nodes.pool, found)
+    }
+
+    /// How many records stand before a record in an ordered or ranked index, or none where it isn't there. At most one look-up.
+    pub fn rank(&self, index: usize, id: u64, steps: &mut Steps) -> Option<u64>
+        requires { IsSorted self.now.shape index }
+        ensures rank { result ≡ (if has_row (as_table self.now.plain) id
+            then Some (look.rank self.now.shape (as_table self.now.plain) index id) else None) }
+        ensures steps { (b : ℕ) → size_of (as_table self.now.plain) < 2 ^ b → steps.new.count ≤ steps.old.count + (2 * b + 1) }
+    {
+        let Some(node) = self.ids.live(id) else {
+            return None;
+        };
+        let structure = structure_at(&self.nodes, index);
+        Some(structure.rank(&self.nodes.pool, node, steps) as u64)
+    }
+
+    /// How many records stand before a record in an ordered or ranked index. At most one look-up.
     pub fn rank_of(&self, index: usize, id: u64, steps: &mut Steps) -> u64
         requires index { IsSorted self.now.shape index }
         requires id { IsTrue (has_row (as_table self.now.plain) id) }
         ensures rank { result ≡ look.rank self.now.shape (as_table self.now.plain) index id }
-        ensures steps { (b : ℕ) → size_of (as_table self.now.plain) < 2 ^ b → steps.new.count ≤ steps.old.count + 2 * (2 * b + 1) }
+        ensures steps { (b : ℕ) → size_of (as_table self.now.plain) < 2 ^ b → steps.new.count ≤ steps.old.count + (2 * b + 1) }
     {
         let Some(node) = self.ids.live(id) else {
             return 0;
@@ -215,8 +258,23 @@ impl MultiIndex {
     {
         self.schema.keeps_rules();
         let structure = structure_at(&self.nodes, index);
-        let node = structure.find(&self.nodes.pool, Probe::Key(key));
+        let node = structure.find(&self.nodes.pool, Probe::Key(key), &mut Steps::new());
         id_of(&self.nodes.pool, node)
+    }
+
+    /// The first id of a key in an index with keys and its record, or none. A hashed index is asked for a whole key, an ordered or
+    /// ranked one also for the first values of one. At most one look-up.
+    pub fn find_row(&self, index: usize, key: &[Value], steps: &mut Steps) -> Option<(u64, &Record)>
+        requires index { IsKeyed self.now.shape index }
+        requires key { LookUpKey self.now.shape index key.now }
+        ensures id { option_map (λ r. r.0) result ≡ look.find self.now.shape (as_table self.now.plain) index key.now }
+        ensures row { IfSome result (λ r. get_row (as_table self.now.plain) r.0 ≡ Some r.1.now) }
+        ensures steps { (b : ℕ) → size_of (as_table self.now.plain) < 2 ^ b → steps.new.count ≤ steps.old.count + (2 * b + 1) }
+    {
+        self.schema.keeps_rules();
+        let structure = structure_at(&self.nodes, index);
+        let node = structure.find(&self.nodes.pool, Probe::Key(key), steps);
+        row_in(&self.nodes.pool, node)
     }
 
     /// The first id of a whole key in a hashed index, or none.

@@ -8,3 +8,4 @@ pub mod ScanLemmas
 pub mod SearchLemmas
 pub mod ChangeLemmas
 pub mod WalkLemmas
+pub mod FindLemmas

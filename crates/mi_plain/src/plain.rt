@@ -190,6 +190,24 @@ impl Sessions for Plain {
         self.tables[table].get(id)
     }
 
+    fn find_row(
+        &self,
+        table: usize,
+        index: usize,
+        key: &[Value],
+        steps: &mut Steps,
+    ) -> Option<(u64, &Record)> {
+        let _ = steps;
+        let (schema, rows) = self.at(table);
+        rows.find_row(schema, index, key)
+    }
+
+    fn count(&self, table: usize, index: usize, key: &[Value], steps: &mut Steps) -> u64 {
+        let _ = steps;
+        let (schema, rows) = self.at(table);
+        rows.count(schema, index, key)
+    }
+
     fn first(&self, table: usize, index: usize) -> Option<u64> {
         let (schema, rows) = self.at(table);
         rows.first(schema, index)
@@ -264,6 +282,17 @@ impl Sessions for Plain {
     fn nth(&self, table: usize, index: usize, n: u64) -> Option<u64> {
         let (schema, rows) = self.at(table);
         rows.nth(schema, index, n)
+    }
+
+    fn nth_row(&self, table: usize, index: usize, n: u64) -> Option<(u64, &Record)> {
+        let (schema, rows) = self.at(table);
+        rows.nth_row(schema, index, n)
+    }
+
+    fn rank(&self, table: usize, index: usize, id: u64, steps: &mut Steps) -> Option<u64> {
+        let _ = steps;
+        let (schema, rows) = self.at(table);
+        rows.rank(schema, index, id)
     }
 
     fn rank_of(&self, table: usize, index: usize, id: u64, steps: &mut Steps) -> u64 {

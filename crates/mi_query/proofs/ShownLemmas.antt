@@ -1,5 +1,5 @@
 -- What an index shows of a database.
--- Cited by `look_ups::find_sorted`, `pages::list` and `shown::shows_each`.
+-- Cited by `pages::list` and `shown::shows_each`.
 use Rattle.std.proofs.Common.{◌≡◌, ℕ, ◌<◌, length}
 use Rattle.std.specs.Prelude.{IsTrue, slice_get}
 use Rattle.std.specs.declared.option.Option.TheVariants.{Some}

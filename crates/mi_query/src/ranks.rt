@@ -19,7 +19,7 @@ pub fn size<D: Sessions>(db: &D, table: usize) -> u64
 }
 
 /// How many records stand before a record in an ordered or ranked index: those of a smaller key, and of its equals those
-/// that arrived earlier. Its one refusal is `NoId`, where the record isn't there. At most three look-ups.
+/// that arrived earlier. Its one refusal is `NoId`, where the record isn't there. At most one look-up.
 pub fn rank<D: Sessions>(
     db: &D,
     table: usize,
@@ -32,12 +32,12 @@ pub fn rank<D: Sessions>(
     ensures rank { result ≡ (if has_row (table_of (D.state db.now) table) id
         then Ok (look.rank (schema_of (D.state db.now) table) (table_of (D.state db.now) table) index id)
         else Err NoId) }
-    ensures steps { WithinLookUps D.bound 3 (size_of (table_of (D.state db.now) table)) steps.old.count steps.new.count }
+    ensures steps { WithinLookUps D.bound 1 (size_of (table_of (D.state db.now) table)) steps.old.count steps.new.count }
 {
-    if db.get(table, id, steps).is_none() {
-        return Err(Refusal::NoId);
+    match db.rank(table, index, id, steps) {
+        Some(before) => Ok(before),
+        None => Err(Refusal::NoId),
     }
-    Ok(db.rank_of(table, index, id, steps))
 }
 
 /// The id with n records before it in an ordered or ranked index, or none.
@@ -49,8 +49,8 @@ pub fn nth<D: Sessions>(db: &D, table: usize, index: usize, n: u64) -> Option<u6
     db.nth(table, index, n)
 }
 
-/// How many records of an ordered or ranked index have a key less than a key or the first values of one. At most two
-/// look-ups.
+/// How many records of an ordered or ranked index have a key less than a key or the first values of one. At most one
+/// look-up.
 pub fn lower_rank<D: Sessions>(
     db: &D,
     table: usize,
@@ -62,13 +62,13 @@ pub fn lower_rank<D: Sessions>(
     requires index { IsSortedIndex (D.state db.now).catalog table index }
     requires key { FitsPrefix (D.state db.now).catalog table index key.now }
     ensures rank { result ≡ look.lower_rank (schema_of (D.state db.now) table) (table_of (D.state db.now) table) index key.now }
-    ensures steps { WithinLookUps D.bound 2 (size_of (table_of (D.state db.now) table)) steps.old.count steps.new.count }
+    ensures steps { WithinLookUps D.bound 1 (size_of (table_of (D.state db.now) table)) steps.old.count steps.new.count }
 {
     db.lower_rank(table, index, key, steps)
 }
 
 /// How many records of an ordered or ranked index have a key not greater than a key or the first values of one. At most
-/// two look-ups.
+/// one look-up.
 pub fn upper_rank<D: Sessions>(
     db: &D,
     table: usize,
@@ -80,7 +80,7 @@ pub fn upper_rank<D: Sessions>(
     requires index { IsSortedIndex (D.state db.now).catalog table index }
     requires key { FitsPrefix (D.state db.now).catalog table index key.now }
     ensures rank { result ≡ look.upper_rank (schema_of (D.state db.now) table) (table_of (D.state db.now) table) index key.now }
-    ensures steps { WithinLookUps D.bound 2 (size_of (table_of (D.state db.now) table)) steps.old.count steps.new.count }
+    ensures steps { WithinLookUps D.bound 1 (size_of (table_of (D.state db.now) table)) steps.old.count steps.new.count }
 {
     db.upper_rank(table, index, key, steps)
 }

@@ -1,11 +1,11 @@
 //! The calls of a database: several tables under one stack of nested sessions. It says what each call answers and leaves,
 //! by the definitions of `mi_model`, and nothing of how rows are kept.
-ghost use Rattle.std.specs.Prelude.{◌≡◌, ℕ, length, map, IsTrue, IfSome, IfOk, IfErr};
+ghost use Rattle.std.specs.Prelude.{◌≡◌, ℕ, Some, None, length, map, IsTrue, IfSome, IfOk, IfErr, if◌then◌else◌};
 ghost use Rattle.std.specs.declared.option.Option.{Option as Maybe};
-ghost use Rattle.std.specs.Option.{option_copied};
+ghost use Rattle.std.specs.Option.{option_copied, option_map};
 ghost use Rattle.mi_value.specs.declared.refusal.Refusal.TheVariants.{Memory};
 ghost use Rattle.mi_catalog.specs.Fitting.{HasTable, IsKeyedIndex, IsHashedIndex, IsSortedIndex, IsSequencedIndex, IsListedIndex};
-ghost use Rattle.mi_catalog.specs.Fitting.{FitsTable, FitsEdits, FitsWhole, FitsPrefix};
+ghost use Rattle.mi_catalog.specs.Fitting.{FitsTable, FitsEdits, FitsWhole, FitsPrefix, FitsLookUp};
 ghost use Rattle.mi_model.specs.Table.{get as get_row, has as has_row, row as row_of, size as size_of};
 ghost use Rattle.mi_model.specs.LookUp as look;
 ghost use Rattle.mi_model.specs.Page.{range as range_of};
@@ -26,7 +26,7 @@ use std::alloc::Global;
 /// `Memory` stands last where refusals have an order, but a database may ask for memory first: it may stand in the place of any
 /// other answer, and then nothing has changed.
 ///
-/// A call that takes `steps` counts each comparison of keys on them; `first_of` and `next_of` compare keys and count nothing.
+/// A call that takes `steps` counts each comparison of keys along an order on them; `first_of` and `next_of` count nothing.
 /// `bound` says how many one look-up in a table of so many rows makes at most, if the database promises it.
 pub trait Sessions {
     ghost state: { Self → Database };
@@ -142,6 +142,30 @@ pub trait Sessions {
         ensures record { option_copied result ≡ get_row (table_of (state self.now) table) id }
         ensures steps { WithinLookUps bound 1 (size_of (table_of (state self.now) table)) steps.old.count steps.new.count };
 
+    /// The first id of a key in an index with keys and its record, or none: of equal keys that of the record that arrived first. A hashed
+    /// index is asked for a whole key, an ordered or ranked one also for the first values of one. At most one look-up.
+    fn find_row(
+        &self,
+        table: usize,
+        index: usize,
+        key: &[Value],
+        steps: &mut Steps,
+    ) -> Option<(u64, &Record)>
+        requires table { HasTable (state self.now).catalog table }
+        requires index { IsKeyedIndex (state self.now).catalog table index }
+        requires key { FitsLookUp (state self.now).catalog table index key.now }
+        ensures id { option_map (λ r. r.0) result ≡ look.find (schema_of (state self.now) table) (table_of (state self.now) table) index key.now }
+        ensures row { IfSome result (λ r. get_row (table_of (state self.now) table) r.0 ≡ Some r.1.now) }
+        ensures steps { WithinLookUps bound 1 (size_of (table_of (state self.now) table)) steps.old.count steps.new.count };
+
+    /// How many records have a key in an index with keys, which is asked as by `find_row`. At most two look-ups.
+    fn count(&self, table: usize, index: usize, key: &[Value], steps: &mut Steps) -> u64
+        requires table { HasTable (state self.now).catalog table }
+        requires index { IsKeyedIndex (state self.now).catalog table index }
+        requires key { FitsLookUp (state self.now).catalog table index key.now }
+        ensures count { result ≡ look.count (schema_of (state self.now) table) (table_of (state self.now) table) index key.now }
+        ensures steps { WithinLookUps bound 2 (size_of (table_of (state self.now) table)) steps.old.count steps.new.count };
+
     /// The first id that an index shows, or none of an empty table. A hashed index has no order.
     fn first(&self, table: usize, index: usize) -> Option<u64>
         requires table { HasTable (state self.now).catalog table }
@@ -247,31 +271,46 @@ pub trait Sessions {
         requires index { IsSortedIndex (state self.now).catalog table index }
         ensures { result ≡ look.nth (schema_of (state self.now) table) (table_of (state self.now) table) index n };
 
-    /// How many records stand before a record in an ordered or ranked index. At most two look-ups.
+    /// The id with n records before it in an ordered or ranked index and its record, or none. It compares nothing.
+    fn nth_row(&self, table: usize, index: usize, n: u64) -> Option<(u64, &Record)>
+        requires table { HasTable (state self.now).catalog table }
+        requires index { IsSortedIndex (state self.now).catalog table index }
+        ensures id { option_map (λ r. r.0) result ≡ look.nth (schema_of (state self.now) table) (table_of (state self.now) table) index n }
+        ensures row { IfSome result (λ r. get_row (table_of (state self.now) table) r.0 ≡ Some r.1.now) };
+
+    /// How many records stand before a record in an ordered or ranked index, or none where it isn't there. At most one look-up.
+    fn rank(&self, table: usize, index: usize, id: u64, steps: &mut Steps) -> Option<u64>
+        requires table { HasTable (state self.now).catalog table }
+        requires index { IsSortedIndex (state self.now).catalog table index }
+        ensures rank { result ≡ (if has_row (table_of (state self.now) table) id
+            then Some (look.rank (schema_of (state self.now) table) (table_of (state self.now) table) index id) else None) }
+        ensures steps { WithinLookUps bound 1 (size_of (table_of (state self.now) table)) steps.old.count steps.new.count };
+
+    /// How many records stand before a record in an ordered or ranked index. At most one look-up.
     fn rank_of(&self, table: usize, index: usize, id: u64, steps: &mut Steps) -> u64
         requires table { HasTable (state self.now).catalog table }
         requires index { IsSortedIndex (state self.now).catalog table index }
         requires id { IsTrue (has_row (table_of (state self.now) table) id) }
         ensures rank { result ≡ look.rank (schema_of (state self.now) table) (table_of (state self.now) table) index id }
-        ensures steps { WithinLookUps bound 2 (size_of (table_of (state self.now) table)) steps.old.count steps.new.count };
+        ensures steps { WithinLookUps bound 1 (size_of (table_of (state self.now) table)) steps.old.count steps.new.count };
 
-    /// How many records of an ordered or ranked index have a key less than a key or the first values of one. At most two
-    /// look-ups.
+    /// How many records of an ordered or ranked index have a key less than a key or the first values of one. At most one
+    /// look-up.
     fn lower_rank(&self, table: usize, index: usize, key: &[Value], steps: &mut Steps) -> u64
         requires table { HasTable (state self.now).catalog table }
         requires index { IsSortedIndex (state self.now).catalog table index }
         requires key { FitsPrefix (state self.now).catalog table index key.now }
         ensures rank { result ≡ look.lower_rank (schema_of (state self.now) table) (table_of (state self.now) table) index key.now }
-        ensures steps { WithinLookUps bound 2 (size_of (table_of (state self.now) table)) steps.old.count steps.new.count };
+        ensures steps { WithinLookUps bound 1 (size_of (table_of (state self.now) table)) steps.old.count steps.new.count };
 
     /// How many records of an ordered or ranked index have a key not greater than a key or the first values of one. At most
-    /// two look-ups.
+    /// one look-up.
     fn upper_rank(&self, table: usize, index: usize, key: &[Value], steps: &mut Steps) -> u64
         requires table { HasTable (state self.now).catalog table }
         requires index { IsSortedIndex (state self.now).catalog table index }
         requires key { FitsPrefix (state self.now).catalog table index key.now }
         ensures rank { result ≡ look.upper_rank (schema_of (state self.now) table) (table_of (state self.now) table) index key.now }
-        ensures steps { WithinLookUps bound 2 (size_of (table_of (state self.now) table)) steps.old.count steps.new.count };
+        ensures steps { WithinLookUps bound 1 (size_of (table_of (state self.now) table)) steps.old.count steps.new.count };
 
     /// Opens a session and answers its number, the new revision. Refusals, in this order: `Spent` (the revision is
     /// 2^63 - 1), `Depth` (1,024 are open), `Memory`.

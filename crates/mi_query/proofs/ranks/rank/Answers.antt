@@ -1,10 +1,10 @@
 -- A record that isn't there has no rank.
-use Rattle.std.proofs.Common.{◌≡◌, false, rules}
-use Rattle.mi_model.specs.Table.{has}
-use Rattle.mi_model.specs.Database.{table_of}
+use Rattle.std.proofs.Common.{sym, ◌∙◌}
+use Rattle.mi_query.proofs.LookUpLemmas.{ranked, not_ranked}
 use Rattle.mi_query.proofs.ranks.rank.Goals as goal
 
-pub returns-then-is_none-clause-rank : goal.returns-then-is_none-clause-rank
-returns-then-is_none-clause-rank g c =
-    let none : has (table_of (g.D.Sessions.state c.args.db.now) c.args.table) c.args.id ≡ false = search rules in
-    rw none
+pub returns-in-Some-clause-rank : goal.returns-in-Some-clause-rank
+returns-in-Some-clause-rank g c = ranked _ _ _ (sym c.in-Some.is ∙ c.rank.ensures.rank)
+
+pub returns-in-None-clause-rank : goal.returns-in-None-clause-rank
+returns-in-None-clause-rank g c = not_ranked _ _ (sym c.in-None.is ∙ c.rank.ensures.rank)

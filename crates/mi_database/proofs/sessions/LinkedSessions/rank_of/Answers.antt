@@ -1,6 +1,6 @@
 -- the container's bound is the table's
-use Rattle.mi_database.proofs.BoundLemmas.{within_two}
+use Rattle.mi_database.proofs.BoundLemmas.{within_one}
 use Rattle.mi_database.proofs.sessions.LinkedSessions.rank_of.Goals as goal
 
 pub returns-clause-steps : goal.returns-clause-steps
-returns-clause-steps g c = within_two _ _ _ _ c.at.ensures.table c.rank_of.ensures.steps
+returns-clause-steps g c = within_one _ _ _ _ c.at.ensures.table c.rank_of.ensures.steps

@@ -5,5 +5,5 @@ use Rattle.mi_index.specs.Looks.{has_sought}
 use Rattle.mi_index.proofs.LookUpLemmas.{none_pass}
 use Rattle.mi_index.proofs.structure.Structure.count.Goals as goal
 
-pub returns-in-Sequenced : goal.returns-in-Sequenced
-returns-in-Sequenced c rs h = subst (λ x. 0 ≡ length (filter (has_sought x c.args.p.now c.args.probe) rs)) (sym c.in-Sequenced.is) (none_pass rs)
+pub returns-in-Sequenced-clause-count : goal.returns-in-Sequenced-clause-count
+returns-in-Sequenced-clause-count c rs h = subst (λ x. 0 ≡ length (filter (has_sought x c.args.p.now c.args.probe) rs)) (sym c.in-Sequenced.is) (none_pass rs)

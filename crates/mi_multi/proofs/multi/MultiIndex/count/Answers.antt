@@ -1,4 +1,5 @@
 -- As many nodes have the key in its structure as ids have it.
+use Rattle.mi_multi.proofs.CallLemmas.{two_looks}
 use Rattle.mi_multi.proofs.KeyCallLemmas.{keyed_reaches, in_some, count_is}
 use Rattle.mi_multi.proofs.multi.MultiIndex.count.Goals as goal
 
@@ -8,7 +9,11 @@ structure_at-structure-requires c = keyed_reaches c.self.inside c.self.invariant
 pub count-requires : goal.count-requires
 count-requires c = in_some c.self.inside c.self.invariant c.self.view_is c.args.index c.structure_at-structure.ensures
 
-pub returns : goal.returns
-returns c =
+pub returns-clause-count : goal.returns-clause-count
+returns-clause-count c =
     count_is c.self.inside c.self.invariant c.self.view_is c.args.index c.structure_at-structure.ensures c.args.key c.keeps_rules.ensures
-    c.requires.index c.requires.key c.count.ensures
+    c.requires.index c.requires.key c.count.ensures.count
+
+pub returns-clause-steps : goal.returns-clause-steps
+returns-clause-steps c =
+    two_looks c.self.inside c.self.invariant c.self.view_is c.args.index c.structure_at-structure.ensures c.args.steps.now.count c.count.ensures.steps

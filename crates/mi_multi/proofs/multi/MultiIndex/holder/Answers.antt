@@ -13,10 +13,10 @@ pub find-node-requires : goal.find-node-requires
 find-node-requires c = in_some c.self.inside c.self.invariant c.self.view_is c.args.index c.structure_at-structure.ensures
 
 pub id_of-requires : goal.id_of-requires
-id_of-requires c = sought_held c.self.inside c.self.invariant c.self.view_is c.args.index c.structure_at-structure.ensures (Of c.args.row) c.find-node.ensures
+id_of-requires c = sought_held c.self.inside c.self.invariant c.self.view_is c.args.index c.structure_at-structure.ensures (Of c.args.row) c.find-node.ensures.node
 
 pub returns : goal.returns
 returns c =
     c.id_of.ensures ∙ holder_is c.self.inside c.self.invariant c.args.self.now c.self.view_is c.args.index c.requires.declared c.requires.there
     c.structure_at-structure.result.now c.structure_at-structure.ensures c.args.row c.find-node.result c.keeps_rules.ensures c.requires.alone
-    c.find-node.ensures
+    c.find-node.ensures.node

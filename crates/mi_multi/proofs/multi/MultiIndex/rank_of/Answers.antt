@@ -1,5 +1,5 @@
 -- The number of nodes before the row's is the number of ids before it.
-use Rattle.mi_multi.proofs.CallLemmas.{sorted_reaches, absent, ranked, rank_is, two_looks}
+use Rattle.mi_multi.proofs.CallLemmas.{sorted_reaches, absent, ranked, rank_is, one_look}
 use Rattle.mi_multi.proofs.multi.MultiIndex.rank_of.Goals as goal
 
 pub returns-in_default-clause-rank : goal.returns-in_default-clause-rank
@@ -17,4 +17,4 @@ returns-clause-rank c =
     rank_is c.self.inside c.self.invariant c.self.view_is c.args.index c.structure_at.ensures c.args.id c.live.ensures c.in-Some.is c.rank.ensures.rank
 
 pub returns-clause-steps : goal.returns-clause-steps
-returns-clause-steps c = two_looks c.self.inside c.self.invariant c.self.view_is c.args.index c.structure_at.ensures c.args.steps.now.count c.rank.ensures.steps
+returns-clause-steps c = one_look c.self.inside c.self.invariant c.self.view_is c.args.index c.structure_at.ensures c.args.steps.now.count c.rank.ensures.steps
