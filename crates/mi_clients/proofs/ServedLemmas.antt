@@ -1,5 +1,5 @@
 -- What connections are owed and sent, one step behind another, and over a list.
--- Cited by `asking::ask_lines`, `asking::disconnect`, `asking::finish`, `beside::attend`, `clients::connect`, 11 more and `mi_serving`.
+-- Cited by `asking::ask_lines`, `asking::disconnect`, `asking::finish`, `beside::attend`, `clients::ask_all`, 11 more and `mi_serving`.
 use Rattle.std.proofs.Common.{◌≡◌, ◌⊎◌, inl, inr, ℕ, zero, suc, ◌<◌, List, [], ◌∷◌, ◌++◌, length, nat_eq, cond, ◌≤◌, Option, Some, None, false, refl, sym, ap, ◌∙◌, subst}
 use Rattle.std.proofs.Common.{Result, Ok, Err}
 use Rattle.std.proofs.Common.{append-nil, append_assoc, arith}

@@ -1,5 +1,5 @@
 -- The streams of connections: each keeps its own, and one that has failed breaks its connection.
--- Cited by `laws::numbers_keep_streams`, `clients::ask_all`, `clients::send_all`, `clients::serve`, `clients::serve_all`, 2 more and `mi_serving`.
+-- Cited by `clients::ask_all`, `clients::send_all`, `clients::serve`, `clients::serve_all`, `clients::wake_one`, 2 more and `mi_serving`.
 use Rattle.std.proofs.Common.{◌≡◌, inl, inr, ℕ, ℤ, ◌<◌, ◌≤◌, List, [], ◌∷◌, ◌++◌, length, map, Bool, true, false, cond, nat_eq, refl, sym, ap, ◌∙◌, subst, arith}
 use Rattle.std.specs.Prelude.{⊤, Option}
 use Rattle.std.specs.List.{All, AllZip, Contains}

@@ -1,5 +1,5 @@
 -- What may have changed nothing has changed nothing; replies without rows; and no command changes the catalog.
--- Cited by `Executor::answer`, `Executor::answer_change`, `Executor::answer_keys`, 4 more, `mi_hub`, `mi_durable` and `mi_replay`.
+-- Cited by `Executor::answer`, `Executor::answer_change`, `Executor::answer_keys`, 4 more, `mi_durable`, `mi_hub` and `mi_replay`.
 use Rattle.std.proofs.Common.{◌≡◌, ℕ, List, Bool, true, false, cond, nat_eq, not, ◌+◌, ◌-◌, ◌&&◌, Option, Some, None, Result, Ok, Err}
 use Rattle.std.proofs.Common.{refl, sym, ap, ◌∙◌, inl, inr, true≢false}
 use Rattle.std.proofs.lemmas.List.{set-get_or}

@@ -1,5 +1,5 @@
 -- What a step says is the same whatever places stand beside it: which node it keeps, and how it is settled.
--- Cited by `mi_database` and `test_container`.
+-- Cited by `mi_database`.
 use Rattle.std.proofs.Common.{◌≡◌, Option, List, [], refl}
 use Rattle.mi_container.specs.Data.{Data}
 use Rattle.mi_container.specs.Inverse.{OldPlace, settled, lost_to}

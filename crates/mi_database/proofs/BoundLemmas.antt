@@ -1,5 +1,5 @@
 -- A number is below the power of two of its binary digits.
--- Cited by `LinkedSessions::get`, `LinkedSessions::lower`, `LinkedSessions::lower_rank`, `LinkedSessions::rank_of` and 4 more.
+-- Cited by `LinkedSessions::count`, `LinkedSessions::find_row`, `LinkedSessions::get`, `LinkedSessions::lower` and 7 more.
 use Rattle.std.proofs.Common.{◌≡◌, ℕ, zero, suc, ◌+◌, ◌*◌, ◌/◌, ◌^◌, ◌<◌, ◌≤◌, ap, sym, ◌∙◌, subst, arith}
 use Rattle.std.proofs.Math.Nat.{pow-suc}
 use Rattle.mi_catalog.specs.Shape.{Shape}

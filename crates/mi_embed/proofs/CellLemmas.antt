@@ -1,5 +1,5 @@
 -- What bytes are as a text, and how many values cells are.
--- Cited by `cell::values_of`, `NameLemmas`, `asked` and `cell`.
+-- Cited by `cell::values_of`, `NameLemmas`, `arguments` and `cell`.
 use Rattle.std.proofs.Common.{◌≡◌, ◌⊎◌, ◌∙◌, ◌&&◌, ℕ, suc, List, [], ◌∷◌, ◌++◌, length, map, Bool, true, false, true≢false}
 use Rattle.std.proofs.Common.{Option, Some, None, option_map, option_and_then, cond, refl, sym, ap, inl, inr}
 use Rattle.std.specs.Str.{IsUtf8, is_utf8}

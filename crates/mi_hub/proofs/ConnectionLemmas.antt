@@ -1,5 +1,5 @@
 -- Finding, changing and taking out a connection.
--- Cited by `connection::place_of`, `HolderLemmas`, `OneLineLemmas`, `PieceLemmas`, `RestLemmas`, `mi_durable`, `mi_program` and `mi_replay`.
+-- Cited by `connection::place_of`, `HolderLemmas`, `OneLineLemmas`, `PieceLemmas`, 1 more, `mi_durable`, `mi_program` and `mi_replay`.
 use Rattle.std.proofs.Common.{◌≡◌, ℕ, zero, suc, ◌<◌, List, [], ◌∷◌, ◌++◌, length, get_or, Bool, true, false}
 use Rattle.std.proofs.Common.{cond, nat_eq, Option, Some, None, is_some, refl, sym, ap, ◌∙◌, arith, inl, inr, ◌⊎◌}
 use Rattle.mi_hub.specs.Lines.{Rest}

@@ -1,5 +1,5 @@
 -- The ids of one whole key, one after another.
--- Cited by `AskedLaws`, `mi_database`, `mi_multi` and `mi_query`.
+-- Cited by `AskedLaws`, `mi_database`, `mi_multi` and `mi_plain`.
 use Rattle.std.proofs.Common.{◌≡◌, ℕ, ◌+◌, ◌<◌, ◌≤◌, zero, suc, Bool, true, false, cond, ◌&&◌, List, [], ◌∷◌, length, refl, ap, sym, ◌∙◌, arith, eqb-true}
 use Rattle.std.specs.Prelude.{◌==◌, slice_get, IsTrue}
 use Rattle.std.specs.List.{filter}

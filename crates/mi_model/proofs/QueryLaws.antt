@@ -1,5 +1,5 @@
 -- Look-ups and ranges over what a sorted index shows: the ids between two bounds stand between two ranks.
--- Cited by `NextLaws`, `mi_multi`, `mi_plain` and `mi_query`.
+-- Cited by `NextLaws`, `mi_multi` and `mi_plain`.
 use Rattle.std.proofs.Common.{◌≡◌, ℕ, ◌-◌, ◌<◌, ◌≤◌, zero, suc, Bool, true, false, cond, not, ◌&&◌, ◌≢◌, inl}
 use Rattle.std.proofs.Common.{inr, min, get_or, List, [], ◌∷◌, length, take, drop, reverse, refl, ap, sym, ◌∙◌, arith}
 use Rattle.std.specs.Prelude.{slice_get, IsTrue}

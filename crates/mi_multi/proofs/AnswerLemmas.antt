@@ -1,5 +1,5 @@
 -- What the calls answer, from what is known of ids and data.
--- Cited by `MultiIndex::erase_for`, `MultiIndex::get`, `MultiIndex::settle_erased`, `MultiIndex::take_back_erased` and 8 more.
+-- Cited by `MultiIndex::erase_for`, `MultiIndex::get`, `MultiIndex::settle_erased`, `MultiIndex::take_back_erased` and 9 more.
 use Rattle.std.proofs.Common.{◌≡◌, ℕ, List, Bool, true, false, cond, refl, ap, sym, ◌∙◌, subst}
 use Rattle.std.specs.Option.{option_map, option_and_then, is_some}
 use Rattle.std.specs.Ordering.{nat_cmp}

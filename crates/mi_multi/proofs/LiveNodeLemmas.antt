@@ -1,5 +1,5 @@
 -- What is known of the nodes of live ids, and of those that are only kept.
--- Cited by `ConflictLemmas`, `EraseLemmas`, `ImagingLemmas`, `InsertLemmas`, `InsertedLemmas` and 20 more.
+-- Cited by `CallLemmas`, `ConflictLemmas`, `EraseLemmas`, `ImagingLemmas`, `InsertLemmas` and 22 more.
 use Rattle.std.proofs.Common.{◌≡◌, ◌≢◌, ℕ, ◌+◌, ◌<◌, Bool, true, false, cond, inl, inr, List, [], ◌∷◌, ◌++◌, refl, ap, sym, ◌∙◌, subst, arith}
 use Rattle.std.specs.Prelude.{◌==◌}
 use Rattle.std.specs.Option.{option_and_then, is_some}

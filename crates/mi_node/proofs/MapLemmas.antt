@@ -3,7 +3,7 @@
 --     held_..                      what is read at the name of a held reference
 --     seen-..                      the map after a change
 --     sound-..                     that places stay sound
--- Cited by `Places::add_chunk`, `Places::has_free`, `Places::link`, `Places::new`, `Places::set_link` and 13 more.
+-- Cited by `Places::add_chunk`, `Places::has_free`, `Places::link`, `Places::new`, `Places::occupy` and 13 more.
 use Rattle.std.proofs.Common.{◌≡◌, ℕ, zero, suc, ◌+◌, ◌-◌, ◌<◌, ◌≤◌, ◌==◌, true, false, cond, List, [], ◌∷◌, ◌++◌, length, option_map}
 use Rattle.std.proofs.Common.{replicate, slice_set, slice_index_or, Option, Some, None, refl, sym, ap, ◌∙◌, subst, arith}
 use Rattle.std.specs.Prelude.{IsTrue, is_some}

@@ -1,5 +1,5 @@
 -- What stands before a boundary, and what an index then shows there.
--- Cited by `PlainTable::first_of`, `PlainTable::last_before`, `PlainTable::next_of`, `PlainTable::nth`, `ScanLemmas` and 1 more.
+-- Cited by `PlainTable::count`, `PlainTable::first_of`, `PlainTable::last_before`, `PlainTable::next_of`, `PlainTable::nth` and 3 more.
 use Rattle.std.proofs.Common.{◌≡◌, ℕ, ◌<◌, ◌≤◌, Bool, true, false, cond, not, inl, inr, List, []}
 use Rattle.std.proofs.Common.{◌∷◌, ◌++◌, length, slice_get, refl, ap, sym, ◌∙◌, subst, arith}
 use Rattle.std.specs.List.{filter, fold}

@@ -1,5 +1,5 @@
 -- What the passes find is what the look-ups answer.
--- Cited by `PlainTable::after`, `PlainTable::before`, `PlainTable::first`, `PlainTable::last`, `PlainTable::lower` and 4 more.
+-- Cited by `PlainTable::after`, `PlainTable::before`, `PlainTable::first`, `PlainTable::last`, `PlainTable::lower` and 5 more.
 use Rattle.std.proofs.Common.{◌≡◌, ℕ, Bool, true, not, Option, List, length, slice_get, ap, sym, ◌∙◌}
 use Rattle.std.specs.List.{filter, count_by}
 use Rattle.std.proofs.lemmas.List.Sums.{length-filter}

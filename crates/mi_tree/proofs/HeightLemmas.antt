@@ -1,7 +1,7 @@
 -- A balanced tree is not high.
 --     has_enough      it has at least as many nodes as a Fibonacci number says
 --     short, shorter, low_enough      its height, by the number of binary digits of its size, and for fewer than 2^32 nodes
--- Cited by `balance::balance`, `laws::trees_have_enough`, `CompareLemmas`, `FrameLemmas`, `RemovalPathLemmas` and 3 more.
+-- Cited by `balance::balance`, `laws::trees_have_enough`, `CompareLemmas`, `FrameLemmas`, `PathLemmas` and 3 more.
 use Rattle.std.proofs.Common.{◌≡◌, ℕ, zero, suc, ◌+◌, ◌*◌, ◌^◌, ◌<◌, ◌≤◌, max, ◌⊎◌, inl, inr, refl, sym, subst, arith}
 use Rattle.std.proofs.Math.Nat.{pow-suc}
 use Rattle.mi_tree.specs.BinaryTree.{BinaryTree, Tip, Fork, forks, height, DifferByAtMost, IsEven}

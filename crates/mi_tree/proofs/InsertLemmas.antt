@@ -1,5 +1,5 @@
 -- A list of nodes with one more.
--- Cited by `StandingLemmas` and `PathLemmas`.
+-- Cited by `PathLemmas` and `StandingLemmas`.
 use Rattle.std.proofs.Common.{◌≡◌, ℕ, ◌+◌, List, ◌∷◌, length, sym, ap, subst, arith, length-append}
 use Rattle.std.specs.declared.cmp.Ordering.{Ordering}
 use Rattle.mi_node.specs.Refs.{Ref, IsOut, IsApart}

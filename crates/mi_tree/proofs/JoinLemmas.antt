@@ -1,5 +1,5 @@
 -- What a new link of one node does to the trees.
--- Cited by `balance::rotate_right`, `balance::rotate_left_right`, `balance::rotate_left`, `balance::rotate_right_left` and 10 more.
+-- Cited by `balance::rotate_left`, `balance::rotate_left_right`, `balance::rotate_right`, `balance::rotate_right_left` and 10 more.
 use Rattle.std.proofs.Common.{◌≡◌, ℕ, ◌+◌, ◌^◌, ◌<◌, ◌==◌, true, false, List, [], ◌∷◌, ◌++◌, Option, Some, None, refl, sym, ap, ◌∙◌, subst, arith}
 use Rattle.mi_node.specs.Pool.{Pooled, IsHeld, link_of, with_link, Keeps}
 use Rattle.mi_node.specs.declared.link.Link.{Link}

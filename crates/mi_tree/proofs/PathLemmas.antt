@@ -1,5 +1,5 @@
 -- What a path says of the whole tree.
--- Cited by `change::put_in`, `way::+climb`, `way::+descend_first`, `way::+descend_insert`, `way::+descend_to` and 3 more.
+-- Cited by `change::put_in`, `path::+climb`, `path::+descend_first`, `path::+descend_insert`, `path::+descend_to` and 3 more.
 use Rattle.std.proofs.Common.{◌≡◌, ◌==◌, ℕ, Bool, true, false, cond, not, ◌+◌, ◌-◌, ◌^◌, ◌<◌, ◌≤◌, max, List, [], ◌∷◌}
 use Rattle.std.proofs.Common.{◌++◌, length, take, Option, Some, None, refl, sym, ap, ◌∙◌, subst, arith, length-append}
 use Rattle.std.specs.List.{slice_get}

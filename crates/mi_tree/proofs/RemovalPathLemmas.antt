@@ -1,5 +1,5 @@
 -- What a path down to a node that leaves says of the whole tree.
--- Cited by `Tree::keeps_place`, `change::take_first`, `change::take_out`, `keeping::passes_none_above`, `way::+descend_first` and 1 more.
+-- Cited by `Tree::keeps_place`, `change::take_first`, `change::take_out`, `keeping::passes_none_above`, `path::+descend_first` and 1 more.
 use Rattle.std.proofs.Common.{◌≡◌, ℕ, Bool, true, false, cond, ◌+◌, ◌-◌, ◌<◌, ◌≤◌, List, [], ◌∷◌, ◌++◌, length}
 use Rattle.std.proofs.Common.{Option, Some, None, refl, sym, ap, ◌∙◌, subst, arith, append_assoc, length-append}
 use Rattle.std.specs.declared.cmp.Ordering.{Ordering}

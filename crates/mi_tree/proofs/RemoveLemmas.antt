@@ -1,5 +1,5 @@
 -- A node less in a subtree, and then in the whole.
--- Cited by `change::append`, `change::take_first`, `way::+descend_to`, `KeepingLemmas`, `RankLemmas` and 3 more.
+-- Cited by `change::append`, `change::take_first`, `path::+descend_to`, `KeepingLemmas`, `PathLemmas` and 3 more.
 use Rattle.std.proofs.Common.{◌≡◌, ℕ, ◌+◌, ◌≤◌, max, List, [], ◌∷◌, ◌++◌, length, Option, Some, None, refl, sym, ap, ◌∙◌, subst, arith, length-append}
 use Rattle.mi_node.specs.Pool.{Pooled, link_of, IsHeld}
 use Rattle.mi_node.specs.declared.link.Link.{Link}

@@ -1,5 +1,5 @@
 -- Turning a tree whose one side is two levels higher.
--- Cited by `balance::balance`, `balance::rotate_right`, `balance::rotate_left_right`, `balance::rotate_left` and 4 more.
+-- Cited by `balance::balance`, `balance::rotate_left`, `balance::rotate_left_right`, `balance::rotate_right` and 4 more.
 use Rattle.std.proofs.Common.{◌≡◌, ℕ, Bool, true, false, ◌+◌, ◌-◌, ◌<◌, ◌≤◌, max, List, [], ◌∷◌, ◌++◌, Option, Some, refl, sym, ap, ◌∙◌, subst, arith, append_assoc}
 use Rattle.mi_node.specs.Pool.{Pooled, link_of, Keeps}
 use Rattle.mi_node.specs.declared.link.Link.{Link}

@@ -1,5 +1,5 @@
 -- The machine values of a `RawBox` and of an `Opened`. Assumes `Logic`.
--- Cited by `RawBox::into_box`, `RawBox::of`, `Opened::none`, `Opened::of`, `weltiyo_close` and 1 more.
+-- Cited by `Opened::none`, `Opened::of`, `RawBox::into_box`, `RawBox::of`, `weltiyo_close` and 1 more.
 use Rattle.std.proofs.Common.{◌≡◌, ℕ, zero, suc, ◌<◌, ◌^◌, List, [], ◌∷◌, ◌++◌, refl, subst, w32, arith}
 use mathlib.Core.Bool.{true, ◌&&◌}
 use lib.Dec.{T}
