@@ -17,3 +17,4 @@ pub mod ViewLemmas
 pub mod MadeLemmas
 pub mod RestampLemmas
 pub mod RestoreLemmas
+pub mod StepLemmas

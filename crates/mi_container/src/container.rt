@@ -1,7 +1,7 @@
 //! The calls of a container: the rows of one table, linked into its indexes, and changes with their inverses. It says what
 //! each call answers and leaves, by plain data and the definitions of tables, and nothing of how rows are linked. It knows
 //! no sessions.
-ghost use Rattle.std.specs.Prelude.{◌≡◌, ◌≢◌, ◌<◌, ◌≤◌, ◌+◌, ◌*◌, ◌^◌, ℕ, List, Option, [], length, map, IsTrue, IfOk, IfErr, IfSome};
+ghost use Rattle.std.specs.Prelude.{◌≡◌, ◌≢◌, ◌<◌, ◌≤◌, ◌+◌, ◌*◌, ◌^◌, ℕ, List, Option, false, [], length, map, IsTrue, IfOk, IfErr, IfSome};
 ghost use Rattle.std.specs.Option.{option_copied};
 ghost use Rattle.mi_value.specs.declared.refusal.Refusal.TheVariants.{Memory};
 ghost use Rattle.mi_catalog.specs.Shape.{Shape};
@@ -17,14 +17,14 @@ ghost use Rattle.mi_container.specs.Held.{HoldsNodes};
 ghost use Rattle.mi_container.specs.Changes.{opened_data};
 ghost use Rattle.mi_container.specs.Secrets.{opened_secrets};
 ghost use Rattle.mi_container.specs.Restore.{image_table, RowsFit, IsRestoreFault};
-ghost use Rattle.mi_container.specs.Backs.{row_seen};
-ghost use Rattle.mi_container.specs.Inverse.{taken_back, settled, lost_to};
+ghost use Rattle.mi_container.specs.Backs.{row_seen, places_seen, step_seen, lost_by};
+ghost use Rattle.mi_container.specs.Inverse.{taken_back, settled};
 ghost use Rattle.mi_container.specs.Inverse.Inverse.{Inserted};
 ghost use Rattle.mi_container.specs.Fits.{Ready, KeptBy};
 ghost use Rattle.mi_container.specs.Run.Change.{Replace, Erase, Relocate};
-ghost use Rattle.mi_container.specs.Makes.{Makes, MakesInsert, MakesModify, MeetsOn, insert_answer, insert_row_answer, replace_answer, erase_answer, modify_answer, IsNoLoss};
+ghost use Rattle.mi_container.specs.Makes.{Makes, MakesInsert, MakesModify, Tells, TellsAlone, MeetsOn, insert_row_answer, replace_answer, erase_answer, modify_answer, IsNoLoss};
 
-use crate::inverse::{Inverse, RowRef};
+use crate::inverse::{OldPlaces, RowRef, Step};
 use crate::restore::{RestoreFault, TableImage};
 use mi_catalog::Schema;
 use mi_value::{Edit, Lower, Record, Refusal, Steps, Upper, Value};
@@ -32,8 +32,9 @@ use std::alloc::{AllocError, Global};
 
 /// The rows of one table under its indexes.
 ///
-/// Each accepted change answers its inverse. Of a change the clause `outcome` says what it means to the table, and `made`
-/// which change of the data it was, and that the answer is its inverse. A refused change leaves the data as they were.
+/// Each accepted change answers a step, which is its inverse; that of a put has its old places beside it. Of a change the clause
+/// `outcome` says what it means to the table, and `made` which change of the data it was, and that the step is its inverse. A
+/// refused change leaves the data as they were, and no places.
 ///
 /// `held` has the ids that stand in the nodes of the container's pool, one for each node: what memory has, and not what
 /// the data say. `secrets` has the secret of each index that hashes keys: what it chooses, the buckets, is seen in no answer.
@@ -85,26 +86,10 @@ pub trait Container: Drop {
         ensures secrets { IfOk result (λ made. secrets made ≡ opened_secrets secret schema) }
         ensures fault { IfErr result (λ e. IsRestoreFault schema (image_table image) e) };
 
-    /// Adds a record and answers its id. It goes last in each index among its equals; in the sequenced index that `before`
-    /// names it stands directly before the record that `before` names.
+    /// Adds a record and answers its row, of which `Step::Inserted` is the step. It goes last in each index among its equals; in
+    /// the sequenced index that `before` names it stands directly before the record that `before` names.
     ///
     /// Refusals, in this order: `NoId`, `Full`, `Spent`, `Unique`, `Memory`. The refused record is handed back.
-    fn insert(
-        &mut self,
-        alloc: Global,
-        row: Record,
-        before: Option<(usize, u64)>,
-    ) -> Result<(u64, Inverse), (Refusal, Record)>
-        requires row { RecordFits (shape self.old) row }
-        requires before { IfSome before (λ at. IsSequenced (shape self.old) at.0) }
-        ensures outcome { MeetsOn (insert_outcome (shape self.old) before row) (insert_answer result) (plain self.old) (plain self.new) }
-        ensures made { IfOk result (λ p. MakesInsert (shape self.old) before row (plain self.old) p.1 (plain self.new)) }
-        ensures refused { IfErr result (λ e. plain self.new ≡ plain self.old) }
-        ensures handed_back { IfErr result (λ e. e.1 ≡ row) }
-        ensures shape { shape self.new ≡ shape self.old }
-        ensures secrets { secrets self.new ≡ secrets self.old };
-
-    /// `insert`, without its inverse, which is `Undo::Inserted` of the row that it answers: who notes none lays none down.
     fn insert_row(
         &mut self,
         alloc: Global,
@@ -120,68 +105,86 @@ pub trait Container: Drop {
         ensures shape { shape self.new ≡ shape self.old }
         ensures secrets { secrets self.new ≡ secrets self.old };
 
-    /// Sets another record for an id. Takes no memory. Refusals, in this order: `NoId`, `Spent`, `Unique`. The refused record
-    /// is handed back.
-    fn replace(&mut self, id: u64, row: Record) -> Result<Inverse, (Refusal, Record)>
+    /// Sets another record for an id. Where the change is noted its old places are laid down, in place of what stands there; else
+    /// `laid` stays as it is. Takes no memory.
+    ///
+    /// Refusals, in this order: `NoId`, `Spent`, `Unique`. The refused record is handed back, and `laid` stays as it is.
+    fn replace(
+        &mut self,
+        id: u64,
+        row: Record,
+        noted: bool,
+        laid: &mut OldPlaces,
+    ) -> Result<Step, (Refusal, Record)>
         requires { RecordFits (shape self.old) row }
         ensures outcome { MeetsOn (replace_outcome (shape self.old) id row) (replace_answer result) (plain self.old) (plain self.new) }
         ensures memory { IfErr result (λ e. e.0 ≢ Memory) }
-        ensures made { IfOk result (λ i. Makes (shape self.old) (Replace id row) (plain self.old) i (plain self.new)) }
+        ensures made { IfOk result (λ k. Tells noted k laid.new.items (λ i. Makes (shape self.old) (Replace id row) (plain self.old) i (plain self.new))) }
+        ensures unnoted { noted ≡ false → laid.new.items ≡ laid.old.items }
+        ensures unlaid { IfErr result (λ _. laid.new.items ≡ laid.old.items) }
         ensures refused { IfErr result (λ e. plain self.new ≡ plain self.old) }
         ensures handed_back { IfErr result (λ e. e.1 ≡ row) }
         ensures shape { shape self.new ≡ shape self.old }
         ensures secrets { secrets self.new ≡ secrets self.old };
 
     /// Changes columns of a record. Where a unique index refuses the result without `rollback` the record is erased: then the
-    /// answer is an inverse that is `lost`.
+    /// answer is a step that is `lost`. Where the change is noted its old places are laid down, in place of what stands there; else
+    /// `laid` stays as it is.
     ///
-    /// Refusals, in this order: `NoId`, `Range`, `Spent`, with `rollback` `Unique`, `Memory`.
+    /// Refusals, in this order: `NoId`, `Range`, `Spent`, with `rollback` `Unique`, `Memory`. Then `laid` stays as it is.
     fn modify(
         &mut self,
         alloc: Global,
         id: u64,
         edits: &[Edit],
         rollback: bool,
-    ) -> Result<Inverse, Refusal>
+        noted: bool,
+        laid: &mut OldPlaces,
+    ) -> Result<Step, Refusal>
         requires { EditsFit (shape self.old) edits.now }
         ensures outcome { MeetsOn (modify_outcome (shape self.old) id edits.now rollback) (modify_answer result) (plain self.old) (plain self.new) }
-        ensures made { IfOk result (λ i. MakesModify (lost_to i) (shape self.old) id (plain self.old) i (plain self.new)) }
+        ensures made { IfOk result (λ k. Tells noted k laid.new.items (λ i. MakesModify (lost_by k) (shape self.old) id (plain self.old) i (plain self.new))) }
+        ensures unnoted { noted ≡ false → laid.new.items ≡ laid.old.items }
+        ensures unlaid { IfErr result (λ _. laid.new.items ≡ laid.old.items) }
         ensures loss { IfErr result (λ e. IsNoLoss e) }
         ensures refused { IfErr result (λ e. plain self.new ≡ plain self.old) }
         ensures shape { shape self.new ≡ shape self.old }
         ensures secrets { secrets self.new ≡ secrets self.old };
 
-    /// Erases a record, whose node is kept for the inverse. Takes no memory. Refusal: `NoId`.
-    fn erase(&mut self, id: u64) -> Result<Inverse, Refusal>
+    /// Erases a record, whose node is kept for the inverse, a step without places. Takes no memory. Refusal: `NoId`.
+    fn erase(&mut self, id: u64) -> Result<Step, Refusal>
         ensures outcome { MeetsOn (erase_outcome id) (erase_answer result) (plain self.old) (plain self.new) }
         ensures memory { IfErr result (λ e. e ≢ Memory) }
-        ensures made { IfOk result (λ i. Makes (shape self.old) (Erase id None) (plain self.old) i (plain self.new)) }
+        ensures made { IfOk result (λ k. TellsAlone k (λ i. Makes (shape self.old) (Erase id None) (plain self.old) i (plain self.new))) }
         ensures refused { IfErr result (λ e. plain self.new ≡ plain self.old) }
         ensures shape { shape self.new ≡ shape self.old }
         ensures secrets { secrets self.new ≡ secrets self.old };
 
-    /// Moves a record in a sequenced index directly before another, or to its end. Takes no memory. Refusal: `NoId`.
-    fn relocate(&mut self, index: usize, id: u64, before: Option<u64>) -> Result<Inverse, Refusal>
+    /// Moves a record in a sequenced index directly before another, or to its end. The inverse is a step without places. Takes no
+    /// memory. Refusal: `NoId`.
+    fn relocate(&mut self, index: usize, id: u64, before: Option<u64>) -> Result<Step, Refusal>
         requires { IsSequenced (shape self.old) index }
         ensures outcome { MeetsOn (relocate_outcome index id before) (erase_answer result) (plain self.old) (plain self.new) }
         ensures memory { IfErr result (λ e. e ≢ Memory) }
-        ensures made { IfOk result (λ i. Makes (shape self.old) (Relocate index id before) (plain self.old) i (plain self.new)) }
+        ensures made { IfOk result (λ k. TellsAlone k (λ i. Makes (shape self.old) (Relocate index id before) (plain self.old) i (plain self.new))) }
         ensures refused { IfErr result (λ e. plain self.new ≡ plain self.old) }
         ensures shape { shape self.new ≡ shape self.old }
         ensures secrets { secrets self.new ≡ secrets self.old };
 
-    /// Takes a change back, by its inverse: of the changes not yet taken back it is the newest. Takes no memory.
-    fn unwind(&mut self, inverse: Inverse)
-        requires ready { Ready inverse (plain self.old) }
-        requires before { IsData (shape self.old) (taken_back inverse (plain self.old)) }
-        ensures plain { plain self.new ≡ taken_back inverse (plain self.old) }
+    /// Takes a change back, by its step and the old places that were laid down: of the changes not yet taken back it is the newest.
+    /// Takes no memory.
+    fn unwind(&mut self, step: Step, laid: &OldPlaces)
+        requires ready { Ready (step_seen step (places_seen laid.now.items)) (plain self.old) }
+        requires before { IsData (shape self.old) (taken_back (step_seen step (places_seen laid.now.items)) (plain self.old)) }
+        ensures plain { plain self.new ≡ taken_back (step_seen step (places_seen laid.now.items)) (plain self.old) }
         ensures shape { shape self.new ≡ shape self.old }
         ensures secrets { secrets self.new ≡ secrets self.old };
 
-    /// Gives the node that an inverse keeps back to the pool, if any: its place is used again. Takes no memory.
-    fn settle(&mut self, inverse: Inverse)
-        requires { KeptBy inverse (plain self.old) }
-        ensures plain { plain self.new ≡ settled inverse (plain self.old) }
+    /// Gives the node that a step keeps back to the pool, if any: its place is used again. Old places aren't asked for. Takes no
+    /// memory.
+    fn settle(&mut self, step: Step)
+        requires { KeptBy (step_seen step []) (plain self.old) }
+        ensures plain { plain self.new ≡ settled (step_seen step []) (plain self.old) }
         ensures shape { shape self.new ≡ shape self.old }
         ensures secrets { secrets self.new ≡ secrets self.old };
 

@@ -1,9 +1,8 @@
-//! What takes a change back. A container makes it, as it changes, and alone can use it; to the journal it is plain data. It
-//! takes no memory: the places that it remembers stand in itself.
+//! What takes a change back: a step, and beside it the old places of a put. A container makes both, as it changes, and alone can use
+//! them; to the journal they are plain data. They take no memory: the places are laid down where the caller has them.
 use arrayvec::ArrayVec;
 use mi_node::{MaybePlace, NodeRef};
 use mi_value::Record;
-use std::marker::Model;
 
 /// The most indexes that a table has, `id` among them.
 pub const MAX_PLACES: usize = 16;
@@ -18,13 +17,13 @@ pub struct RowRef {
 /// For each index the old place, or none where the key stayed.
 pub type OldPlaces = ArrayVec<MaybePlace, MAX_PLACES>;
 
-/// What was done, and what there was before it.
+/// What was done, and what there was before it, but for the old places of a put.
 #[derive(Drop)]
-pub enum Undo {
+pub enum Step {
     /// The row was inserted.
     Inserted(RowRef),
-    /// The row had this record, in these places.
-    Put(RowRef, Record, OldPlaces),
+    /// The row had this record.
+    Put(RowRef, Record),
     /// The row was erased and its node is kept; by a modify that lost it to the record of that index and id.
     Erased(RowRef, Option<(usize, u64)>),
     /// In this index the row stood before that one, or last.
@@ -33,46 +32,16 @@ pub enum Undo {
     Nothing,
 }
 
-/// The inverse of a change.
-#[derive(Drop)]
-pub struct Inverse {
-    undo: Undo,
-}
-
-impl Model for Inverse {
-    ghost use Rattle.mi_container.specs.Inverse.{Inverse};
-    ghost use Rattle.mi_container.specs.Backs.{inverse_seen};
-
-    ghost Value = { Inverse };
-
-    ghost view = { λ a. inverse_seen a.undo };
-}
-
-impl Inverse {
+impl Step {
     ghost use Rattle.std.specs.Prelude.{◌≡◌};
-    ghost use Rattle.mi_container.specs.Inverse.{lost_to};
-    ghost use Rattle.mi_container.specs.Backs.{inverse_seen};
-
-    /// The inverse of what was done.
-    pub fn new(undo: Undo) -> Inverse
-        ensures { result ≡ inverse_seen undo }
-    {
-        Inverse { undo }
-    }
-
-    /// What was done.
-    pub fn undo(self) -> Undo
-        ensures { inverse_seen result ≡ self }
-    {
-        self.undo
-    }
+    ghost use Rattle.mi_container.specs.Backs.{lost_by};
 
     /// The unique index and the id by which a modify lost its record, if it did.
     pub fn lost(&self) -> Option<(usize, u64)>
-        ensures { result ≡ lost_to self.now }
+        ensures { result ≡ lost_by self.now }
     {
-        match &self.undo {
-            Undo::Erased(_, why) => *why,
+        match self {
+            Step::Erased(_, why) => *why,
             _ => None,
         }
     }

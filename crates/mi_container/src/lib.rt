@@ -10,5 +10,5 @@ pub mod laws;
 mod restore;
 
 pub use container::Container;
-pub use inverse::{Inverse, MAX_PLACES, OldPlaces, RowRef, Undo};
+pub use inverse::{MAX_PLACES, OldPlaces, RowRef, Step};
 pub use restore::{RestoreFault, TableImage};

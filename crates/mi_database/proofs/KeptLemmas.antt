@@ -20,7 +20,7 @@ use Rattle.mi_value.specs.declared.edit.Edit.{Edit}
 use Rattle.std.specs.Option.{is_some}
 use Rattle.mi_container.specs.Data.{Data, kept_of, as_table}
 use Rattle.mi_container.specs.Held.{HoldsNodes}
-use Rattle.mi_container.specs.Inverse.{Inverse, keeps, relocate_inverse, moved_back, lost_to}
+use Rattle.mi_container.specs.Inverse.{Inverse, keeps, relocate_inverse, moved_back}
 use Rattle.mi_container.specs.Inverse.Inverse.{Nothing}
 use Rattle.mi_container.specs.Makes.{MakesModify, lost_answer, IsNoLoss}
 use Rattle.mi_value.specs.declared.value.Value.{Value}
@@ -165,14 +165,14 @@ met_answer step None old new m = m.0
 met_answer step (Some at) old new m = m.0
 
 pub modify_keeps : (n e : ℕ) (edits : List Edit) (rollback : Bool) (h new : LinkedData) (s : Shape) (old : Data) (i : Inverse) (made_ : Data)
-    → MakesModify (lost_to i) s e old i made_ → new.journal ≡ noted (n, i) h.journal
-    → Meets (modify_step n e edits rollback (meaning h)) (lost_answer (lost_to i)) (meaning h) (meaning new)
+    (why : Option (ℕ × ℕ)) → MakesModify why s e old i made_ → new.journal ≡ noted (n, i) h.journal
+    → Meets (modify_step n e edits rollback (meaning h)) (lost_answer why) (meaning h) (meaning new)
     → kept_rows new ≡ kept_after (Modify n e edits rollback) (meaning h) (kept_rows h)
-modify_keeps n e edits rollback h new s old i made_ makes journal meets =
+modify_keeps n e edits rollback h new s old i made_ why makes journal meets =
     ap (map kept_in) journal ∙ note_keeps n i h.journal
-    ∙ ap (λ q. kept_more q (map kept_in h.journal)) (lost_keeps (lost_to i) s n e old i made_ makes
+    ∙ ap (λ q. kept_more q (map kept_in h.journal)) (lost_keeps why s n e old i made_ makes
     ∙ sym (ap (λ (r : Result (Unit {0}) Refusal). lost_row r (n, e))
-    (met_answer (modify_step n e edits rollback (meaning h)) (lost_to i) (meaning h) (meaning new) meets)))
+    (met_answer (modify_step n e edits rollback (meaning h)) why (meaning h) (meaning new) meets)))
 
 -- a refused change that keeps no node
 pub kept_refusal : (c : Command) (e : Refusal) (old new : LinkedData) → new.journal ≡ old.journal → kept_after c (meaning old) (kept_rows old) ≡ kept_rows old

@@ -45,7 +45,7 @@ kept_length : (j : Journal) (n : ℕ) (i : Inverse) (ds : List Data) → length 
 kept_length [] n i ds = length-set ds n _
 kept_length (newest ∷ older) n i ds = refl
 
-noted_length : {A : Type 0} (x : A) (j : List (List A)) → length (noted x j) ≡ length j
+pub noted_length : {A : Type 0} (x : A) (j : List (List A)) → length (noted x j) ≡ length j
 noted_length x [] = refl
 noted_length x (newest ∷ older) = refl
 

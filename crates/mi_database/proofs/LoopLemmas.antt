@@ -6,17 +6,17 @@ use Rattle.std.proofs.lemmas.List.{map-set, length-set, length-map, length_push,
 use Rattle.std.specs.Option.{is_some}
 use Rattle.std.proofs.lemmas.Bool.{false≢true}
 use Rattle.std.specs.declared.option.Option.{Option}
-use Rattle.mi_catalog.specs.Shape.{Shape, CatalogShape}
-use Rattle.mi_container.specs.Data.{Data}
+use Rattle.mi_catalog.specs.Shape.{Shape, CatalogShape, schema_at}
+use Rattle.mi_container.specs.Data.{Data, IsData}
 use Rattle.mi_container.specs.Inverse.{Inverse, taken_back, settled}
-use Rattle.mi_container.specs.Fits.{KeptBy}
+use Rattle.mi_container.specs.Fits.{Ready, KeptBy}
 use Rattle.mi_database.specs.Journal.{JournalEntry, Journal, data_at, entry_back, entry_settled, entries, unwound, old_of, tables_of, Holds, IsLinked}
 use Rattle.mi_database.proofs.JournalLemmas.{linked_popped, oldest, holds_settled, all_settled_data}
 use Rattle.mi_database.proofs.JournalLemmas.{old_settled, tables_settled, length-old, take_old, entries-append}
 use Rattle.mi_journal.specs.Noted.{newest_entry, without_entry, TakesOldest, OldestIsEmpty}
 use Rattle.mi_database.specs.LinkedData.{LinkedData, IsLinkedData, newest_of, older_of, back_by, newer_than_oldest, SettlesSome, SettlesNone, UnwindsNewest}
 use Rattle.mi_database.specs.LinkedData.{EndsOldest}
-use Rattle.mi_database.proofs.LinkedDataLemmas.{set_data, same_shapes}
+use Rattle.mi_database.proofs.LinkedDataLemmas.{set_data, shape_at, same_shapes}
 
 abbrev pub linked_data : CatalogShape → List Data → Journal → ℕ → ℕ → ℕ → List (List ℕ) → List (List (Option ℕ)) → LinkedData
 linked_data c ds j r changes starts held secrets =
@@ -70,6 +70,20 @@ module _ {X : Type 0} (shape : X → Shape) (plain : X → Data) (c : CatalogSha
         h.1 ∙ sym (ap (λ q. back_by (newest_of q) (map plain cs)) split.2),
       )
 
+  -- it can be taken back
+  pub newest_ready : (j : Journal) → Some (n, i) ≡ newest_entry j → IsLinkedData (map shape cs) c (map plain cs) j r → k ≡ get_or cs n k
+      → Ready i (plain k) × IsData (shape k) (taken_back i (plain k))
+  newest_ready j entry is was =
+      let split : (es : List JournalEntry) × (older : Journal) × (j ≡ ((n, i) ∷ es) ∷ older) = newest_split j (n, i) (sym entry) in
+      let h : IsLinkedData (map shape cs) c (map plain cs) (((n, i) ∷ split.0) ∷ split.1) r =
+      subst (λ q. IsLinkedData (map shape cs) c (map plain cs) q r) split.2 is in
+      let within : n < length cs = subst (λ q. n < q) (length-map cs plain) h.linked.holds.0 in
+      let there = set_data plain cs n k within was in (
+        subst (Ready i) there h.linked.holds.1,
+        subst (λ (q : Shape). IsData q (taken_back i (plain k))) (sym (shape_at shape c cs n k within was h.shapes))
+            (subst (λ d. IsData (schema_at c n) (taken_back i d)) there h.linked.holds.2),
+      )
+
 -- the entries of a journal by its oldest session
 entries_push : (newer : Journal) (es : List JournalEntry) → entries (newer ++ es ∷ []) ≡ entries newer ++ es
 entries_push newer es = entries-append newer (es ∷ []) ∙ ap (λ q. entries newer ++ q) (append-nil es)
@@ -91,6 +105,14 @@ module _ {X : Type 0} (shape : X → Shape) (plain : X → Data) (c : CatalogSha
       → IsLinkedData (map shape cs) c (map plain cs) (newer ++ (rest ++ (n, i) ∷ []) ∷ []) r
       → Holds c (entries (newer ++ rest ∷ []) ++ (n, i) ∷ []) (map plain cs)
   oldest_of newer rest is = subst (λ es. Holds c es (map plain cs)) (entries_oldest newer rest (n, i)) is.linked.holds
+
+  -- the newest entry's container is there
+  pub newest_within : (j : Journal) → Some (n, i) ≡ newest_entry j → IsLinkedData (map shape cs) c (map plain cs) j r → n < length cs
+  newest_within j entry is =
+      let split : (es : List JournalEntry) × (older : Journal) × (j ≡ ((n, i) ∷ es) ∷ older) = newest_split j (n, i) (sym entry) in
+      let h : IsLinkedData (map shape cs) c (map plain cs) (((n, i) ∷ split.0) ∷ split.1) r =
+      subst (λ q. IsLinkedData (map shape cs) c (map plain cs) q r) split.2 is in
+      subst (λ q. n < q) (length-map cs plain) h.linked.holds.0
 
   -- the oldest entry's container is there, and keeps its node
   pub oldest_within : (j j' : Journal) → TakesOldest (Some (n, i)) j j' → IsLinkedData (map shape cs) c (map plain cs) j r

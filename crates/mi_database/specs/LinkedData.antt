@@ -7,7 +7,9 @@ use Rattle.mi_model.specs.Database.{Database}
 use Rattle.mi_container.specs.Data.{Data}
 use Rattle.mi_container.specs.Changes.{opened_data}
 use Rattle.mi_container.specs.Secrets.{opened_secrets}
-use Rattle.mi_container.specs.Inverse.{Inverse, settled}
+use Rattle.mi_node.specs.declared.old_place.OldPlace.{OldPlace as Place}
+use Rattle.mi_container.specs.Inverse.{OldPlace, Inverse, settled}
+use Rattle.mi_container.specs.Backs.{places_seen}
 use Rattle.mi_database.specs.Journal.{JournalEntry, Journal, data_at, entry_back, entries, unwound, old_of, tables_of, state_of, IsLinked}
 use Rattle.mi_journal.specs.Noted.{OldestIsEmpty}
 use Rattle.mi_journal.specs.Stored.{Stored}
@@ -60,6 +62,10 @@ RoomFor n h = 0 < length h.journal → n ≤ h.changes
 abbrev pub kept_datas : ℕ → Inverse → Journal → List Data → List Data
 kept_datas n i [] ds = slice_set ds n (settled i (data_at ds n))
 kept_datas n i (newest ∷ older) ds = ds
+
+-- these are the places laid down, where a session is open
+abbrev pub AreNoted : Journal → List (Option OldPlace) → List (Option Place) → Type 0
+AreNoted j ps laid = 0 < length j → ps ≡ places_seen laid
 
 -- the newest session's entries, and the other sessions
 abbrev pub newest_of : Journal → List JournalEntry

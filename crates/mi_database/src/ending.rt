@@ -20,10 +20,10 @@ impl<C: Container> Linked<C> {
         ensures changes { self.old.changes ≤ self.new.changes }
         ensures starts { self.new.starts ≡ self.old.starts }
     {
-        let Some((table, inverse)) = self.journal.pop() else {
+        let Some((table, step)) = self.journal.pop(&mut self.laid) else {
             return false;
         };
-        self.containers[table].unwind(inverse);
+        self.containers[table].unwind(step, &self.laid);
         true
     }
 
@@ -36,10 +36,10 @@ impl<C: Container> Linked<C> {
         ensures changes { self.old.changes ≤ self.new.changes }
         ensures starts { self.new.starts ≡ self.old.starts }
     {
-        let Some((table, inverse)) = self.journal.take_oldest() else {
+        let Some((table, step)) = self.journal.take_oldest() else {
             return false;
         };
-        self.containers[table].settle(inverse);
+        self.containers[table].settle(step);
         true
     }
 

@@ -28,8 +28,14 @@ impl<C: Container> Linked<C> {
         ensures starts { self.new.starts ≡ self.old.starts }
     {
         match self.containers[table].erase(id) {
-            Ok(inverse) => {
-                keep(&mut self.containers, &mut self.journal, table, inverse);
+            Ok(step) => {
+                keep(
+                    &mut self.containers,
+                    &mut self.journal,
+                    table,
+                    step,
+                    &mut self.laid,
+                );
                 Ok(())
             }
             Err(refused) => Err(refused),

@@ -1,7 +1,7 @@
-//! The containers and the journal. A change is made by its container, which answers the inverse; with a session open the
-//! inverse is noted, else it is settled at once. This file knows nothing of how a container keeps its rows.
+//! The containers and the journal. A change is made by its container, which answers a step; with a session open the step is noted with
+//! its old places, else it is settled at once. This file knows nothing of how a container keeps its rows.
 use mi_catalog::{Catalog, Schema};
-use mi_container::{Container, Inverse, RowRef, Undo};
+use mi_container::{Container, OldPlaces, RowRef, Step};
 use mi_journal::Inverses;
 use std::alloc::{AllocError, Global};
 use std::marker::Model;
@@ -13,6 +13,8 @@ pub struct Linked<C: Container> {
     pub(crate) containers: Vec<C>,
     pub(crate) journal: Inverses,
     pub(crate) revision: u64,
+    /// Where a change lays down its old places, until they are noted, and where they are laid down again to take it back.
+    pub(crate) laid: OldPlaces,
 }
 
 impl<C: Container> Model for Linked<C> {
@@ -28,16 +30,17 @@ impl<C: Container> Model for Linked<C> {
         × AllHaveAtMost a.journal.most a.catalog };
 }
 
-ghost use Rattle.std.specs.Prelude.{◌≡◌, ◌<◌, ◌≤◌, ◌+◌, [], length, map, vec_len, IfOk, OnErr};
+ghost use Rattle.std.specs.Prelude.{◌≡◌, ◌<◌, ◌≤◌, ◌+◌, true, List, Option, [], length, map, vec_len, IfOk, OnErr};
 ghost use Rattle.mi_container.specs.Changes.{opened_data};
 ghost use Rattle.mi_container.specs.Secrets.{opened_secrets};
-ghost use Rattle.mi_container.specs.Backs.{row_seen};
+ghost use Rattle.mi_container.specs.Backs.{row_seen, places_seen, step_seen};
 ghost use Rattle.mi_container.specs.Fits.{KeptBy};
+ghost use Rattle.mi_container.specs.Inverse.{OldPlace};
 ghost use Rattle.mi_container.specs.Inverse.Inverse.{Inserted};
 ghost use Rattle.mi_database.specs.Journal.{data_at};
 ghost use Rattle.mi_journal.specs.Noted.{noted};
 ghost use Rattle.mi_journal.specs.Stored.{IsWithin};
-ghost use Rattle.mi_database.specs.LinkedData.{kept_datas};
+ghost use Rattle.mi_database.specs.LinkedData.{kept_datas, AreNoted};
 ghost use Rattle.mi_database.specs.Most.{keyed_count, AllHaveAtMost, SomeHas};
 
 /// The containers that a catalog opens with, all with one secret.
@@ -85,34 +88,45 @@ pub(crate) fn most_keyed_indexes(catalog: &Catalog) -> usize
     most
 }
 
-/// Notes the inverse of a change that a container has just made, or settles it where no session is open.
+/// Whether a change is noted: a session is open.
+pub(crate) fn notes(journal: &Inverses) -> bool
+    ensures { 0 < length journal.now.sessions → result ≡ true }
+{
+    journal.depth() > 0
+}
+
+/// Notes the step of a change that a container has just made, with the old places that are laid down, or settles it where no session
+/// is open: then any places are its own.
 pub(crate) fn keep<C: Container>(
     containers: &mut Vec<C>,
     journal: &mut Inverses,
     table: usize,
-    inverse: Inverse,
+    step: Step,
+    laid: &mut OldPlaces,
 )
     requires table { table < vec_len containers.old }
-    requires kept { KeptBy inverse (data_at (map C.plain containers.old.items) table) }
+    requires kept { KeptBy (step_seen step []) (data_at (map C.plain containers.old.items) table) }
     requires room { 0 < length journal.old.sessions → 0 < journal.old.changes }
-    requires within { IsWithin journal.old.most inverse }
-    ensures datas { map C.plain containers.new.items ≡ kept_datas table inverse journal.old.sessions (map C.plain containers.old.items) }
+    requires within { 0 < length journal.old.sessions → IsWithin journal.old.most (step_seen step (places_seen laid.old.items)) }
+    ensures datas { (ps : List (Option OldPlace)) → AreNoted journal.old.sessions ps laid.old.items →
+        map C.plain containers.new.items ≡ kept_datas table (step_seen step ps) journal.old.sessions (map C.plain containers.old.items) }
     ensures shapes { map C.shape containers.new.items ≡ map C.shape containers.old.items }
     ensures secrets { map C.secrets containers.new.items ≡ map C.secrets containers.old.items }
-    ensures journal { journal.new.sessions ≡ noted (table, inverse) journal.old.sessions }
+    ensures journal { (ps : List (Option OldPlace)) → AreNoted journal.old.sessions ps laid.old.items →
+        journal.new.sessions ≡ noted (table, step_seen step ps) journal.old.sessions }
     ensures changes { journal.old.changes ≤ journal.new.changes + 1 }
     ensures starts { journal.new.starts ≡ journal.old.starts }
     ensures most { journal.new.most ≡ journal.old.most }
 {
     if journal.depth() == 0 {
-        containers[table].settle(inverse);
+        containers[table].settle(step);
     } else {
-        journal.note(table, inverse);
+        journal.note(table, step, laid);
     }
 }
 
 /// Notes that a container has inserted a row, where a session is open. Where none is, its inverse settles nothing and isn't laid down.
-pub(crate) fn keep_inserted(journal: &mut Inverses, table: usize, row: RowRef)
+pub(crate) fn keep_inserted(journal: &mut Inverses, table: usize, row: RowRef, laid: &mut OldPlaces)
     requires room { 0 < length journal.old.sessions → 0 < journal.old.changes }
     ensures journal { journal.new.sessions ≡ noted (table, Inserted (row_seen row)) journal.old.sessions }
     ensures changes { journal.old.changes ≤ journal.new.changes + 1 }
@@ -120,7 +134,7 @@ pub(crate) fn keep_inserted(journal: &mut Inverses, table: usize, row: RowRef)
     ensures most { journal.new.most ≡ journal.old.most }
 {
     if journal.depth() > 0 {
-        journal.note(table, Inverse::new(Undo::Inserted(row)));
+        journal.note(table, Step::Inserted(row), laid);
     }
 }
 
@@ -150,6 +164,7 @@ impl<C: Container> Linked<C> {
             containers,
             journal: Inverses::new(alloc, most),
             revision,
+            laid: OldPlaces::new(),
         })
     }
 

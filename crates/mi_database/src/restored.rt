@@ -8,7 +8,7 @@ ghost use Rattle.mi_database.specs.Restored.{AreRestored, IsDatabaseFault};
 
 use crate::linked::{Linked, most_keyed_indexes};
 use mi_catalog::Catalog;
-use mi_container::{Container, RestoreFault, TableImage};
+use mi_container::{Container, OldPlaces, RestoreFault, TableImage};
 use mi_journal::Inverses;
 use mi_value::limits::LAST_COUNT;
 use std::alloc::Global;
@@ -105,6 +105,7 @@ impl<C: Container> Linked<C> {
             containers,
             journal: Inverses::new(alloc, most),
             revision,
+            laid: OldPlaces::new(),
         })
     }
 }

@@ -9,26 +9,26 @@ ghost use Rattle.mi_model.specs.Run.Command.{Insert as InsertCommand, Replace as
 ghost use Rattle.mi_model.specs.Run.Command.{Erase as EraseCommand, EraseKey as EraseKeyCommand, Relocate as RelocateCommand};
 ghost use Rattle.mi_model.specs.Run.Command.{Start as StartCommand, Undo as UndoCommand, Squash as SquashCommand};
 ghost use Rattle.mi_model.specs.Run.Command.{Commit as CommitCommand, UndoAll as UndoAllCommand};
-ghost use Rattle.mi_container.specs.Inverse.{lost_to};
+ghost use Rattle.mi_container.specs.Backs.{lost_by};
 ghost use Rattle.mi_container.specs.Makes.{lost_answer, IsNoLoss};
 ghost use Rattle.mi_database.specs.Bound.{look_up_bound};
 ghost use Rattle.mi_database.specs.LinkedData.{meaning, with_room, RoomFor};
 ghost use Rattle.mi_database.specs.Kept.{kept_rows, KeptAfter};
 ghost use Rattle.mi_database.specs.Keyed.{keyed};
 
-use crate::linked::{Linked, keep, keep_inserted};
+use crate::linked::{Linked, keep, keep_inserted, notes};
 use mi_catalog::Catalog;
-use mi_container::{Container, Inverse};
+use mi_container::{Container, Step};
 use mi_sessions::Sessions;
 use mi_value::limits::{LAST_COUNT, MAX_SESSIONS};
 use mi_value::{Edit, Lower, NoSession, Record, Refusal, Steps, Upper, Value};
 use std::alloc::Global;
 
 /// What a modify answers: done, or that it lost its record.
-fn modified(inverse: &Inverse) -> Result<(), Refusal>
-    ensures { result ≡ lost_answer (lost_to inverse.now) }
+fn modified(step: &Step) -> Result<(), Refusal>
+    ensures { result ≡ lost_answer (lost_by step.now) }
 {
-    match inverse.lost() {
+    match step.lost() {
         None => Ok(()),
         Some((index, id)) => Err(Refusal::Lost { index, id }),
     }
@@ -73,7 +73,7 @@ impl<C: Container> Sessions for Linked<C> {
         match self.containers[table].insert_row(alloc, row, before) {
             Ok(inserted) => {
                 let id = inserted.id;
-                keep_inserted(&mut self.journal, table, inserted);
+                keep_inserted(&mut self.journal, table, inserted, &mut self.laid);
                 Ok(id)
             }
             Err(refused) => Err(refused),
@@ -102,9 +102,16 @@ impl<C: Container> Sessions for Linked<C> {
         if self.make_room(1).is_err() {
             return Err((Refusal::Memory, row));
         }
-        match self.containers[table].replace(id, row) {
-            Ok(inverse) => {
-                keep(&mut self.containers, &mut self.journal, table, inverse);
+        let noted = notes(&self.journal);
+        match self.containers[table].replace(id, row, noted, &mut self.laid) {
+            Ok(step) => {
+                keep(
+                    &mut self.containers,
+                    &mut self.journal,
+                    table,
+                    step,
+                    &mut self.laid,
+                );
                 Ok(())
             }
             Err(refused) => Err(refused),
@@ -131,10 +138,17 @@ impl<C: Container> Sessions for Linked<C> {
         if self.make_room(1).is_err() {
             return Err(Refusal::Memory);
         }
-        match self.containers[table].modify(alloc, id, edits, rollback) {
-            Ok(inverse) => {
-                let answer = modified(&inverse);
-                keep(&mut self.containers, &mut self.journal, table, inverse);
+        let noted = notes(&self.journal);
+        match self.containers[table].modify(alloc, id, edits, rollback, noted, &mut self.laid) {
+            Ok(step) => {
+                let answer = modified(&step);
+                keep(
+                    &mut self.containers,
+                    &mut self.journal,
+                    table,
+                    step,
+                    &mut self.laid,
+                );
                 answer
             }
             Err(refused) => Err(refused),
@@ -210,8 +224,14 @@ impl<C: Container> Sessions for Linked<C> {
             return Err(Refusal::Memory);
         }
         match self.containers[table].relocate(index, id, before) {
-            Ok(inverse) => {
-                keep(&mut self.containers, &mut self.journal, table, inverse);
+            Ok(step) => {
+                keep(
+                    &mut self.containers,
+                    &mut self.journal,
+                    table,
+                    step,
+                    &mut self.laid,
+                );
                 Ok(())
             }
             Err(refused) => Err(refused),

@@ -1,9 +1,9 @@
 //! The inverses of open sessions. Of an inverse only what each has stands in the journal; the old record of a put and the places
-//! that it has stand in two rings, the newest last. An inverse is put together again as it leaves the newest session.
+//! that it has stand in two rings, the newest last. A step is put together again as it leaves the newest session.
 use crate::entry::Entry;
 use crate::journal::Journal;
 use crate::store::{fetch, fetch_to_settle, store};
-use mi_container::Inverse;
+use mi_container::{OldPlaces, Step};
 use mi_node::MaybePlace;
 use mi_value::Record;
 use std::alloc::{AllocError, Global};
@@ -49,6 +49,8 @@ impl Model for Inverses {
 
 impl Inverses {
     ghost use Rattle.std.specs.Prelude.{◌≡◌, ◌+◌, ◌<◌, ◌≤◌, [], ◌∷◌, ◌++◌, length, OnOk};
+    ghost use Rattle.std.specs.Option.{option_map};
+    ghost use Rattle.mi_container.specs.Backs.{places_seen, step_seen};
     ghost use Rattle.mi_journal.specs.Noted.{noted, top_joined, newest_entry, without_entry, without_newest};
     ghost use Rattle.mi_journal.specs.Noted.{NewestIsEmpty, TwoAreOpen, OldestIsEmpty};
     ghost use Rattle.mi_journal.specs.Stored.{IsWithin, TakesToSettle, room_beside};
@@ -96,29 +98,25 @@ impl Inverses {
         self.entries.open_session();
     }
 
-    /// Notes an inverse in the newest session.
-    pub fn note(&mut self, table: usize, inverse: Inverse)
+    /// Notes an inverse in the newest session: a step, and the old places that are laid down beside it if it is a put. Those are taken out.
+    pub fn note(&mut self, table: usize, step: Step, laid: &mut OldPlaces)
         requires open { 0 < length self.old.sessions }
         requires room { 0 < self.old.changes }
-        requires within { IsWithin self.old.most inverse }
-        ensures sessions { self.new.sessions ≡ noted (table, inverse) self.old.sessions }
+        requires within { IsWithin self.old.most (step_seen step (places_seen laid.old.items)) }
+        ensures sessions { self.new.sessions ≡ noted (table, step_seen step (places_seen laid.old.items)) self.old.sessions }
         ensures changes { self.old.changes ≤ self.new.changes + 1 }
         ensures starts { self.new.starts ≡ self.old.starts }
         ensures most { self.new.most ≡ self.old.most }
         ensures rings { self.new.rings ≡ self.old.rings }
     {
-        let entry = store(
-            inverse.undo(),
-            &mut self.records,
-            &mut self.places,
-            self.most,
-        );
+        let entry = store(step, laid, &mut self.records, &mut self.places, self.most);
         self.entries.note(table, entry);
     }
 
-    /// The newest inverse of the newest session, which leaves it; or none where it has none.
-    pub fn pop(&mut self) -> Option<(usize, Inverse)>
-        ensures entry { result ≡ newest_entry self.old.sessions }
+    /// The newest inverse of the newest session, which leaves it; or none where it has none. The old places of a put are laid down, in
+    /// place of what stands there.
+    pub fn pop(&mut self, laid: &mut OldPlaces) -> Option<(usize, Step)>
+        ensures entry { option_map (λ e. (e.0, step_seen e.1 (places_seen laid.new.items))) result ≡ newest_entry self.old.sessions }
         ensures sessions { self.new.sessions ≡ without_entry self.old.sessions }
         ensures changes { self.old.changes ≤ self.new.changes }
         ensures starts { self.new.starts ≡ self.old.starts }
@@ -127,8 +125,8 @@ impl Inverses {
     {
         match self.entries.pop() {
             Some((table, entry)) => {
-                let undo = fetch(entry, &mut self.records, &mut self.places);
-                Some((table, Inverse::new(undo)))
+                let step = fetch(entry, &mut self.records, &mut self.places, laid);
+                Some((table, step))
             }
             None => None,
         }
@@ -160,8 +158,8 @@ impl Inverses {
 
     /// The oldest inverse of the oldest session leaves it, and what settles it is answered; or none where it has none. A put
     /// is settled by nothing, so its record and its places aren't put together again.
-    pub fn take_oldest(&mut self) -> Option<(usize, Inverse)>
-        ensures sessions { TakesToSettle result self.old.sessions self.new.sessions }
+    pub fn take_oldest(&mut self) -> Option<(usize, Step)>
+        ensures sessions { TakesToSettle (option_map (λ e. (e.0, step_seen e.1 [])) result) self.old.sessions self.new.sessions }
         ensures changes { self.old.changes ≤ self.new.changes }
         ensures starts { self.new.starts ≡ self.old.starts }
         ensures most { self.new.most ≡ self.old.most }
@@ -169,8 +167,8 @@ impl Inverses {
     {
         match self.entries.take_oldest() {
             Some((table, entry)) => {
-                let undo = fetch_to_settle(entry, &mut self.records, &mut self.places);
-                Some((table, Inverse::new(undo)))
+                let step = fetch_to_settle(entry, &mut self.records, &mut self.places);
+                Some((table, step))
             }
             None => None,
         }

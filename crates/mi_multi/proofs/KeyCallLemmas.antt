@@ -1,7 +1,7 @@
 -- What the calls by keys ask of an index and answer, by what contracts see of the container.
 -- Cited by `MultiIndex::count`, `MultiIndex::find`, `MultiIndex::holder`, `MultiIndex::next_of`, `MultiIndex::past` and 1 more.
-use Rattle.std.proofs.Common.{Bor, ◌≡◌, ◌≢◌, ℕ, ◌<◌, ◌≤◌, zero, suc, Bool, true, false}
-use Rattle.std.proofs.Common.{List, [], ◌∷◌, ◌++◌, length, slice_get, ap, sym, ◌∙◌, subst, arith}
+use Rattle.std.proofs.Common.{Bor, ◌≡◌, ◌≢◌, ℕ, ◌<◌, Bool, true, false}
+use Rattle.std.proofs.Common.{List, [], ◌∷◌, ◌++◌, length, slice_get, ap, sym, ◌∙◌, subst}
 use Rattle.std.specs.Prelude.{IsTrue, IfSome}
 use Rattle.std.specs.List.{AllByRecursion, filter, position_or_len}
 use Rattle.std.specs.Option.{option_map}

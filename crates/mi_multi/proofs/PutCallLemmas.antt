@@ -1,7 +1,6 @@
 -- What the calls that put another record ask and answer, by what contracts see of the container.
 -- Cited by `MultiIndex::changed_by`, `MultiIndex::edited`, `MultiIndex::live_row`, `MultiIndex::modify` and 5 more.
-use Rattle.std.proofs.Common.{◌≡◌, ℕ, ◌+◌, ◌^◌, ◌<◌, Bool, true, false, not, List, ◌++◌, ◌∷◌, map, length, slice_get, refl, ap, sym, ◌∙◌, subst}
-use Rattle.std.specs.Option.{option_map}
+use Rattle.std.proofs.Common.{◌≡◌, ℕ, ◌+◌, ◌^◌, ◌<◌, Bool, true, false, not, List, ◌++◌, ◌∷◌, length, slice_get, refl, ap, sym, ◌∙◌, subst}
 use Rattle.std.specs.Ordering.{is_eq}
 use Rattle.std.specs.FinMap.{get}
 use Rattle.std.specs.declared.option.Option.{Option}
@@ -186,17 +185,17 @@ module _ (i : Inside) (is : AreMulti i) (w : Seen) (seen : seen_of i ≡ w) (e :
           n ys like (done is.rss is.stand can) (subst (λ (u : Seen). u.plain.arrivals < LAST_COUNT) (sym seen) few) here
 
       -- the change and its inverse
-      module _ (ps : List (Option Place)) (places : map (option_map place_seen) ps
+      module _ (ps : List (Option OldPlace)) (places : ps
           ≡ old_places 0 w.plain.rows e (content_of w.plain.rows e).values row w.plain.orders (content_of w.plain.rows e).stamps) where
-        places_here : map (option_map place_seen) ps
+        places_here : ps
             ≡ old_places 0 (seen_of i).plain.rows e (content_of (seen_of i).plain.rows e).values
             row (seen_of i).plain.orders (content_of (seen_of i).plain.rows e).stamps
-        places_here = subst (λ (u : Seen). map (option_map place_seen) ps
+        places_here = subst (λ (u : Seen). ps
             ≡ old_places 0 u.plain.rows e (content_of u.plain.rows e).values row u.plain.orders (content_of u.plain.rows e).stamps)
             (sym seen) places
 
         pub now_made : (old_ : Stored) → value_of i.nodes.pool r.name ≡ Some old_ → (undo : Inverse)
-            → undo ≡ Put (record { id = e; at = r }) (record { values = old_.row; places = map (option_map place_seen) ps })
+            → undo ≡ Put (record { id = e; at = r }) (record { values = old_.row; places = ps })
             → Makes w.shape (Replace e row) w.plain undo (plain_of i.schema i.ids.entries n ys i.next (i.arrivals + 1))
         now_made old_ old_is undo undo_is =
             subst (λ (u : Seen). Makes u.shape (Replace e row) u.plain undo (plain_of i.schema i.ids.entries n ys i.next (i.arrivals + 1))) seen
@@ -206,5 +205,5 @@ module _ (i : Inside) (is : AreMulti i) (w : Seen) (seen : seen_of i ≡ w) (e :
                   i.arrivals is e r there v refl marks marked n ys like (done is.rss is.stand can);
               inverse = undo_is
                   ∙ put_inverse_is i.schema i.ids.entries i.nodes.pool i.nodes.structures.items i.next
-                  i.arrivals is e r there v refl old_ old_is (map (option_map place_seen) ps) places_here;
+                  i.arrivals is e r there v refl old_ old_is ps places_here;
             })

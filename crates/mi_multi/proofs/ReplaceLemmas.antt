@@ -20,9 +20,12 @@ use Rattle.mi_model.specs.Change.{put}
 use Rattle.mi_model.specs.DatabaseChange.{Meets, MeetsRefusal}
 use Rattle.mi_model.specs.Verdict.{Outcome, is_spent, as_unique, unless, replace_refusal, replace_outcome, refused_modify, modified, modify_outcome}
 use Rattle.mi_container.specs.Data.{Data, IsData, as_table}
-use Rattle.mi_container.specs.Inverse.{Inverse, lost_to}
-use Rattle.mi_container.specs.Run.Change.{Replace}
-use Rattle.mi_container.specs.Makes.{Makes, MeetsOn, modify_answer, lost_answer, IsNoLoss}
+use Rattle.mi_container.specs.Inverse.{Inverse}
+use Rattle.mi_container.specs.Run.Change.{Replace, Erase}
+use Rattle.mi_container.specs.Makes.{Makes, MakesModify, Tells, TellsAlone, IsNoLoss}
+use Rattle.mi_container.specs.Backs.{places_seen, step_seen, lost_by}
+use Rattle.mi_container.specs.declared.inverse.Step.{Step}
+use Rattle.mi_node.specs.declared.old_place.OldPlace.{OldPlace as Place}
 use Rattle.mi_container.proofs.PairLemmas.{is_other, none_some, some_is}
 use Rattle.mi_container.proofs.LawLemmas.{change_is_tables}
 use Rattle.mi_multi.proofs.AcceptLemmas.{refused_meets}
@@ -136,11 +139,18 @@ module _ (s : Shape) (e : ℕ) (r : List Value) (rollback : Bool) (old : Data) (
 
   -- where nothing refuses it the record is put
   module _ (none : conflict s t r (Some e) ≡ None) (i : Inverse) (new : Data) (made : Makes s (Replace e r) old i new) where
-    kept : lost_to i ≡ None
-    kept = ap lost_to made.inverse
-
-    pub put_meets : MeetsOn (modified s e rollback (Some r)) (modify_answer (Ok i)) old new
+    pub put_meets : Meets (modified s e rollback (Some r) t) (Ok tt) t (as_table new)
     put_meets =
-        subst (λ o. Meets (modified s e rollback (Some r) t) (lost_answer o) t (as_table new)) (sym kept)
-        (subst (λ (o : Outcome (Unit {0})). Meets o (Ok tt) t (as_table new))
-        (sym (none_is s e r rollback t unspent None none)) (refl, put_table s e r old i new is made))
+        subst (λ (o : Outcome (Unit {0})). Meets o (Ok tt) t (as_table new))
+        (sym (none_is s e r rollback t unspent None none)) (refl, put_table s e r old i new is made)
+
+-- a modify that lost its row
+pub lost_made : (s : Shape) (e : ℕ) (old new : Data) (at : ℕ × ℕ) (noted : Bool) (laid : List (Option Place)) (res : Result Step Refusal)
+    → IfOk res (λ k. TellsAlone k (λ i. Makes s (Erase e (Some at)) old i new)) → IfOk res (λ k. lost_by k ≡ Some at)
+    → IfOk res (λ k. Tells noted k laid (λ i. MakesModify (lost_by k) s e old i new))
+lost_made s e old new at noted laid (Err x) made lost = tt
+lost_made s e old new at noted laid (Ok k) made lost = (
+  places_seen laid,
+  (λ n. refl),
+  subst (λ w. MakesModify w s e old (step_seen k (places_seen laid)) new) (sym lost) (made (places_seen laid)),
+)

@@ -1,20 +1,20 @@
 //! Changes of a container, and what takes each back.
-ghost use Rattle.std.specs.Prelude.{◌≡◌, not, None, IfOk, IfErr, IfSome};
+ghost use Rattle.std.specs.Prelude.{◌≡◌, not, None, [], IfOk, IfErr, IfSome};
 ghost use Rattle.std.specs.Option.{option_map};
 ghost use Rattle.mi_model.specs.Table.{has as has_row};
 ghost use Rattle.mi_model.specs.Verdict.{has_place, insert_refusal, insert_outcome};
 ghost use Rattle.mi_container.specs.Asked.{IsSequenced, RecordFits};
 ghost use Rattle.mi_container.specs.Data.{IsData, as_table};
-ghost use Rattle.mi_container.specs.Makes.{MakesInsert, MeetsOn, insert_answer, insert_row_answer};
+ghost use Rattle.mi_container.specs.Makes.{MakesInsert, MeetsOn, insert_row_answer};
 ghost use Rattle.mi_container.specs.Inverse.{taken_back, settled};
 ghost use Rattle.mi_container.specs.Inverse.Inverse.{Inserted, Relocated};
 ghost use Rattle.mi_container.specs.Fits.{Ready, KeptBy};
-ghost use Rattle.mi_container.specs.Backs.{row_seen};
+ghost use Rattle.mi_container.specs.Backs.{row_seen, step_seen};
 ghost use Rattle.mi_multi.specs.Before.{node_before, row_kept_by};
 
 use crate::conflicts::unique_refusal;
 use crate::multi::MultiIndex;
-use mi_container::{Inverse, RowRef, Undo};
+use mi_container::{RowRef, Step};
 use mi_ids::Ids;
 use mi_index::Stored;
 use mi_node::NodeRef;
@@ -44,13 +44,12 @@ fn node_of(row: Option<RowRef>) -> Option<NodeRef>
     }
 }
 
-/// The row whose node an inverse keeps, if any.
-fn kept_row(inverse: Inverse) -> Option<RowRef>
-    ensures { option_map row_seen result ≡ row_kept_by inverse }
+/// The row whose node a step keeps, if any.
+fn kept_row(step: &Step) -> Option<RowRef>
+    ensures { option_map row_seen result ≡ row_kept_by (step_seen step.now []) }
 {
-    let undo = inverse.undo();
-    match &undo {
-        Undo::Erased(row, _) => Some(*row),
+    match step {
+        Step::Erased(row, _) => Some(*row),
         _ => None,
     }
 }
@@ -135,35 +134,10 @@ impl MultiIndex {
         unique_refusal(self.conflict(row, None))
     }
 
-    /// Adds a record and answers its id. It goes last in each index among its equals; in the sequenced index that `before`
-    /// names it stands directly before the record that `before` names.
+    /// Adds a record and answers its row, of which `Step::Inserted` is the step. It goes last in each index among its equals; in
+    /// the sequenced index that `before` names it stands directly before the record that `before` names.
     ///
     /// Refusals, in this order: `NoId`, `Full`, `Spent`, `Unique`, `Memory`. The refused record is handed back.
-    pub fn insert(
-        &mut self,
-        alloc: Global,
-        row: Record,
-        before: Option<(usize, u64)>,
-    ) -> Result<(u64, Inverse), (Refusal, Record)>
-        requires row { RecordFits self.old.shape row }
-        requires before { IfSome before (λ at. IsSequenced self.old.shape at.0) }
-        ensures outcome { MeetsOn (insert_outcome self.old.shape before row) (insert_answer result) self.old.plain self.new.plain }
-        ensures made { IfOk result (λ p. MakesInsert self.old.shape before row self.old.plain p.1 self.new.plain) }
-        ensures refused { IfErr result (λ e. self.new.plain ≡ self.old.plain) }
-        ensures handed_back { IfErr result (λ e. e.1 ≡ row) }
-        ensures shape { self.new.shape ≡ self.old.shape }
-        ensures secrets { self.new.secrets ≡ self.old.secrets }
-    {
-        match self.insert_row(alloc, row, before) {
-            Ok(inserted) => {
-                let id = inserted.id;
-                Ok((id, Inverse::new(Undo::Inserted(inserted))))
-            }
-            Err(refused) => Err(refused),
-        }
-    }
-
-    /// `insert`, without its inverse, which is `Undo::Inserted` of the row that it answers: who notes none lays none down.
     pub fn insert_row(
         &mut self,
         alloc: Global,
@@ -218,14 +192,14 @@ impl MultiIndex {
         self.nodes.relocate(index, row.node, node_of(behind));
     }
 
-    /// Frees the node that an inverse keeps, if any. Takes no memory.
-    pub fn settle(&mut self, inverse: Inverse)
-        requires { KeptBy inverse self.old.plain }
-        ensures plain { self.new.plain ≡ settled inverse self.old.plain }
+    /// Frees the node that a step keeps, if any. Old places aren't asked for. Takes no memory.
+    pub fn settle(&mut self, step: Step)
+        requires { KeptBy (step_seen step []) self.old.plain }
+        ensures plain { self.new.plain ≡ settled (step_seen step []) self.old.plain }
         ensures shape { self.new.shape ≡ self.old.shape }
         ensures secrets { self.new.secrets ≡ self.old.secrets }
     {
-        let Some(row) = kept_row(inverse) else {
+        let Some(row) = kept_row(&step) else {
             return;
         };
         self.settle_erased(row);

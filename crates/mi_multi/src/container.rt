@@ -1,7 +1,7 @@
 //! The container as callers of its trait see it. Each call is the container's own.
 use crate::multi::MultiIndex;
 use mi_catalog::Schema;
-use mi_container::{Container, Inverse, RestoreFault, RowRef, TableImage};
+use mi_container::{Container, OldPlaces, RestoreFault, RowRef, Step, TableImage};
 use mi_value::{Edit, Lower, Record, Refusal, Steps, Upper, Value};
 use std::alloc::{AllocError, Global};
 
@@ -49,15 +49,6 @@ impl Container for MultiIndex {
         )
     }
 
-    fn insert(
-        &mut self,
-        alloc: Global,
-        row: Record,
-        before: Option<(usize, u64)>,
-    ) -> Result<(u64, Inverse), (Refusal, Record)> {
-        self.insert(alloc, row, before)
-    }
-
     fn insert_row(
         &mut self,
         alloc: Global,
@@ -67,8 +58,14 @@ impl Container for MultiIndex {
         self.insert_row(alloc, row, before)
     }
 
-    fn replace(&mut self, id: u64, row: Record) -> Result<Inverse, (Refusal, Record)> {
-        self.replace(id, row)
+    fn replace(
+        &mut self,
+        id: u64,
+        row: Record,
+        noted: bool,
+        laid: &mut OldPlaces,
+    ) -> Result<Step, (Refusal, Record)> {
+        self.replace(id, row, noted, laid)
     }
 
     fn modify(
@@ -77,24 +74,26 @@ impl Container for MultiIndex {
         id: u64,
         edits: &[Edit],
         rollback: bool,
-    ) -> Result<Inverse, Refusal> {
-        self.modify(alloc, id, edits, rollback)
+        noted: bool,
+        laid: &mut OldPlaces,
+    ) -> Result<Step, Refusal> {
+        self.modify(alloc, id, edits, rollback, noted, laid)
     }
 
-    fn erase(&mut self, id: u64) -> Result<Inverse, Refusal> {
+    fn erase(&mut self, id: u64) -> Result<Step, Refusal> {
         self.erase(id)
     }
 
-    fn relocate(&mut self, index: usize, id: u64, before: Option<u64>) -> Result<Inverse, Refusal> {
+    fn relocate(&mut self, index: usize, id: u64, before: Option<u64>) -> Result<Step, Refusal> {
         self.relocate(index, id, before)
     }
 
-    fn unwind(&mut self, inverse: Inverse) {
-        self.unwind(inverse);
+    fn unwind(&mut self, step: Step, laid: &OldPlaces) {
+        self.unwind(step, laid);
     }
 
-    fn settle(&mut self, inverse: Inverse) {
-        self.settle(inverse);
+    fn settle(&mut self, step: Step) {
+        self.settle(step);
     }
 
     fn size(&self) -> u64 {

@@ -1,9 +1,9 @@
 //! The rows of one table as shared nodes, linked into every index.
-//! It knows nothing of sessions: each change gives its inverse.
+//! It knows nothing of sessions: each change gives its step.
 ghost use Rattle.std.specs.Prelude.{◌≡◌, ◌≢◌, ◌<◌, ◌≤◌, ◌+◌, ◌*◌, ◌^◌, ℕ, [], None, IfOk, IfErr};
 ghost use Rattle.mi_value.specs.declared.refusal.Refusal.TheVariants.{Memory};
 ghost use Rattle.mi_model.specs.Verdict.{erase_outcome};
-ghost use Rattle.mi_container.specs.Makes.{Makes, MeetsOn, erase_answer};
+ghost use Rattle.mi_container.specs.Makes.{Makes, TellsAlone, MeetsOn, erase_answer};
 ghost use Rattle.mi_container.specs.Changes.{opened_data};
 ghost use Rattle.mi_container.specs.Secrets.{opened_secrets};
 ghost use Rattle.mi_container.specs.Held.{HoldsNodes};
@@ -14,10 +14,10 @@ ghost use Rattle.mi_model.specs.Table.{get as get_row, size as size_of};
 ghost use Rattle.mi_container.specs.Inverse.{taken_back, settled};
 ghost use Rattle.mi_container.specs.Inverse.Inverse.{Erased};
 ghost use Rattle.mi_container.specs.Fits.{Ready, KeptBy};
-ghost use Rattle.mi_container.specs.Backs.{row_seen};
+ghost use Rattle.mi_container.specs.Backs.{row_seen, lost_by};
 
 use mi_catalog::Schema;
-use mi_container::{Inverse, RowRef, Undo};
+use mi_container::{RowRef, Step};
 use mi_ids::Ids;
 use mi_index::Nodes;
 use mi_value::{Record, Refusal, Steps};
@@ -92,16 +92,13 @@ impl MultiIndex {
         Some(&self.nodes.pool.value(node).row)
     }
 
-    /// Erases a record, whose node is kept for the inverse. The inverse says by which index and id a modify lost the record,
-    /// if one did. Takes no memory. Refusal: `NoId`.
-    pub(crate) fn erase_for(
-        &mut self,
-        id: u64,
-        why: Option<(usize, u64)>,
-    ) -> Result<Inverse, Refusal>
+    /// Erases a record, whose node is kept for the inverse. The step says by which index and id a modify lost the record, if
+    /// one did. Takes no memory. Refusal: `NoId`.
+    pub(crate) fn erase_for(&mut self, id: u64, why: Option<(usize, u64)>) -> Result<Step, Refusal>
         ensures outcome { MeetsOn (erase_outcome id) (erase_answer result) self.old.plain self.new.plain }
         ensures memory { IfErr result (λ e. e ≢ Memory) }
-        ensures made { IfOk result (λ i. Makes self.old.shape (Erase id why) self.old.plain i self.new.plain) }
+        ensures made { IfOk result (λ k. TellsAlone k (λ i. Makes self.old.shape (Erase id why) self.old.plain i self.new.plain)) }
+        ensures lost { IfOk result (λ k. lost_by k ≡ why) }
         ensures refused { IfErr result (λ e. self.new.plain ≡ self.old.plain) }
         ensures shape { self.new.shape ≡ self.old.shape }
         ensures secrets { self.new.secrets ≡ self.old.secrets }
@@ -111,14 +108,14 @@ impl MultiIndex {
         };
         self.nodes.take_out(node);
         self.ids.keep(id);
-        Ok(Inverse::new(Undo::Erased(RowRef { id, node }, why)))
+        Ok(Step::Erased(RowRef { id, node }, why))
     }
 
-    /// Erases a record, whose node is kept for the inverse. Takes no memory. Refusal: `NoId`.
-    pub fn erase(&mut self, id: u64) -> Result<Inverse, Refusal>
+    /// Erases a record, whose node is kept for the inverse, a step without places. Takes no memory. Refusal: `NoId`.
+    pub fn erase(&mut self, id: u64) -> Result<Step, Refusal>
         ensures outcome { MeetsOn (erase_outcome id) (erase_answer result) self.old.plain self.new.plain }
         ensures memory { IfErr result (λ e. e ≢ Memory) }
-        ensures made { IfOk result (λ i. Makes self.old.shape (Erase id None) self.old.plain i self.new.plain) }
+        ensures made { IfOk result (λ k. TellsAlone k (λ i. Makes self.old.shape (Erase id None) self.old.plain i self.new.plain)) }
         ensures refused { IfErr result (λ e. self.new.plain ≡ self.old.plain) }
         ensures shape { self.new.shape ≡ self.old.shape }
         ensures secrets { self.new.secrets ≡ self.old.secrets }

@@ -8,7 +8,7 @@ ghost use Rattle.mi_container.specs.Asked.{IsSequenced};
 ghost use Rattle.mi_container.specs.Data.{order_at, as_table};
 ghost use Rattle.mi_container.specs.Inverse.{row_ref, next_in_order};
 ghost use Rattle.mi_container.specs.Fits.{IsLive, IsOther};
-ghost use Rattle.mi_container.specs.Makes.{Makes, MeetsOn, erase_answer};
+ghost use Rattle.mi_container.specs.Makes.{Makes, TellsAlone, MeetsOn, erase_answer};
 ghost use Rattle.mi_container.specs.Run.Change.{Relocate};
 ghost use Rattle.mi_container.specs.Backs.{row_seen};
 ghost use Rattle.mi_node.specs.Pool.{IsHeld};
@@ -16,7 +16,7 @@ ghost use Rattle.mi_multi.specs.RowAt.{row_ref_at};
 
 use crate::multi::MultiIndex;
 use crate::reading::structure_at;
-use mi_container::{Inverse, RowRef, Undo};
+use mi_container::{RowRef, Step};
 use mi_index::Stored;
 use mi_node::{NodeRef, Pool};
 use mi_value::Refusal;
@@ -57,11 +57,11 @@ impl MultiIndex {
     }
 
     /// Moves a row in a sequenced index directly before another one, or to its end, and answers what takes that back.
-    pub(crate) fn move_row(&mut self, index: usize, row: RowRef, before: Option<RowRef>) -> Inverse
+    pub(crate) fn move_row(&mut self, index: usize, row: RowRef, before: Option<RowRef>) -> Step
         requires index { IsSequenced self.old.shape index }
         requires row { IsLive self.old.plain.rows (row_seen row) }
         requires before { IsOther self.old.plain.rows row.id (option_map row_seen before) }
-        ensures made { Makes self.old.shape (Relocate index row.id (option_map (λ b. b.id) before)) self.old.plain result self.new.plain }
+        ensures made { TellsAlone result (λ i. Makes self.old.shape (Relocate index row.id (option_map (λ b. b.id) before)) self.old.plain i self.new.plain) }
         ensures shape { self.new.shape ≡ self.old.shape }
         ensures secrets { self.new.secrets ≡ self.old.secrets }
     {
@@ -69,21 +69,16 @@ impl MultiIndex {
         let RowRef { id, node } = row;
         let behind = self.row_behind(index, id, node);
         self.stand_before(index, RowRef { id, node }, before);
-        Inverse::new(Undo::Relocated(index, RowRef { id, node }, behind))
+        Step::Relocated(index, RowRef { id, node }, behind)
     }
 
-    /// Moves a record in a sequenced index directly before another, or to its end. Nothing changes where both are one. Takes
-    /// no memory. Refusal: `NoId`.
-    pub fn relocate(
-        &mut self,
-        index: usize,
-        id: u64,
-        before: Option<u64>,
-    ) -> Result<Inverse, Refusal>
+    /// Moves a record in a sequenced index directly before another, or to its end. Nothing changes where both are one. The inverse is a
+    /// step without places. Takes no memory. Refusal: `NoId`.
+    pub fn relocate(&mut self, index: usize, id: u64, before: Option<u64>) -> Result<Step, Refusal>
         requires { IsSequenced self.old.shape index }
         ensures outcome { MeetsOn (relocate_outcome index id before) (erase_answer result) self.old.plain self.new.plain }
         ensures memory { IfErr result (λ e. e ≢ Memory) }
-        ensures made { IfOk result (λ i. Makes self.old.shape (Relocate index id before) self.old.plain i self.new.plain) }
+        ensures made { IfOk result (λ k. TellsAlone k (λ i. Makes self.old.shape (Relocate index id before) self.old.plain i self.new.plain)) }
         ensures refused { IfErr result (λ e. self.new.plain ≡ self.old.plain) }
         ensures shape { self.new.shape ≡ self.old.shape }
         ensures secrets { self.new.secrets ≡ self.old.secrets }
@@ -99,7 +94,7 @@ impl MultiIndex {
             return Err(Refusal::NoId);
         };
         if other.id == row.id {
-            return Ok(Inverse::new(Undo::Nothing));
+            return Ok(Step::Nothing);
         }
         Ok(self.move_row(index, row, Some(other)))
     }

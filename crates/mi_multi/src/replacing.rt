@@ -1,5 +1,5 @@
 //! Other records for rows, and changes of their columns.
-ghost use Rattle.std.specs.Prelude.{◌≡◌, ◌≢◌, ◌<◌, Bool, true, Some, None, IfOk, IfErr};
+ghost use Rattle.std.specs.Prelude.{◌≡◌, ◌≢◌, ◌<◌, Bool, true, false, Some, None, IfOk, IfErr};
 ghost use Rattle.mi_value.specs.declared.limits.TheConstants.{LAST_COUNT as last_count};
 ghost use Rattle.mi_value.specs.declared.refusal.Refusal.TheVariants.{Memory};
 ghost use Rattle.mi_value.specs.Edits.{apply as apply_edits};
@@ -8,17 +8,15 @@ ghost use Rattle.mi_model.specs.DatabaseChange.{MeetsRefusal};
 ghost use Rattle.mi_model.specs.Verdict.{replace_refusal, replace_outcome, modified, modify_outcome};
 ghost use Rattle.mi_container.specs.Asked.{RecordFits, EditsFit};
 ghost use Rattle.mi_container.specs.Data.{as_table};
-ghost use Rattle.mi_container.specs.Inverse.{lost_to};
 ghost use Rattle.mi_container.specs.Fits.{IsLive};
-ghost use Rattle.mi_container.specs.Backs.{row_seen};
+ghost use Rattle.mi_container.specs.Backs.{row_seen, lost_by};
 ghost use Rattle.mi_container.specs.Run.Change.{Replace};
-ghost use Rattle.mi_container.specs.Makes.{Makes, MakesModify, MeetsOn, replace_answer, modify_answer, IsNoLoss};
+ghost use Rattle.mi_container.specs.Makes.{Makes, MakesModify, Tells, MeetsOn, replace_answer, modify_answer, IsNoLoss};
 ghost use Rattle.mi_multi.specs.Changed.{changed_by};
 
 use crate::conflicts::unique_refusal;
 use crate::multi::MultiIndex;
-use arrayvec::ArrayVec;
-use mi_container::{Inverse, RowRef, Undo};
+use mi_container::{OldPlaces, RowRef, Step};
 use mi_node::NodeRef;
 use mi_value::limits::LAST_COUNT;
 use mi_value::{Edit, Record, Refusal, apply};
@@ -38,13 +36,23 @@ impl MultiIndex {
         unique_refusal(self.conflict_of_put(id, row, marks))
     }
 
-    /// Sets another record for an id. Takes no memory. Refusals, in this order: `NoId`, `Spent`, `Unique`. The refused record
-    /// is handed back.
-    pub fn replace(&mut self, id: u64, row: Record) -> Result<Inverse, (Refusal, Record)>
+    /// Sets another record for an id. Where the change is noted its old places are laid down, in place of what stands there; else
+    /// `laid` stays as it is. Takes no memory.
+    ///
+    /// Refusals, in this order: `NoId`, `Spent`, `Unique`. The refused record is handed back, and `laid` stays as it is.
+    pub fn replace(
+        &mut self,
+        id: u64,
+        row: Record,
+        noted: bool,
+        laid: &mut OldPlaces,
+    ) -> Result<Step, (Refusal, Record)>
         requires { RecordFits self.old.shape row }
         ensures outcome { MeetsOn (replace_outcome self.old.shape id row) (replace_answer result) self.old.plain self.new.plain }
         ensures memory { IfErr result (λ e. e.0 ≢ Memory) }
-        ensures made { IfOk result (λ i. Makes self.old.shape (Replace id row) self.old.plain i self.new.plain) }
+        ensures made { IfOk result (λ k. Tells noted k laid.new.items (λ i. Makes self.old.shape (Replace id row) self.old.plain i self.new.plain)) }
+        ensures unnoted { noted ≡ false → laid.new.items ≡ laid.old.items }
+        ensures unlaid { IfErr result (λ _. laid.new.items ≡ laid.old.items) }
         ensures refused { IfErr result (λ e. self.new.plain ≡ self.old.plain) }
         ensures handed_back { IfErr result (λ e. e.1 ≡ row) }
         ensures shape { self.new.shape ≡ self.old.shape }
@@ -58,9 +66,8 @@ impl MultiIndex {
         if let Some(refusal) = self.put_refusal(id, &row, marks.as_slice()) {
             return Err((refusal, row));
         }
-        let mut places = ArrayVec::new();
-        let old = self.put(id, node, row, marks.as_slice(), &mut places);
-        Ok(Inverse::new(Undo::Put(RowRef { id, node }, old, places)))
+        let old = self.put(id, node, row, marks.as_slice(), noted, laid);
+        Ok(Step::Put(RowRef { id, node }, old))
     }
 
     /// The record that edits make of a live row's. Refusals: `Range` and `Memory`.
@@ -84,11 +91,15 @@ impl MultiIndex {
         node: NodeRef,
         row: Record,
         rollback: bool,
-    ) -> Result<Inverse, Refusal>
+        noted: bool,
+        laid: &mut OldPlaces,
+    ) -> Result<Step, Refusal>
         requires there { has_row (as_table self.old.plain) id ≡ true }
         requires live { IsLive self.old.plain.rows (record { id = id; at = node }) }
         ensures outcome { MeetsOn (modified self.old.shape id rollback (Some row)) (modify_answer result) self.old.plain self.new.plain }
-        ensures made { IfOk result (λ i. MakesModify (lost_to i) self.old.shape id self.old.plain i self.new.plain) }
+        ensures made { IfOk result (λ k. Tells noted k laid.new.items (λ i. MakesModify (lost_by k) self.old.shape id self.old.plain i self.new.plain)) }
+        ensures unnoted { noted ≡ false → laid.new.items ≡ laid.old.items }
+        ensures unlaid { IfErr result (λ _. laid.new.items ≡ laid.old.items) }
         ensures loss { IfErr result (λ e. IsNoLoss e) }
         ensures refused { IfErr result (λ e. self.new.plain ≡ self.old.plain) }
         ensures shape { self.new.shape ≡ self.old.shape }
@@ -101,9 +112,8 @@ impl MultiIndex {
         let marks = self.changed_by(id, node, &row);
         match self.conflict_of_put(id, &row, marks.as_slice()) {
             None => {
-                let mut places = ArrayVec::new();
-                let old = self.put(id, node, row, marks.as_slice(), &mut places);
-                Ok(Inverse::new(Undo::Put(RowRef { id, node }, old, places)))
+                let old = self.put(id, node, row, marks.as_slice(), noted, laid);
+                Ok(Step::Put(RowRef { id, node }, old))
             }
             Some((index, other)) if rollback => Err(Refusal::Unique { index, id: other }),
             Some(rival) => self.erase_for(id, Some(rival)),
@@ -111,19 +121,24 @@ impl MultiIndex {
     }
 
     /// Changes columns of a record. Where a unique index refuses the result without `rollback` the record is erased: then the
-    /// answer is an inverse that is `lost`.
+    /// answer is a step that is `lost`. Where the change is noted its old places are laid down, in place of what stands there; else
+    /// `laid` stays as it is.
     ///
-    /// Refusals, in this order: `NoId`, `Range`, `Spent`, with `rollback` `Unique`, `Memory`.
+    /// Refusals, in this order: `NoId`, `Range`, `Spent`, with `rollback` `Unique`, `Memory`. Then `laid` stays as it is.
     pub fn modify(
         &mut self,
         alloc: Global,
         id: u64,
         edits: &[Edit],
         rollback: bool,
-    ) -> Result<Inverse, Refusal>
+        noted: bool,
+        laid: &mut OldPlaces,
+    ) -> Result<Step, Refusal>
         requires { EditsFit self.old.shape edits.now }
         ensures outcome { MeetsOn (modify_outcome self.old.shape id edits.now rollback) (modify_answer result) self.old.plain self.new.plain }
-        ensures made { IfOk result (λ i. MakesModify (lost_to i) self.old.shape id self.old.plain i self.new.plain) }
+        ensures made { IfOk result (λ k. Tells noted k laid.new.items (λ i. MakesModify (lost_by k) self.old.shape id self.old.plain i self.new.plain)) }
+        ensures unnoted { noted ≡ false → laid.new.items ≡ laid.old.items }
+        ensures unlaid { IfErr result (λ _. laid.new.items ≡ laid.old.items) }
         ensures loss { IfErr result (λ e. IsNoLoss e) }
         ensures refused { IfErr result (λ e. self.new.plain ≡ self.old.plain) }
         ensures shape { self.new.shape ≡ self.old.shape }
@@ -133,6 +148,6 @@ impl MultiIndex {
             return Err(Refusal::NoId);
         };
         let row = self.edited(alloc, RowRef { id, node }, edits)?;
-        self.modify_to(id, node, row, rollback)
+        self.modify_to(id, node, row, rollback, noted, laid)
     }
 }

@@ -1,14 +1,14 @@
-//! Taking changes of a container back, each by its inverse.
+//! Taking changes of a container back, each by its step.
 ghost use Rattle.std.specs.Prelude.{◌≡◌};
 ghost use Rattle.mi_container.specs.Data.{IsData};
 ghost use Rattle.mi_container.specs.Inverse.{taken_back};
 ghost use Rattle.mi_container.specs.Inverse.Inverse.{Put};
 ghost use Rattle.mi_container.specs.Fits.{Ready};
-ghost use Rattle.mi_container.specs.Backs.{row_seen};
+ghost use Rattle.mi_container.specs.Backs.{row_seen, places_seen, step_seen};
 ghost use Rattle.mi_multi.specs.Restored.{old_seen};
 
 use crate::multi::MultiIndex;
-use mi_container::{Inverse, OldPlaces, RowRef, Undo};
+use mi_container::{OldPlaces, RowRef, Step};
 use mi_index::Stored;
 use mi_value::Record;
 
@@ -31,22 +31,21 @@ impl MultiIndex {
         self.arrivals -= 1;
     }
 
-    /// Takes a change back, by its inverse: of the changes not yet taken back it is the newest. Takes no memory. An inverse is
-    /// large: in line it stays where its caller has it.
-    #[inline(always)]
-    pub fn unwind(&mut self, inverse: Inverse)
-        requires ready { Ready inverse self.old.plain }
-        requires before { IsData self.old.shape (taken_back inverse self.old.plain) }
-        ensures plain { self.new.plain ≡ taken_back inverse self.old.plain }
+    /// Takes a change back, by its step and the old places that were laid down: of the changes not yet taken back it is the newest.
+    /// Takes no memory.
+    pub fn unwind(&mut self, step: Step, laid: &OldPlaces)
+        requires ready { Ready (step_seen step (places_seen laid.now.items)) self.old.plain }
+        requires before { IsData self.old.shape (taken_back (step_seen step (places_seen laid.now.items)) self.old.plain) }
+        ensures plain { self.new.plain ≡ taken_back (step_seen step (places_seen laid.now.items)) self.old.plain }
         ensures shape { self.new.shape ≡ self.old.shape }
         ensures secrets { self.new.secrets ≡ self.old.secrets }
     {
-        match inverse.undo() {
-            Undo::Inserted(row) => self.take_back_inserted(row),
-            Undo::Put(row, old, places) => self.take_back_put(row, old, &places),
-            Undo::Erased(row, _) => self.take_back_erased(row),
-            Undo::Relocated(index, row, behind) => self.stand_before(index, row, behind),
-            Undo::Nothing => {}
+        match step {
+            Step::Inserted(row) => self.take_back_inserted(row),
+            Step::Put(row, old) => self.take_back_put(row, old, laid),
+            Step::Erased(row, _) => self.take_back_erased(row),
+            Step::Relocated(index, row, behind) => self.stand_before(index, row, behind),
+            Step::Nothing => {}
         }
     }
 }

@@ -9,7 +9,7 @@ use Rattle.mi_journal.proofs.store.store_places.Goals as goal
 pub push_back_reserved-requires : goal.push_back_reserved-requires
 push_back_reserved-requires c =
     let l = c.loop-place in
-    let some = (storing_place c.args.old.items l.places.items c.pop.new.self.items c.in-Some.place l.marks c.args.ring.now.items l.ring.items
+    let some = (storing_place c.args.laid.now.items l.laid.items c.pop.new.self.items c.in-Some.place l.marks c.args.ring.now.items l.ring.items
     c.in-Some.ensures.items (sym c.is_some-there.ensures ∙ c.if-there.true) l.invariant.0).0 in
     let count = l.invariant.0.count in
     let len = l.invariant.1 in
@@ -21,13 +21,13 @@ pub loop-place-preserved-then-there : goal.loop-place-preserved-then-there
 loop-place-preserved-then-there c =
     let l = c.loop-place in
     let marks = c.put_first.ensures ∙ ap (λ b. b ∷ l.marks) c.if-there.true in
-    let more = (storing_place c.args.old.items l.places.items c.pop.new.self.items c.in-Some.place l.marks c.args.ring.now.items l.ring.items
+    let more = (storing_place c.args.laid.now.items l.laid.items c.pop.new.self.items c.in-Some.place l.marks c.args.ring.now.items l.ring.items
     c.in-Some.ensures.items (sym c.is_some-there.ensures ∙ c.if-there.true) l.invariant.0).1 in
     let len = l.invariant.1 in
     let now = c.push_back_reserved.ensures.len in
     let one = ap marked marks in (
-      subst (λ q. Storing c.args.old.items c.pop.new.self.items q c.args.ring.now.items c.push_back_reserved.new.self.items) (sym marks)
-          (subst (Storing c.args.old.items c.pop.new.self.items (true ∷ l.marks) c.args.ring.now.items) (sym c.push_back_reserved.ensures.items) more),
+      subst (λ q. Storing c.args.laid.now.items c.pop.new.self.items q c.args.ring.now.items c.push_back_reserved.new.self.items) (sym marks)
+          (subst (Storing c.args.laid.now.items c.pop.new.self.items (true ∷ l.marks) c.args.ring.now.items) (sym c.push_back_reserved.ensures.items) more),
       omega (arith, len, now, one),
       c.push_back_reserved.ensures.capacity ∙ l.invariant.2,
       λ all. All-same IsThere c.push_back_reserved.new.self.items (l.ring.items ++ c.in-Some.place ∷ []) c.push_back_reserved.ensures.items
@@ -38,8 +38,8 @@ pub loop-place-preserved : goal.loop-place-preserved
 loop-place-preserved c =
     let l = c.loop-place in
     let marks = c.put_first.ensures ∙ ap (λ b. b ∷ l.marks) c.if-there.false in (
-      subst (λ q. Storing c.args.old.items c.pop.new.self.items q c.args.ring.now.items l.ring.items) (sym marks)
-          (storing_none c.args.old.items l.places.items c.pop.new.self.items c.in-Some.place l.marks c.args.ring.now.items l.ring.items
+      subst (λ q. Storing c.args.laid.now.items c.pop.new.self.items q c.args.ring.now.items l.ring.items) (sym marks)
+          (storing_none c.args.laid.now.items l.laid.items c.pop.new.self.items c.in-Some.place l.marks c.args.ring.now.items l.ring.items
           c.in-Some.ensures.items (sym c.is_some-there.ensures ∙ c.if-there.false) l.invariant.0),
       l.invariant.1 ∙ sym (ap (λ q. deque_len c.args.ring.now + marked q) marks),
       l.invariant.2,

@@ -1,5 +1,5 @@
 -- What the container answers and leaves, the database does.
-use Rattle.std.proofs.Common.{◌≢◌, ◌∙◌, map, set, ap, sym, subst}
+use Rattle.std.proofs.Common.{◌≢◌, ◌∙◌, [], length, map, refl, set, ap, sym, subst}
 use Rattle.std.specs.Prelude.{Ok, Err}
 use Rattle.std.specs.declared.option.Option.TheVariants.{None}
 use Rattle.mi_value.specs.declared.refusal.Refusal.TheVariants.{Memory}
@@ -7,12 +7,13 @@ use Rattle.mi_model.specs.Verdict.{erase_outcome}
 use Rattle.mi_model.specs.DatabaseChange.{erase_step}
 use Rattle.mi_model.specs.Run.Command.{Erase as EraseCommand}
 use Rattle.mi_container.specs.Inverse.{keeps}
+use Rattle.mi_container.specs.Backs.{places_seen, step_seen}
 use Rattle.mi_container.specs.Run.Change.{Erase}
 use Rattle.mi_journal.specs.Noted.{noted}
 use Rattle.mi_database.specs.LinkedData.{LinkedData, data_seen, meaning}
 use Rattle.mi_database.proofs.KeptLemmas.{erase_keeps, erase_refused, refused_keeps, met_refusal}
 use Rattle.mi_database.specs.Most.{AllHaveAtMost}
-use Rattle.mi_database.proofs.LinkedDataLemmas.{stays_at}
+use Rattle.mi_database.proofs.LinkedDataLemmas.{noted_length, stays_at}
 use Rattle.mi_database.proofs.ChangeLemmas.{SpotIn, spot, spot_keeps, spot_within, spot_held, spot_outcome, spot_stays, spot_refused}
 use Rattle.mi_database.proofs.linked.Linked.erase_row.Given.{Over}
 use Rattle.mi_database.proofs.linked.Linked.erase_row.Goals.{After-erase}
@@ -25,16 +26,18 @@ module _ (g : Over) (c : After-erase g) where
 
 pub keep-requires-clause-kept : goal.keep-requires-clause-kept
 keep-requires-clause-kept g c = spot_keeps (at g (goal.at.keep-requires-clause-kept g c).After-erase)
-    (Erase c.args.id None) c.in-Ok.ensures.made
+    (Erase c.args.id None) (c.in-Ok.ensures.made [])
 
 pub keep-requires-clause-within : goal.keep-requires-clause-within
-keep-requires-clause-within g c = spot_within (at g (goal.at.keep-requires-clause-within g c).After-erase)
-    (Erase c.args.id None) c.self.invariant.1 c.in-Ok.ensures.made
+keep-requires-clause-within g c = λ open_. spot_within (at g (goal.at.keep-requires-clause-within g c).After-erase)
+    (Erase c.args.id None) c.self.invariant.1 (c.in-Ok.ensures.made (places_seen c.self.inside.laid.items))
 
 pub invariant_of-self : goal.invariant_of-self
 invariant_of-self g c = (
   spot_held (at g (goal.at.invariant_of-self g c).After-erase)
-      (Erase c.args.id None) c.in-Ok.ensures.made c.keep.new.containers.items c.keep.ensures.datas c.keep.ensures.shapes c.keep.ensures.journal,
+      (Erase c.args.id None) (c.in-Ok.ensures.made (places_seen c.self.inside.laid.items)) c.keep.new.containers.items
+      (c.keep.ensures.datas (places_seen c.self.inside.laid.items) (λ open_. refl)) c.keep.ensures.shapes
+      (c.keep.ensures.journal (places_seen c.self.inside.laid.items) (λ open_. refl)),
   subst (λ m. AllHaveAtMost m c.self.inside.catalog) (sym c.keep.ensures.most) c.self.invariant.1,
 )
 
@@ -44,7 +47,9 @@ invariant_of-self-in-Err g c =
 
 pub returns-in-Ok-clause-outcome : goal.returns-in-Ok-clause-outcome
 returns-in-Ok-clause-outcome g c = spot_outcome (at g (goal.at.returns-in-Ok-clause-outcome g c).After-erase)
-    (Erase c.args.id None) c.in-Ok.ensures.made c.keep.new.containers.items c.keep.ensures.datas c.keep.ensures.shapes c.keep.ensures.journal
+    (Erase c.args.id None) (c.in-Ok.ensures.made (places_seen c.self.inside.laid.items)) c.keep.new.containers.items
+    (c.keep.ensures.datas (places_seen c.self.inside.laid.items) (λ open_. refl)) c.keep.ensures.shapes
+    (c.keep.ensures.journal (places_seen c.self.inside.laid.items) (λ open_. refl))
     (λ s. erase_outcome c.args.id) (Ok tt) c.in-Ok.ensures.outcome
 
 pub returns-in-Err-clause-outcome : goal.returns-in-Err-clause-outcome
@@ -56,8 +61,9 @@ returns-in-Ok-clause-footprint g c =
     let a = c.self.inside in
     let new : LinkedData = data_seen a.catalog (map g.C.Container.plain c.keep.new.containers.items) c.keep.new.journal a.revision
     (map g.C.Container.held c.keep.new.containers.items) (map g.C.Container.secrets c.keep.new.containers.items) in
-    erase_keeps c.args.table c.args.id c.args.self.now new c.in-Ok.inverse (ap keeps c.in-Ok.ensures.made.inverse)
-    (c.keep.ensures.journal ∙ ap (λ (h : LinkedData). noted (c.args.table, c.in-Ok.inverse) h.journal) c.self.view_is) (returns-in-Ok-clause-outcome g c).0
+    let its = step_seen c.in-Ok.step (places_seen c.self.inside.laid.items) in
+    erase_keeps c.args.table c.args.id c.args.self.now new its (ap keeps (c.in-Ok.ensures.made (places_seen c.self.inside.laid.items)).inverse)
+    (c.keep.ensures.journal (places_seen c.self.inside.laid.items) (λ open_. refl) ∙ ap (λ (h : LinkedData). noted (c.args.table, its) h.journal) c.self.view_is) (returns-in-Ok-clause-outcome g c).0
 
 pub returns-in-Err-clause-footprint : goal.returns-in-Err-clause-footprint
 returns-in-Err-clause-footprint g c =
@@ -70,6 +76,11 @@ returns-in-Err-clause-footprint g c =
     (erase_refused c.args.table c.args.id c.args.self.now new c.in-Err.refused (ap (λ (h : LinkedData). h.journal) c.self.view_is)
     (met_refusal (erase_step c.args.table c.args.id (meaning c.args.self.now)) c.in-Err.refused (meaning c.args.self.now) (meaning new) never
     (returns-in-Err-clause-outcome g c)))
+
+pub returns-in-Ok-clause-depth : goal.returns-in-Ok-clause-depth
+returns-in-Ok-clause-depth g c =
+    ap length (c.keep.ensures.journal (places_seen c.self.inside.laid.items) (λ open_. refl)) ∙ noted_length _ c.self.inside.journal.sessions
+    ∙ ap (λ (h : LinkedData). length h.journal) c.self.view_is
 
 pub returns-in-Ok-clause-secrets : goal.returns-in-Ok-clause-secrets
 returns-in-Ok-clause-secrets g c =

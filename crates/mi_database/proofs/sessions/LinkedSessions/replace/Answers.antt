@@ -7,10 +7,13 @@ use Rattle.mi_container.specs.Inverse.{keeps}
 use Rattle.mi_container.specs.Run.Change.{Replace}
 use Rattle.mi_database.specs.Kept.{kept_rows}
 use Rattle.mi_database.proofs.KeptLemmas.{none_more}
+use Rattle.mi_container.specs.Backs.{step_seen}
+use Rattle.mi_container.proofs.StepLemmas.{kept_alone}
+use Rattle.mi_journal.specs.Stored.{IsWithin}
 use Rattle.mi_database.specs.Most.{AllHaveAtMost}
 use Rattle.mi_database.specs.LinkedData.{LinkedData}
 use Rattle.mi_database.proofs.LinkedDataLemmas.{stays_at}
-use Rattle.mi_database.proofs.ChangeLemmas.{SpotIn, spot, spot_within, spot_held, spot_outcome, spot_plain, spot_stays, spot_refused, spot_unkept}
+use Rattle.mi_database.proofs.ChangeLemmas.{SpotIn, spot, spot_keeps, spot_within, spot_held, spot_outcome, spot_plain, spot_stays, spot_refused, spot_unkept}
 use Rattle.mi_database.proofs.sessions.LinkedSessions.replace.Given.{Over}
 use Rattle.mi_database.proofs.sessions.LinkedSessions.replace.Goals.{After-replace}
 use Rattle.mi_database.proofs.sessions.LinkedSessions.replace.Goals as goal
@@ -20,14 +23,21 @@ module _ (g : Over) (c : After-replace g) where
   at : SpotIn g.C.Container.shape g.C.Container.plain c.self.inside c.args.table c.index_mut.result.now c.replace.new.self c.args.self.now
   at = spot _ _ c.self.invariant.0 (c.self.view_is ∙ c.make_room.ensures.same) c.requires.table c.index_mut.ensures.value c.replace.ensures.shape
 
+pub keep-requires-clause-kept : goal.keep-requires-clause-kept
+keep-requires-clause-kept g c = kept_alone c.in-Ok.step c.in-Ok.ensures.made.0 _
+    (spot_keeps (at g (goal.at.keep-requires-clause-kept g c).After-replace) (Replace c.args.id c.args.row) c.in-Ok.ensures.made.2)
+
 pub keep-requires-clause-within : goal.keep-requires-clause-within
-keep-requires-clause-within g c = spot_within (at g (goal.at.keep-requires-clause-within g c).After-replace)
-    (Replace c.args.id c.args.row) c.self.invariant.1 c.in-Ok.ensures.made
+keep-requires-clause-within g c = λ open_. subst (λ qs. IsWithin c.self.inside.journal.most (step_seen c.in-Ok.step qs))
+    (c.in-Ok.ensures.made.1 (c.notes-noted.ensures open_))
+    (spot_within (at g (goal.at.keep-requires-clause-within g c).After-replace) (Replace c.args.id c.args.row) c.self.invariant.1 c.in-Ok.ensures.made.2)
 
 pub invariant_of-self : goal.invariant_of-self
 invariant_of-self g c = (
   spot_held (at g (goal.at.invariant_of-self g c).After-replace)
-      (Replace c.args.id c.args.row) c.in-Ok.ensures.made c.keep.new.containers.items c.keep.ensures.datas c.keep.ensures.shapes c.keep.ensures.journal,
+      (Replace c.args.id c.args.row) c.in-Ok.ensures.made.2 c.keep.new.containers.items
+      (c.keep.ensures.datas c.in-Ok.ensures.made.0 (λ open_. c.in-Ok.ensures.made.1 (c.notes-noted.ensures open_))) c.keep.ensures.shapes
+      (c.keep.ensures.journal c.in-Ok.ensures.made.0 (λ open_. c.in-Ok.ensures.made.1 (c.notes-noted.ensures open_))),
   subst (λ m. AllHaveAtMost m c.self.inside.catalog) (sym c.keep.ensures.most) c.self.invariant.1,
 )
 
@@ -37,7 +47,9 @@ invariant_of-self-in-Err g c =
 
 pub returns-in-Ok-clause-outcome : goal.returns-in-Ok-clause-outcome
 returns-in-Ok-clause-outcome g c = spot_outcome (at g (goal.at.returns-in-Ok-clause-outcome g c).After-replace)
-    (Replace c.args.id c.args.row) c.in-Ok.ensures.made c.keep.new.containers.items c.keep.ensures.datas c.keep.ensures.shapes c.keep.ensures.journal
+    (Replace c.args.id c.args.row) c.in-Ok.ensures.made.2 c.keep.new.containers.items
+    (c.keep.ensures.datas c.in-Ok.ensures.made.0 (λ open_. c.in-Ok.ensures.made.1 (c.notes-noted.ensures open_))) c.keep.ensures.shapes
+    (c.keep.ensures.journal c.in-Ok.ensures.made.0 (λ open_. c.in-Ok.ensures.made.1 (c.notes-noted.ensures open_)))
     (λ s. replace_outcome s c.args.id c.args.row) (Ok tt) c.in-Ok.ensures.outcome
 
 pub returns-in-Err-clause-outcome : goal.returns-in-Err-clause-outcome
@@ -46,7 +58,9 @@ returns-in-Err-clause-outcome g c = spot_refused (at g (goal.at.returns-in-Err-c
 
 pub returns-in-Ok-clause-footprint : goal.returns-in-Ok-clause-footprint
 returns-in-Ok-clause-footprint g c = spot_plain (at g (goal.at.returns-in-Ok-clause-footprint g c).After-replace)
-    c.in-Ok.inverse c.keep.ensures.journal (ap keeps c.in-Ok.ensures.made.inverse)
+    (step_seen c.in-Ok.step c.in-Ok.ensures.made.0)
+    (c.keep.ensures.journal c.in-Ok.ensures.made.0 (λ open_. c.in-Ok.ensures.made.1 (c.notes-noted.ensures open_)))
+    (ap keeps c.in-Ok.ensures.made.2.inverse)
 
 pub returns-in-Err-clause-footprint : goal.returns-in-Err-clause-footprint
 returns-in-Err-clause-footprint g c = spot_unkept (at g (goal.at.returns-in-Err-clause-footprint g c).After-replace)

@@ -14,7 +14,7 @@ pub invariant_of-self : goal.invariant_of-self
 invariant_of-self c =
     let a = c.self.inside in
     let held = c.self.invariant in
-    let f = c.fetch-undo in
+    let f = c.fetch-step in
     let p = popped a.entries.sessions c.in-Some.table c.in-Some.entry c.in-Some.ensures.entry in (
       shorter a.records.items f.new.records.items (records_in c.in-Some.entry) _ f.ensures.records_rest (held.0 ∙ p.records)
           ∙ sym (ap records_of_all c.in-Some.ensures.sessions),
@@ -26,7 +26,7 @@ invariant_of-self c =
 pub returns-in-Some-clause-sessions : goal.returns-in-Some-clause-sessions
 returns-in-Some-clause-sessions c =
     let a = c.self.inside in
-    let f = c.fetch-undo in
+    let f = c.fetch-step in
     let p = popped a.entries.sessions c.in-Some.table c.in-Some.entry c.in-Some.ensures.entry in
     ap (λ q. decoded_all q (reverse f.new.records.items) (reverse f.new.places.items)) c.in-Some.ensures.sessions
     ∙ ap₂ (decoded_all (without_entry a.entries.sessions)) f.ensures.records_rest f.ensures.places_rest
@@ -38,7 +38,7 @@ returns-in-Some-clause-changes c =
     let a = c.self.inside in
     let held = c.self.invariant in
     let was = ap (λ (v : Stored). v.changes) c.self.view_is in
-    let f = c.fetch-undo in
+    let f = c.fetch-step in
     let p = popped a.entries.sessions c.in-Some.table c.in-Some.entry c.in-Some.ensures.entry in
     let records = shorter a.records.items f.new.records.items (records_in c.in-Some.entry) _ f.ensures.records_rest (held.0 ∙ p.records) in
     let places = shorter a.places.items f.new.places.items (places_in c.in-Some.entry) _ f.ensures.places_rest (held.1 ∙ p.places) in
@@ -53,7 +53,7 @@ returns-in-Some-clause-rings c =
     let a = c.self.inside in
     let j = c.pop in
     let e = c.in-Some.ensures in
-    let f = c.fetch-undo.ensures in
+    let f = c.fetch-step.ensures in
     same_rings (pop_keeps a.entries.sessions j.new.self.sessions a.entries.changes j.new.self.changes (Some (c.in-Some.table, c.in-Some.entry))
     e.entry e.sessions e.changes) f.records_capacity f.places_capacity
     ∙ ap (λ (v : Stored). v.rings) c.self.view_is

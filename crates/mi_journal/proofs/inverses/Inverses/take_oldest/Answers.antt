@@ -1,7 +1,8 @@
 -- the record and the places of the oldest entry are the first of their rings
-use Rattle.std.proofs.Common.{◌-◌, ◌∙◌, ℕ, List, None, Some, ap, ap₂, sym, subst, reverse, take, length, arith}
+use Rattle.std.proofs.Common.{◌-◌, ◌∙◌, ℕ, List, [], None, Some, ap, ap₂, sym, subst, reverse, take, length, arith}
 use Rattle.std.proofs.lemmas.List.{length-reverse, length-drop}
 use Rattle.mi_container.specs.Inverse.{Inverse}
+use Rattle.mi_container.specs.Backs.{step_seen}
 use Rattle.mi_journal.specs.Noted.{TakesOldest}
 use Rattle.mi_journal.specs.Filled.{records_in, places_in, records_of_all, places_of_all, decoded_all}
 use Rattle.std.specs.VecDeque.{deque_len, deque_capacity}
@@ -16,7 +17,7 @@ pub invariant_of-self : goal.invariant_of-self
 invariant_of-self c =
     let a = c.self.inside in
     let held = c.self.invariant in
-    let f = c.fetch_to_settle-undo in
+    let f = c.fetch_to_settle-step in
     let ss = c.take_oldest.new.self.sessions in (
       shorter_front a.records.items f.new.records.items (records_in c.in-Some.entry) (records_of_all ss) f.ensures.records_rest
           (held.0 ∙ taken_records a.entries.sessions ss c.in-Some.table c.in-Some.entry c.in-Some.ensures.sessions),
@@ -30,7 +31,7 @@ returns-in-Some-clause-sessions c =
     let a = c.self.inside in
     let held = c.self.invariant in
     let was = ap (λ (v : Stored). v.sessions) c.self.view_is in
-    let f = c.fetch_to_settle-undo in
+    let f = c.fetch_to_settle-step in
     let ss = c.take_oldest.new.self.sessions in
     let e = c.in-Some.entry in
     let records = shorter_front a.records.items f.new.records.items (records_in e) (records_of_all ss) f.ensures.records_rest
@@ -39,18 +40,18 @@ returns-in-Some-clause-sessions c =
     (held.1 ∙ taken_places a.entries.sessions ss c.in-Some.table e c.in-Some.ensures.sessions) in
     let rs = reverse f.new.records.items in
     let ps = reverse f.new.places.items in
-    subst (λ (q : List (List (ℕ × Inverse))). TakesToSettle (Some (c.in-Some.table, c.new.result)) q (decoded_all ss rs ps))
+    subst (λ (q : List (List (ℕ × Inverse))). TakesToSettle (Some (c.in-Some.table, (step_seen c.fetch_to_settle-step.result []))) q (decoded_all ss rs ps))
     (ap₂ (decoded_all a.entries.sessions) (front_off a.records.items f.new.records.items (records_in e) f.ensures.records_rest)
     (front_off a.places.items f.new.places.items (places_in e) f.ensures.places_rest) ∙ was)
-    (taken a.entries.sessions ss c.in-Some.table e c.new.result rs (reverse (take (records_in e) a.records.items))
-    ps (reverse (take (places_in e) a.places.items)) c.in-Some.ensures.sessions (λ us vs. c.new.ensures ∙ f.ensures.is us vs)
+    (taken a.entries.sessions ss c.in-Some.table e (step_seen c.fetch_to_settle-step.result []) rs (reverse (take (records_in e) a.records.items))
+    ps (reverse (take (places_in e) a.places.items)) c.in-Some.ensures.sessions (λ us vs. f.ensures.is us vs)
     (sym records ∙ sym (length-reverse f.new.records.items)) (sym places ∙ sym (length-reverse f.new.places.items)))
 
 pub returns-in-Some-clause-changes : goal.returns-in-Some-clause-changes
 returns-in-Some-clause-changes c =
     let a = c.self.inside in
     let was = ap (λ (v : Stored). v.changes) c.self.view_is in
-    let f = c.fetch_to_settle-undo in
+    let f = c.fetch_to_settle-step in
     let records = ap length f.ensures.records_rest ∙ length-drop (records_in c.in-Some.entry) a.records.items in
     let places = ap length f.ensures.places_rest ∙ length-drop (places_in c.in-Some.entry) a.places.items in
     from_was was
@@ -73,7 +74,7 @@ returns-in-Some-clause-rings c =
     let a = c.self.inside in
     let j = c.take_oldest in
     let e = c.in-Some.ensures in
-    let f = c.fetch_to_settle-undo.ensures in
+    let f = c.fetch_to_settle-step.ensures in
     same_rings (take_keeps a.entries.sessions j.new.self.sessions a.entries.changes j.new.self.changes (Some (c.in-Some.table, c.in-Some.entry))
     e.sessions e.changes) f.records_capacity f.places_capacity
     ∙ ap (λ (v : Stored). v.rings) c.self.view_is

@@ -1,5 +1,4 @@
 -- As many nodes have the key in its structure as ids have it.
-use Rattle.std.proofs.Common.{◌∙◌}
 use Rattle.mi_multi.proofs.KeyCallLemmas.{keyed_reaches, in_some, count_is}
 use Rattle.mi_multi.proofs.multi.MultiIndex.count.Goals as goal
 

@@ -6,7 +6,7 @@ use Rattle.mi_value.specs.declared.refusal.Refusal.TheVariants.{NoId}
 use Rattle.mi_model.specs.Verdict.{erase_outcome}
 use Rattle.mi_container.specs.Data.{Data, as_table}
 use Rattle.mi_container.specs.Changes.{erased}
-use Rattle.mi_container.specs.Inverse.{Inverse}
+use Rattle.mi_container.specs.Inverse.Inverse.{Erased}
 use Rattle.mi_container.specs.Makes.{Makes}
 use Rattle.mi_container.specs.Run.Change.{Erase}
 use Rattle.mi_ids.specs.IdMap.{live_node}
@@ -45,7 +45,7 @@ invariant_of-self c =
     i.next i.arrivals c.self.invariant c.args.id c.in-Some.node there c.take_out.ensures.like c.take_out.ensures.pass)
 
 -- the data after it
-now_is : (c : goal.After-new)
+now_is : (c : goal.After-keep)
     → plain_of c.self.inside.schema c.keep.new.self.entries c.take_out.new.self.pool
     c.take_out.new.self.structures.items c.self.inside.next c.self.inside.arrivals
     ≡ erased c.args.id (seen_of c.self.inside).plain
@@ -69,10 +69,10 @@ pub returns-clause-made : goal.returns-clause-made
 returns-clause-made c =
     let i = c.self.inside in
     let new : Data = plain_of i.schema c.keep.new.self.entries c.take_out.new.self.pool c.take_out.new.self.structures.items i.next i.arrivals in
-    subst (λ (w : Seen). Makes w.shape (Erase c.args.id c.args.why) w.plain c.new.result new) c.self.view_is
-    (subst (λ (w : Inverse). Makes i.schema (Erase c.args.id c.args.why) (seen_of i).plain w new) (sym c.new.ensures)
+    λ ps. subst (λ (w : Seen). Makes w.shape (Erase c.args.id c.args.why) w.plain (Erased (record { id = c.args.id; at = c.in-Some.node }) c.args.why) new)
+    c.self.view_is
     (erase_made i.schema i.ids.entries i.nodes.pool i.nodes.structures.items i.next i.arrivals
-    c.args.id c.args.why c.in-Some.node new (sym c.live.ensures ∙ c.in-Some.is) (now_is c)))
+    c.args.id c.args.why c.in-Some.node new (sym c.live.ensures ∙ c.in-Some.is) (now_is c))
 
 pub returns-clause-secrets : goal.returns-clause-secrets
 returns-clause-secrets c = secrets_kept c.self.inside c.self.view_is _ c.take_out.ensures.like

@@ -1,7 +1,8 @@
 -- What stands behind the row before the move is what takes it back.
-use Rattle.std.proofs.Common.{subst}
+use Rattle.std.proofs.Common.{refl, subst}
 use Rattle.std.specs.Option.{option_map}
 use Rattle.mi_container.specs.Backs.{row_seen}
+use Rattle.mi_container.specs.Inverse.Inverse.{Relocated}
 use Rattle.mi_container.specs.Makes.{Makes}
 use Rattle.mi_container.specs.Run.Change.{Relocate}
 use Rattle.mi_multi.proofs.RelocateCallLemmas.{names_same, move_ready, move_kept, move_made}
@@ -23,7 +24,8 @@ pub returns-clause-made : goal.returns-clause-made
 returns-clause-made c =
     let now = c.args.self.now in
     let new = c.stand_before.new.self.plain in
-    subst (λ b. Makes now.shape (Relocate c.args.index c.args.row.id b) now.plain c.new.result new) (names_same c.args.before)
+    λ ps. subst (λ b. Makes now.shape (Relocate c.args.index c.args.row.id b) now.plain
+    (Relocated c.args.index (row_seen c.args.row) (option_map row_seen c.row_behind-behind.result)) new) (names_same c.args.before)
     (move_made now.shape now.plain c.keeps_rules.ensures c.args.index c.requires.index
     (row_seen c.args.row) c.requires.row (option_map row_seen c.args.before) c.requires.before
-    _ c.new.result new c.row_behind-behind.ensures c.new.ensures c.stand_before.ensures.plain)
+    _ _ new c.row_behind-behind.ensures refl c.stand_before.ensures.plain)

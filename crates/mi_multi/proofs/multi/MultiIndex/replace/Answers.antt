@@ -1,11 +1,9 @@
 -- The refusals are asked in their order, and else the record is set.
-use Rattle.std.proofs.Common.{◌≡◌, true, sym, ◌∙◌, subst}
+use Rattle.std.proofs.Common.{◌≡◌, true, sym, ◌∙◌}
 use Rattle.mi_value.specs.declared.refusal.Refusal.TheVariants.{NoId}
 use Rattle.mi_model.specs.Table.{has as has_row}
 use Rattle.mi_container.specs.Data.{as_table}
 use Rattle.mi_container.specs.Fits.{IsLive}
-use Rattle.mi_container.specs.Makes.{Makes}
-use Rattle.mi_container.specs.Run.Change.{Replace}
 use Rattle.mi_container.proofs.InvariantLemmas.{has_there, there_has}
 use Rattle.mi_multi.proofs.PutCallLemmas.{live_of, gone_of}
 use Rattle.mi_multi.proofs.ReplaceLemmas.{replace_no_row, replace_refused, replaceable, replace_meets, put_table}
@@ -45,9 +43,4 @@ returns-clause-outcome c =
     let now = c.args.self.now in let new = c.put-old.new.self.plain in
     replace_meets now.shape c.args.id c.args.row (as_table now.plain) (as_table new)
     (sym c.put_refusal.ensures.refusal ∙ c.in_default-put_refusal.is)
-    (put_table now.shape c.args.id c.args.row now.plain _ new c.keeps_rules.ensures c.put-old.ensures.made)
-
-pub returns-clause-made : goal.returns-clause-made
-returns-clause-made c =
-    let now = c.args.self.now in
-    subst (λ i. Makes now.shape (Replace c.args.id c.args.row) now.plain i c.put-old.new.self.plain) (sym c.new.ensures) c.put-old.ensures.made
+    (put_table now.shape c.args.id c.args.row now.plain _ new c.keeps_rules.ensures c.put-old.ensures.made.2)
