@@ -5,6 +5,7 @@ ghost use Rattle.mi_catalog.specs.Accounts.{accounts};
 ghost use Rattle.mi_container.specs.Asked.{RecordFits, IsSorted};
 
 use mi_catalog::built_in;
+use mi_container::OldPlaces;
 use mi_multi::MultiIndex;
 use mi_value::limits::MAX_TEXT;
 use mi_value::{Edit, Lower, Record, Steps, Text, Upper, Value, ValueRef};
@@ -24,6 +25,7 @@ const LINE: usize = 5;
 #[derive(Drop)]
 pub(crate) struct Accounts {
     rows: MultiIndex,
+    laid: OldPlaces,
     ghost built_in: { rows.shape ≡ accounts },
 }
 
@@ -47,7 +49,10 @@ fn balance_of(row: &Record) -> i64 {
 impl Accounts {
     pub(crate) fn new(alloc: Global) -> Result<Accounts, AllocError> {
         let rows = MultiIndex::new(alloc, built_in(alloc)?, 1)?;
-        Ok(Accounts { rows })
+        Ok(Accounts {
+            rows,
+            laid: OldPlaces::new(),
+        })
     }
 
     pub(crate) fn size(&self) -> u64 {
@@ -67,13 +72,8 @@ impl Accounts {
         }
         let row = account(alloc, owner, balance, vip).ok()?;
         self.rows.keeps_rules();
-        match self.rows.insert(alloc, row, None) {
-            Ok((id, inverse)) => {
-                self.rows.settle(inverse);
-                Some(id)
-            }
-            Err(_) => None,
-        }
+        let inserted = self.rows.insert_row(alloc, row, None).ok()?;
+        Some(inserted.id)
     }
 
     /// The balance of an account.
@@ -84,12 +84,13 @@ impl Accounts {
     /// Adds to the balance of an account, and tells whether it did.
     pub(crate) fn add(&mut self, alloc: Global, id: u64, more: i64) -> bool {
         self.rows.keeps_rules();
+        let edits = [Edit::Add(BALANCE, more)];
         match self
             .rows
-            .modify(alloc, id, &[Edit::Add(BALANCE, more)], true)
+            .modify(alloc, id, &edits, true, false, &mut self.laid)
         {
-            Ok(inverse) => {
-                self.rows.settle(inverse);
+            Ok(step) => {
+                self.rows.settle(step);
                 true
             }
             Err(_) => false,
@@ -99,12 +100,13 @@ impl Accounts {
     /// Adds to the balance of an account and takes that back, and tells whether it did.
     pub(crate) fn add_and_unwind(&mut self, alloc: Global, id: u64, more: i64) -> bool {
         self.rows.keeps_rules();
+        let edits = [Edit::Add(BALANCE, more)];
         match self
             .rows
-            .modify(alloc, id, &[Edit::Add(BALANCE, more)], true)
+            .modify(alloc, id, &edits, true, true, &mut self.laid)
         {
-            Ok(inverse) => {
-                self.rows.unwind(inverse);
+            Ok(step) => {
+                self.rows.unwind(step, &self.laid);
                 true
             }
             Err(_) => false,
@@ -115,8 +117,8 @@ impl Accounts {
     pub(crate) fn erase_and_unwind(&mut self, id: u64) -> bool {
         self.rows.keeps_rules();
         match self.rows.erase(id) {
-            Ok(inverse) => {
-                self.rows.unwind(inverse);
+            Ok(step) => {
+                self.rows.unwind(step, &self.laid);
                 true
             }
             Err(_) => false,

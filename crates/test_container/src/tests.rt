@@ -5,6 +5,7 @@ mod beside;
 mod change;
 mod container;
 mod fitting;
+mod inverse;
 mod journaled;
 mod memory;
 mod reference;

@@ -4,8 +4,9 @@ ghost use Rattle.test_container.specs.Journaled.{CanGoBack};
 
 use super::asking::{assert_id, assert_number, check, check_below};
 use super::fitting::fits_edits;
+use super::inverse::{Inverse, insert, modify, settle, unwind};
 use mi_catalog::Schema;
-use mi_container::{Container, Inverse};
+use mi_container::Container;
 use mi_journal::Journal;
 use mi_multi::MultiIndex;
 use mi_schema::read_schema;
@@ -74,7 +75,7 @@ impl<C: Container> Journaled<C> {
         check_below(rt, 0, self.journal.depth());
         self.rows.keeps_rules();
         check(rt, self.schema.fits_record(&row), "a record that fits");
-        match self.rows.insert(alloc, row, None) {
+        match insert(&mut self.rows, alloc, row, None) {
             Ok((id, inverse)) => {
                 self.journal.note(0, inverse);
                 Some(id)
@@ -92,7 +93,7 @@ impl<C: Container> Journaled<C> {
         check_below(rt, 0, self.journal.depth());
         self.rows.keeps_rules();
         check(rt, fits_edits(self.schema.columns(), edits), "edits");
-        match self.rows.modify(alloc, id, edits, false) {
+        match modify(&mut self.rows, alloc, id, edits, false) {
             Ok(inverse) => {
                 self.journal.note(0, inverse);
                 true
@@ -118,7 +119,7 @@ impl<C: Container> Journaled<C> {
         match self.journal.pop() {
             Some((table, inverse)) => {
                 let lost = inverse.lost();
-                self.rows.unwind(inverse);
+                unwind(&mut self.rows, inverse);
                 Some((table, lost))
             }
             None => None,
@@ -134,7 +135,7 @@ impl<C: Container> Journaled<C> {
         match self.journal.take_oldest() {
             Some((table, inverse)) => {
                 let lost = inverse.lost();
-                self.rows.settle(inverse);
+                settle(&mut self.rows, inverse);
                 Some((table, lost))
             }
             None => None,

@@ -9,8 +9,9 @@ ghost use Rattle.test_container.specs.Undone.{CanTakeBack};
 use super::asking::{check, check_below};
 use super::change::{Answer, Rows, Way};
 use super::fitting::{fits_edits, kind_at};
+use super::inverse::{Inverse, erase, insert, modify, relocate, replace, settle, unwind};
 use mi_catalog::Schema;
-use mi_container::{Container, Inverse, RestoreFault, TableImage};
+use mi_container::{Container, RestoreFault, TableImage};
 use mi_value::{Edit, Lower, Record, Refusal, Steps, Upper, Value};
 use std::alloc::{AllocError, Global};
 use std::collections::VecDeque;
@@ -152,7 +153,7 @@ impl<C: Container> Undoable<C> {
         self.rows.keeps_rules();
         check(rt, self.schema.fits_record(&row), "a record that fits");
         self.want_place(rt, before);
-        match self.rows.insert(alloc, row, before) {
+        match insert(&mut self.rows, alloc, row, before) {
             Ok((id, inverse)) => {
                 self.inverses.push_back_reserved(inverse);
                 Ok(Some(id))
@@ -169,12 +170,12 @@ impl<C: Container> Undoable<C> {
         self.inverses.reserve(1)?;
         self.rows.keeps_rules();
         check(rt, self.schema.fits_record(&row), "a record that fits");
-        match self.rows.replace(id, row) {
+        match replace(&mut self.rows, id, row) {
             Ok(inverse) => {
                 self.inverses.push_back_reserved(inverse);
                 Ok(None)
             }
-            Err((refusal, _)) => Err(refusal),
+            Err(refusal) => Err(refusal),
         }
     }
 
@@ -193,7 +194,7 @@ impl<C: Container> Undoable<C> {
         self.inverses.reserve(1)?;
         self.rows.keeps_rules();
         check(rt, fits_edits(self.schema.columns(), edits), "edits");
-        match self.rows.modify(alloc, id, edits, rollback) {
+        match modify(&mut self.rows, alloc, id, edits, rollback) {
             Ok(inverse) => {
                 let lost = inverse.lost();
                 self.inverses.push_back_reserved(inverse);
@@ -229,7 +230,7 @@ impl<C: Container> Undoable<C> {
     {
         self.inverses.reserve(1)?;
         self.rows.keeps_rules();
-        match self.rows.erase(id) {
+        match erase(&mut self.rows, id) {
             Ok(inverse) => {
                 self.inverses.push_back_reserved(inverse);
                 Ok(None)
@@ -252,7 +253,7 @@ impl<C: Container> Undoable<C> {
         self.inverses.reserve(1)?;
         self.rows.keeps_rules();
         self.want_sequenced(rt, index);
-        match self.rows.relocate(index, id, before) {
+        match relocate(&mut self.rows, index, id, before) {
             Ok(inverse) => {
                 self.inverses.push_back_reserved(inverse);
                 Ok(None)
@@ -268,7 +269,7 @@ impl<C: Container> Undoable<C> {
     {
         match self.inverses.pop_back() {
             Some(inverse) => {
-                self.rows.unwind(inverse);
+                unwind(&mut self.rows, inverse);
                 true
             }
             None => false,
@@ -288,7 +289,7 @@ impl<C: Container> Undoable<C> {
         self.rows.keeps_rules();
         match self.inverses.pop_front() {
             Some(inverse) => {
-                self.rows.settle(inverse);
+                settle(&mut self.rows, inverse);
                 true
             }
             None => false,

@@ -11,6 +11,6 @@ settle-requires g c =
 pub returns-in-Some : goal.returns-in-Some
 returns-in-Some g c =
     let was = c.args.self.now in
-    oldest_settled was.schema (g.C.Container.shape was.rows) (g.C.Container.shape c.settle.new.self) (g.C.Container.plain was.rows)
-    (g.C.Container.plain c.settle.new.self) (c.in-Some.table, c.in-Some.inverse) was.journal.sessions c.take_oldest.new.self.sessions
+    oldest_settled was.schema (g.C.Container.shape was.rows) (g.C.Container.shape c.settle.new.rows) (g.C.Container.plain was.rows)
+    (g.C.Container.plain c.settle.new.rows) (c.in-Some.table, c.in-Some.inverse) was.journal.sessions c.take_oldest.new.self.sessions
     c.keeps_rules.ensures c.in-Some.ensures.sessions c.settle.ensures.shape c.settle.ensures.plain c.requires

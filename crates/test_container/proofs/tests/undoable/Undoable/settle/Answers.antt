@@ -24,5 +24,5 @@ returns-in-Some g c =
     let parts = c.pop_front.ensures.items ∙ ap (λ (o : Option Inverse). option_to_list o ++ rest) c.in-Some.is in
     let shape = g.C.Container.shape was.rows in
     let plain = g.C.Container.plain was.rows in
-    oldest_settled was.schema shape (g.C.Container.shape c.settle.new.self) plain (g.C.Container.plain c.settle.new.self) c.in-Some.inverse rest
+    oldest_settled was.schema shape (g.C.Container.shape c.settle.new.rows) plain (g.C.Container.plain c.settle.new.rows) c.in-Some.inverse rest
     c.keeps_rules.ensures c.settle.ensures.shape c.settle.ensures.plain (subst (λ (is : List Inverse). CanTakeBack was.schema shape plain is) parts c.requires)
