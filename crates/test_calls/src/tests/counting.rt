@@ -127,6 +127,20 @@ impl<D: Sessions> Sessions for Counting<D> {
         self.ask().get(table, id, steps)
     }
 
+    fn find_row(
+        &self,
+        table: usize,
+        index: usize,
+        key: &[Value],
+        steps: &mut Steps,
+    ) -> Option<(u64, &Record)> {
+        self.ask().find_row(table, index, key, steps)
+    }
+
+    fn count(&self, table: usize, index: usize, key: &[Value], steps: &mut Steps) -> u64 {
+        self.ask().count(table, index, key, steps)
+    }
+
     fn first(&self, table: usize, index: usize) -> Option<u64> {
         self.ask().first(table, index)
     }
@@ -188,6 +202,14 @@ impl<D: Sessions> Sessions for Counting<D> {
 
     fn nth(&self, table: usize, index: usize, n: u64) -> Option<u64> {
         self.ask().nth(table, index, n)
+    }
+
+    fn nth_row(&self, table: usize, index: usize, n: u64) -> Option<(u64, &Record)> {
+        self.ask().nth_row(table, index, n)
+    }
+
+    fn rank(&self, table: usize, index: usize, id: u64, steps: &mut Steps) -> Option<u64> {
+        self.ask().rank(table, index, id, steps)
     }
 
     fn rank_of(&self, table: usize, index: usize, id: u64, steps: &mut Steps) -> u64 {

@@ -369,7 +369,7 @@ impl<C: Container> Undoable<C> {
     {
         self.want_keyed(rt, index);
         self.want_key(rt, index, key);
-        self.rows.count(index, key)
+        self.rows.count(index, key, &mut Steps::new())
     }
 
     pub(super) fn first_of(&self, rt: &impl Abort, index: usize, key: &[Value]) -> Option<u64>
