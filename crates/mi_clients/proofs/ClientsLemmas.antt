@@ -1,5 +1,5 @@
 -- A list of connections, and what its hub has attached.
--- Cited by `Client::owes_nothing`, `clients::ask_all`, `clients::connect`, `clients::is_any_busy`, `clients::let_go` and 14 more.
+-- Cited by `Client::owes_nothing`, `clients::ask_all`, `clients::connect`, `clients::is_any_busy`, `clients::let_go` and 15 more.
 use Rattle.std.proofs.Common.{◌≡◌, ◌⊎◌, inl, inr, ℕ, zero, suc, ◌+◌, ◌<◌, ◌≤◌, List, [], ◌∷◌, ◌++◌, length, map, Bool, true, false, cond, nat_eq}
 use Rattle.std.proofs.Common.{take, drop, append-nil, MatchBool, Some, None, refl, sym, ap, ◌∙◌, subst, arith}
 use Rattle.std.specs.Prelude.{◌↔◌, IsTrue, slice_set, slice_index_or}

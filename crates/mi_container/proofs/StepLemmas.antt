@@ -1,9 +1,5 @@
 -- What a step says is the same whatever places stand beside it: which node it keeps, and how it is settled.
-<<<<<<< HEAD
--- Cited by `mi_database`.
-=======
--- Cited by `mi_database` and `test_container`.
->>>>>>> r-changes
+-- Cited by `mi_bench` and `mi_database`.
 use Rattle.std.proofs.Common.{◌≡◌, Option, List, [], refl}
 use Rattle.mi_container.specs.Data.{Data}
 use Rattle.mi_container.specs.Inverse.{OldPlace, settled, lost_to}

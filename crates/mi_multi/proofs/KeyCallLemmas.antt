@@ -1,5 +1,5 @@
 -- What the calls by keys ask of an index and answer, by what contracts see of the container.
--- Cited by `MultiIndex::count`, `MultiIndex::find`, `MultiIndex::holder`, `MultiIndex::next_of`, `MultiIndex::past` and 1 more.
+-- Cited by `MultiIndex::count`, `MultiIndex::find`, `MultiIndex::find_row`, `MultiIndex::holder`, `MultiIndex::next_of` and 2 more.
 use Rattle.std.proofs.Common.{Bor, ◌≡◌, ◌≢◌, ℕ, ◌<◌, Bool, true, false}
 use Rattle.std.proofs.Common.{List, [], ◌∷◌, ◌++◌, length, slice_get, ap, sym, ◌∙◌, subst}
 use Rattle.std.specs.Prelude.{IsTrue, IfSome}
