@@ -26,7 +26,7 @@ def written():
     """The names that `weltiyo metrics` writes where it is told everything."""
     usage = Usage(1, 1, 1, 1)
     sample = top.Sample(0, [("accounts", 1)], 1, 1, "nobody", 1, usage, connections=1, unsent=1, journal=1, is_full=False, lines={1: 1}, uptime=1, room=1,
-                        held_for=1, synced=1, memories={"accounts": 1}, files=Files(1, 1, 1, Base(1, 1)))
+                        held_for=1, synced=1, memories={"accounts": 1}, files=Files(1, 1, 1, Base(1, 1)), ahead=1, segment=1)
     return set(re.findall(r"^# TYPE (\w+) ", top.prometheus(sample), re.M))
 
 

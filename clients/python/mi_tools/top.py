@@ -64,6 +64,10 @@ class Sample(NamedTuple):
     """How many bytes of memory each table takes, by its name, where a service tells."""
     files: Optional[Files] = None
     """How the files of a service's journal stand, where they can be seen."""
+    ahead: Optional[int] = None
+    """How many bytes more lines may take before the journal's file grows, where a service tells."""
+    segment: Optional[int] = None
+    """The number of the journal's newest segment, where a service tells."""
 
 
 class Watcher:
@@ -96,7 +100,7 @@ class Watcher:
         locked = process.locked_file(self.number) if journal else None
         return Sample(time.monotonic(), sizes, now.revision, now.depth, holder, self.turns, usage, len(connections), unsent,
                       journal.get("bytes"), journal.get("full"), lines_of(told), told.get("uptime"), process.room_beside(locked),
-                      held_for(told), journal.get("synced"), memories_of(told), files_beside(locked))
+                      held_for(told), journal.get("synced"), memories_of(told), files_beside(locked), journal.get("room"), journal.get("segment"))
 
     def sizes(self) -> List[Tuple[str, int]]:
         names = [it.name for it in self.db.schema.tables] if self.db.schema else ["(first)"]
@@ -190,7 +194,7 @@ def screen(now: Sample, before: Sample) -> str:
         f"sessions  {now.depth} open, revision {now.revision}; held by {now.holder}" + ("" if now.held_for is None else f", for {now.held_for} lines"),
         *([] if now.connections is None else [f"clients   {now.connections} connections, {amount(now.unsent)} unsent"]),
         *asking(now, before),
-        *([] if now.journal is None else [f"journal   {journal_shown(now.journal, now.synced, now.is_full, now.room)}"]),
+        *([] if now.journal is None else [f"journal   {journal_shown(now.journal, now.synced, now.is_full, now.ahead, now.room)}"]),
         *([] if now.uptime is None else [f"up        {up(now.uptime)}"]),
         "",
         table(rows, table_columns(now.memories, "rows", "rows/s")),
@@ -218,6 +222,8 @@ def prometheus(it: Sample) -> str:
     add("journal_bytes", "gauge", "Bytes of the service's journal.", ("", it.journal))
     add("journal_synced_bytes", "gauge", "Bytes of the journal that stay since its last sync.", ("", it.synced))
     add("journal_full", "gauge", "1 where the journal's disk lacks room, and changes are refused.", ("", None if it.is_full is None else int(it.is_full)))
+    add("journal_room_bytes", "gauge", "Bytes that lines may take before the journal's file grows.", ("", it.ahead))
+    add("journal_segment", "gauge", "Number of the journal's newest segment.", ("", it.segment))
     add("journal_disk_free_bytes", "gauge", "Bytes that are free on the journal's disk.", ("", it.room))
     if it.files:
         add("journal_segments", "gauge", "Segment files of the service's journal.", ("", it.files.segments))
@@ -317,10 +323,19 @@ def holding(it: Dict[str, Any]) -> str:
     return "" if not it["holds"] else "yes" if it.get("since") is None else f"since line {it['since']}"
 
 
-def journal_shown(size: int, synced: Optional[int], is_full: Optional[bool], room: Optional[int]) -> str:
-    """A journal's bytes, those that stay since its last sync and those that are free on its disk where they are known, and whether it lacks room."""
-    kept = amount(size) + ("" if synced is None else f", {amount(synced)} synced")
+def journal_shown(size: int, synced: Optional[int], is_full: Optional[bool], ahead: Optional[int], room: Optional[int]) -> str:
+    """A journal's bytes, and where they are known those that stay since its last sync, those that its file has ahead and those that are free on its
+    disk. And whether it lacks room."""
+    kept = amount(size) + ("" if synced is None else f", {amount(synced)} synced") + ("" if ahead is None else f", {amount(ahead)} ahead")
     return kept + ("" if room is None else f", {amount(room)} free on its disk") + (FULL if is_full else "")
+
+
+def segments_shown(told: Dict[str, Any], files: Optional[Files]) -> List[str]:
+    """The line on a journal's segments: how its files stand where they can be seen, else what the service tells. A former one tells nothing."""
+    newest = (told.get("journal") or {}).get("segment")
+    if files is None:
+        return [] if newest is None else [f"segments: the newest is number {newest}"]
+    return [f"segments: {files_shown(files)}"]
 
 
 def files_shown(it: Files) -> str:
@@ -342,8 +357,8 @@ def shown_status(told: Dict[str, Any], room: Optional[int], files: Optional[File
     tables = [{"table": it["name"], "rows": it["size"], "memory": amount(memories.get(it["name"]))} for it in told["tables"]]
     return "\n".join([
         f"mi_service {told['version']}{since}: {told['depth']} sessions open, held by {holder}",
-        *([f"journal: {journal_shown(journal['bytes'], journal.get('synced'), journal['full'], room)}"] if journal else []),
-        *([f"segments: {files_shown(files)}"] if files else []),
+        *([f"journal: {journal_shown(journal['bytes'], journal.get('synced'), journal['full'], journal.get('room'), room)}"] if journal else []),
+        *segments_shown(told, files),
         "",
         table(connections, ["connection", "holds sessions", "lines", "unsent"]),
         "",

@@ -26,8 +26,8 @@ from mi_tools.journals import Damaged
 from mi_tools.top import Sample, Usage, prometheus, shown_status
 
 FIRST = b'{"journal":1,"revision":0,"schema":"00"}\n'
-TOLD = {"connections": [], "depth": 0, "holder": None, "journal": {"bytes": 119, "full": False, "synced": 119}, "ok": True, "tables": [],
-        "uptime": 60, "version": "0.1.0"}
+TOLD = {"connections": [], "depth": 0, "holder": None, "journal": {"bytes": 119, "full": False, "room": 1196016, "segment": 3, "synced": 119},
+        "ok": True, "tables": [], "uptime": 60, "version": "0.1.0"}
 
 
 ANSWERS = {service_lines.STATUS_LINE: TOLD, service_lines.SCHEMA_LINE: {"ok": True, "schema": BUILT_IN},
@@ -166,18 +166,26 @@ class Shown(unittest.TestCase):
     def test_a_status(self) -> None:
         files = Files(2, 3, 1_048_700, Base(12_500, 183_845))
         self.assertEqual(shown_status(TOLD, 5_000, files).splitlines()[1:4], [
-            "journal: 119 B, 119 B synced, 5.0 kB free on its disk",
+            "journal: 119 B, 119 B synced, 1.2 MB ahead, 5.0 kB free on its disk",
             "segments: 2, the newest is number 3, 1.0 MB in all; base: 12.5 kB, written 2 days, 3:04:05 ago", ""])
         self.assertIn("\nsegments: 1, the newest is number 1, 70 B in all; base: none\n", shown_status(TOLD, None, Files(1, 1, 70)))
-        self.assertEqual(shown_status(TOLD, None, None).splitlines()[1:3], ["journal: 119 B, 119 B synced", ""])
+        self.assertEqual(shown_status(TOLD, None, None).splitlines()[1:4],
+                         ["journal: 119 B, 119 B synced, 1.2 MB ahead", "segments: the newest is number 3", ""])
+
+    def test_a_status_of_a_former_service(self) -> None:
+        former = {**TOLD, "journal": {"bytes": 119, "full": True, "synced": None}}
+        self.assertEqual(shown_status(former, None, None).splitlines()[1:3], ["journal: 119 B; the disk is full: changes are refused", ""])
 
     def test_gauges(self) -> None:
         bare = Sample(0.0, [("a", 1)], 0, 0, "nobody", 1, Usage())
-        self.assertNotRegex(prometheus(bare), "segments|files|base")
+        self.assertNotRegex(prometheus(bare), "segment|files|base|room")
         text = prometheus(bare._replace(files=Files(2, 3, 4_000)))
         self.assertIn("# TYPE weltiyo_journal_segments gauge\nweltiyo_journal_segments 2\n", text)
         self.assertIn("# TYPE weltiyo_journal_files_bytes gauge\nweltiyo_journal_files_bytes 4000\n", text)
         self.assertNotIn("base", text)
+        text = prometheus(bare._replace(ahead=1_196_016, segment=3))
+        self.assertIn("# TYPE weltiyo_journal_room_bytes gauge\nweltiyo_journal_room_bytes 1196016\n", text)
+        self.assertIn("# TYPE weltiyo_journal_segment gauge\nweltiyo_journal_segment 3\n", text)
         text = prometheus(bare._replace(files=Files(2, 3, 4_000, Base(0, 0))))
         self.assertIn("# TYPE weltiyo_base_bytes gauge\nweltiyo_base_bytes 0\n", text)
         self.assertIn("# TYPE weltiyo_base_age_seconds gauge\nweltiyo_base_age_seconds 0\n", text)
@@ -211,7 +219,8 @@ class Told(InAFolder):
         self.assertEqual(self.said("status", "--json"), f"{compact(TOLD)}\n")
 
     def test_files_that_are_not(self) -> None:
-        self.assertEqual(self.said("status").splitlines()[1:3], ["journal: 119 B, 119 B synced", ""])
+        self.assertEqual(self.said("status").splitlines()[1:4], ["journal: 119 B, 119 B synced, 1.2 MB ahead", "segments: the newest is number 3", ""])
+        self.assertIn("\nweltiyo_journal_segment 3\n", self.said("metrics"))
         self.assertNotRegex(self.said("metrics"), "segments|files|base")
         self.assertEqual(self.said("status", "--json"), f"{compact(TOLD)}\n")
 
@@ -255,6 +264,8 @@ class OfAService(unittest.TestCase):
             self.assertRegex(shown, "\nsegments: 1, the newest is number 2, [0-9.]+ [kM]?B in all; base: [0-9.]+ k?B, written 0:[0-9:]+ ago\n")
             told, own = json.loads(self.well("status", "--json", "--connect", port)), service_lines.status(db)
             self.assertEqual((list(told), told["journal"]), (list(own), own["journal"]))
+            size = files_beside(process.locked_file(server.process.pid)).size
+            self.assertEqual((own["journal"]["segment"], own["journal"]["room"]), (2, size - own["journal"]["bytes"]))
 
     def test_without_a_journal(self) -> None:
         with Server(service=SERVICE, wait=60) as server:

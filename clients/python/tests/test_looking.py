@@ -61,7 +61,7 @@ class Top(unittest.TestCase):
         self.assertGreater(it.usage.memory or 0, 100_000)
         self.assertGreater(it.usage.read or 0, 50)
         db.push()
-        self.assertEqual(Watcher(db, None).sample()[4:], ("nobody", 4, Usage(), *[None] * 11))
+        self.assertEqual(Watcher(db, None).sample()[4:], ("nobody", 4, Usage(), *[None] * 13))
 
     def test_another_holds_sessions(self) -> None:
         with Server(kit.program(), clients=2) as server:

@@ -133,15 +133,20 @@ class Services(unittest.TestCase):
             told = service_lines.status(db)["journal"]
             with open(self.journal, "rb") as file:
                 text = file.read()
-            self.assertEqual(told, {"bytes": text.rindex(b"\n") + 1, "full": False, "synced": text.rindex(b"\n") + 1})
+            end = text.rindex(b"\n") + 1
+            self.assertEqual(told, {"bytes": end, "full": False, "room": len(text) - end, "segment": 1, "synced": end})
+            self.assertGreater(told["room"], 1_000_000)
             figures = kit.ran("metrics", "--connect", str(server.port)).stdout
             self.assertIn(f"\nweltiyo_journal_bytes {told['bytes']}\n", figures)
             self.assertIn(f"\nweltiyo_journal_synced_bytes {told['synced']}\n", figures)
             self.assertRegex(figures, "\nweltiyo_table_memory_bytes{table=\"accounts\"} [1-9][0-9]+\n")
+            self.assertIn(f"\nweltiyo_journal_room_bytes {told['room']}\n", figures)
+            self.assertIn("\nweltiyo_journal_segment 1\n", figures)
             self.assertIn("\nweltiyo_journal_disk_free_bytes ", figures)
             self.assertIn(" free on its disk\n", kit.ran("status", "--connect", str(server.port)).stdout)
         with self.started(sync="never") as server, server.connect(10) as db:
-            self.assertEqual(service_lines.status(db)["journal"], {**told, "synced": None})
+            again = service_lines.status(db)["journal"]
+            self.assertEqual(again, {**told, "room": os.path.getsize(self.journal) - told["bytes"], "synced": None})
             self.assertNotIn("journal_synced_bytes", kit.ran("metrics", "--connect", str(server.port)).stdout)
         with Server(service=SERVICE) as server, server.connect(10) as db:
             self.assertIsNone(service_lines.status(db)["journal"])

@@ -38,6 +38,11 @@ pub on_ok_all : {T E P Q R W : Type 0} (r : Result T E) → (P → Q → R → W
 on_ok_all (Ok v) f p q s = f p q s
 on_ok_all (Err e) f p q s = tt
 
+-- and from four
+pub on_ok_four : {T E P Q R V W : Type 0} (r : Result T E) → (P → Q → R → V → W) → OnOk r P → OnOk r Q → OnOk r R → OnOk r V → OnOk r W
+on_ok_four (Ok v) f p q s t = f p q s t
+on_ok_four (Err e) f p q s t = tt
+
 -- what follows from a fact of the value of an Ok and another
 pub if_ok_with : {T E Q : Type 0} {P R : T → Type 0} (r : Result T E) → ((v : T) → P v → Q → R v) → IfOk r P → OnOk r Q → IfOk r R
 if_ok_with (Ok v) f p q = f v p q

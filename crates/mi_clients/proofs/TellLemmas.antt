@@ -453,36 +453,39 @@ module _ {S : Type 0} where
 
   module _ (contents : S → Option (List ℕ)) (schema : List ℕ) (seconds : ℕ) where
     -- more is done behind it
-    pub is_told_on : (xs ys : List Step) (start : HubState) (before : Option (List ℕ)) (lacks after : Bool) (olds : List (Client S))
-        → TellsWhatIs contents schema seconds xs start before lacks olds → TellsNone ys → after ≡ lacks
-        → TellsWhatIs contents schema seconds (xs ++ ys) start before after olds
-    is_told_on xs ys start before lacks after olds p quiet same = record {
+    pub is_told_on : (xs ys : List Step) (start : HubState) (before : Option (List ℕ)) (lacks after : Bool) (segment now : Option ℕ) (olds : List (Client S))
+        → TellsWhatIs contents schema seconds xs start before lacks segment olds → TellsNone ys → after ≡ lacks → now ≡ segment
+        → TellsWhatIs contents schema seconds (xs ++ ys) start before after now olds
+    is_told_on xs ys start before lacks after segment now olds p quiet same number = record {
       first = p.first;
       later = p.later ++ ys;
       parts = ap (λ zs. zs ++ ys) p.parts ∙ append_assoc p.first p.later ys;
       hub = p.hub;
       appended = p.appended;
       stays = p.stays;
+      room = p.room;
       makes = p.makes;
       clients = p.clients;
       attends = p.attends;
       from = p.from;
       status = p.status;
-      «is» = subst (λ b. IsStatus p.appended p.stays b seconds p.clients p.hub p.status) (sym same) p.«is»;
+      «is» = subst (λ b. IsStatus p.appended p.stays b p.room now seconds p.clients p.hub p.status) (sym same)
+          (subst (λ n. IsStatus p.appended p.stays lacks p.room n seconds p.clients p.hub p.status) (sym number) p.«is»);
       told = so_join p.status schema xs ys p.told (quiet_so p.status schema ys quiet);
     }
 
     -- some come before it
-    pub is_told_joined : (xs ys : List Step) (start mid : HubState) (before between : Option (List ℕ)) (lacks : Bool) (olds joined : List (Client S))
-        → Makes xs start mid before between → GivesNone xs → Joins olds joined → TellsWhatIs contents schema seconds ys mid between lacks joined
-        → AsksNone xs → TellsWhatIs contents schema seconds (xs ++ ys) start before lacks olds
-    is_told_joined xs ys start mid before between lacks olds joined makes none joins p quiet = record {
+    pub is_told_joined : (xs ys : List Step) (start mid : HubState) (before between : Option (List ℕ)) (lacks : Bool) (segment : Option ℕ) (olds joined : List (Client S))
+        → Makes xs start mid before between → GivesNone xs → Joins olds joined → TellsWhatIs contents schema seconds ys mid between lacks segment joined
+        → AsksNone xs → TellsWhatIs contents schema seconds (xs ++ ys) start before lacks segment olds
+    is_told_joined xs ys start mid before between lacks segment olds joined makes none joins p quiet = record {
       first = xs ++ p.first;
       later = p.later;
       parts = ap (λ zs. xs ++ zs) p.parts ∙ sym (append_assoc xs p.first p.later);
       hub = p.hub;
       appended = p.appended;
       stays = p.stays;
+      room = p.room;
       makes = makes_then xs p.first start mid p.hub before between p.appended makes p.makes;
       clients = p.clients;
       attends = p.attends;

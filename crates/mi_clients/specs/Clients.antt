@@ -82,15 +82,16 @@ EachTakes steps olds news = AllZip (λ old new. Takes (asked_by old.conn steps) 
 -- What the service tells in these steps is so: the status is that of these connections, this hub and this journal, as the first of the
 -- steps have left them, and the schema is told by this line. The connections are those that the hub has attached then: they were in the list
 -- before, or have come, and each was served meanwhile, its lines were counted, and the line noted since which it holds sessions. Whether the journal lacks room is as it is at the end, since
--- no later step asks for any. What of it stayed then is not bound by start or end.
+-- no later step asks for any, and so is its segment. What of it stayed then, and for how many bytes it had room, is not bound by start or end.
 pub record TellsWhatIs {S : Type 0} (contents : S → Option (List ℕ)) (schema : List ℕ) (seconds : ℕ) (steps : List Step) (start : HubState)
-    (before : Option (List ℕ)) (lacks : Bool) (olds : List (Client S)) : Type 0 where
+    (before : Option (List ℕ)) (lacks : Bool) (segment : Option ℕ) (olds : List (Client S)) : Type 0 where
   pub first : List Step
   pub later : List Step
   pub parts : steps ≡ first ++ later
   pub hub : HubState
   pub appended : Option (List ℕ)
   pub stays : Option (List ℕ)
+  pub room : ℕ
   pub makes : Makes first start hub before appended
   pub clients : List (Client S)
   pub attends : Attends (ids clients) hub.attached
@@ -98,7 +99,7 @@ pub record TellsWhatIs {S : Type 0} (contents : S → Option (List ℕ)) (schema
       → (old : Client S) × (Contains olds old ⊎ IsNew old olds) × IsServed contents (given_to old.conn first) old c
       × (c.input.lines ≡ count_on old.input.lines (asked_by old.conn first)) × KnowsSince first old c
   pub status : List ℕ
-  pub «is» : IsStatus appended stays lacks seconds clients hub status
+  pub «is» : IsStatus appended stays lacks room segment seconds clients hub status
   pub told : TellsSo status schema steps
 
 -- none of a list is over

@@ -2,7 +2,8 @@
 -- journal is, how much memory and how many rows each table has, and since how many seconds it is there. With connection 2 alone, which holds
 -- the one session over an empty table:
 -- {"connections":[{"holds":true,"lines":1,"number":2,"since":1,"unsent":0}],"depth":1,"holder":2,
--- "journal":{"bytes":119,"full":false,"synced":119},"ok":true,"tables":[{"memory":70000,"name":"accounts","size":0}],"uptime":60,"version":"0.1.0"}
+-- "journal":{"bytes":119,"full":false,"room":1196016,"segment":1,"synced":119},"ok":true,"tables":[{"memory":70000,"name":"accounts","size":0}],
+-- "uptime":60,"version":"0.1.0"}
 use Rattle.std.specs.Prelude.{◌≡◌, ◌⊎◌, ℕ, ◌+◌, List, [], ◌∷◌, ◌++◌, length, Bool, true, false, ◌==◌, if◌then◌else◌, Option, Some, None, codes, decimal, get_or, IfSome}
 use Rattle.std.specs.Option.{option_map_or}
 use Rattle.mi_catalog.specs.Shape.{Shape}
@@ -63,10 +64,15 @@ table_text d memories n s = codes "{\"memory\":" ++ (number_or_null (get_or memo
 abbrev pub synced_text : Option ℕ → List ℕ
 synced_text synced = codes ",\"synced\":" ++ (number_or_null synced ++ codes "}")
 
--- a journal, where one is kept: how many bytes it has, whether it lacks room, and how many of its bytes stay
+-- for how many bytes a journal has room, the number of its segment, where it has one, and how many of its bytes stay
+abbrev pub room_text : LogState → List ℕ
+room_text j = codes ",\"room\":" ++ (decimal j.room ++ (codes ",\"segment\":" ++ (number_or_null j.segment ++ synced_text j.synced)))
+
+-- a journal, where one is kept: how many bytes it has, whether it lacks room, for how many bytes it has some, the number of its segment, and how many of
+-- its bytes stay
 abbrev pub journal_text : LogState → List ℕ
 journal_text j =
-    option_map_or (λ n. codes "{\"bytes\":" ++ (decimal n ++ (codes ",\"full\":" ++ (flag_text j.is_full ++ synced_text j.synced)))) j.bytes (codes "null")
+    option_map_or (λ n. codes "{\"bytes\":" ++ (decimal n ++ (codes ",\"full\":" ++ (flag_text j.is_full ++ room_text j)))) j.bytes (codes "null")
 
 -- how many sessions of a database are open, who holds some, and its journal
 abbrev pub sessions_text : Option ℕ → LogState → Database → List ℕ
@@ -102,12 +108,14 @@ memory_line = codes "{\"error\":\"memory\",\"ok\":false}\n"
 abbrev pub Counts : Option (List ℕ) → Option ℕ → Type 0
 Counts told count = IfSome count (λ n. IfSome told (λ bytes. n ≡ length bytes))
 
--- a log's state, where this was appended, this stays, and the log lacks room or doesn't: where it counts bytes and tells them, they are as many
-abbrev pub IsStateOf : Option (List ℕ) → Option (List ℕ) → Bool → LogState → Type 0
-IsStateOf appended stays lacks j = (j.is_full ≡ lacks) × Counts appended j.bytes × Counts stays j.synced
+-- A log's state, where this was appended, this stays, the log lacks room or doesn't, it has some for so many bytes, and its segment has this number.
+-- Where it counts bytes and tells them, they are as many.
+abbrev pub IsStateOf : Option (List ℕ) → Option (List ℕ) → Bool → ℕ → Option ℕ → LogState → Type 0
+IsStateOf appended stays lacks room segment j =
+    (j.is_full ≡ lacks) × (j.room ≡ room) × (j.segment ≡ segment) × Counts appended j.bytes × Counts stays j.synced
 
--- a line tells that status, so many seconds after the start, with a journal to which this was appended, of which this stays, and that lacks room
--- or doesn't; or that memory for it is refused
-abbrev pub IsStatus : {S : Type 0} → Option (List ℕ) → Option (List ℕ) → Bool → ℕ → List (Client S) → HubState → List ℕ → Type 0
-IsStatus appended stays lacks seconds clients s line =
-    ((j : LogState) × IsStateOf appended stays lacks j × TellsStatus clients s j seconds line) ⊎ (line ≡ memory_line)
+-- a line tells that status, so many seconds after the start, with a journal to which this was appended, of which this stays, that lacks room or doesn't,
+-- has some for so many bytes, and whose segment has this number; or that memory for it is refused
+abbrev pub IsStatus : {S : Type 0} → Option (List ℕ) → Option (List ℕ) → Bool → ℕ → Option ℕ → ℕ → List (Client S) → HubState → List ℕ → Type 0
+IsStatus appended stays lacks room segment seconds clients s line =
+    ((j : LogState) × IsStateOf appended stays lacks room segment j × TellsStatus clients s j seconds line) ⊎ (line ≡ memory_line)

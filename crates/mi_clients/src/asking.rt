@@ -63,6 +63,7 @@ pub fn release<D: Sessions + Drop, L: Log + Drop, S>(
     ensures hub { hub_of durable.new ≡ hub_of durable.old }
     ensures appended { Keeps (L.appended (log_of durable.old)) (L.appended (log_of durable.new)) }
     ensures room { OnOk result (L.lacks_room (log_of durable.new) ≡ L.lacks_room (log_of durable.old)) }
+    ensures segment { OnOk result (L.segment (log_of durable.new) ≡ L.segment (log_of durable.old)) }
     ensures failed { OnErr result ((result ≡ Err DurableFault.Journal) × (L.has_failed (log_of durable.new) ≡ true)) }
     ensures settled { IsSettled L.appended L.synced durable.new }
 {
@@ -89,6 +90,7 @@ fn release_each<D: Sessions + Drop, L: Log + Drop, S>(
     ensures hub { hub_of durable.new ≡ hub_of durable.old }
     ensures appended { Keeps (L.appended (log_of durable.old)) (L.appended (log_of durable.new)) }
     ensures room { OnOk result (L.lacks_room (log_of durable.new) ≡ L.lacks_room (log_of durable.old)) }
+    ensures segment { OnOk result (L.segment (log_of durable.new) ≡ L.segment (log_of durable.old)) }
     ensures failed { OnErr result ((result ≡ Err DurableFault.Journal) × (L.has_failed (log_of durable.new) ≡ true)) }
     ensures settled { IsSettled L.appended L.synced durable.new }
 {
@@ -214,6 +216,7 @@ pub fn undo_all<D: Sessions + Drop, L: Log + Drop>(
     ensures still { ¬ (holder_conn (hub_of durable.old).held.holder ≡ Some conn) → durable.new ≡ durable.old }
     ensures room { OnOk result (L.lacks_room (log_of durable.new) ≡ L.lacks_room (log_of durable.old)) }
     ensures makes_stay { L.makes_stay (log_of durable.new) ≡ L.makes_stay (log_of durable.old) }
+    ensures segment { L.segment (log_of durable.new) ≡ L.segment (log_of durable.old) }
     ensures attached { OnOk result ((hub_of durable.new).attached ≡ (hub_of durable.old).attached) }
     ensures failed { result ≡ Err DurableFault.Journal → L.has_failed (log_of durable.new) ≡ true }
     ensures settled { IsSettled L.appended L.synced durable.old → IsSettled L.appended L.synced durable.new }
@@ -271,6 +274,7 @@ pub fn disconnect<D: Sessions + Drop, L: Log + Drop>(
     ensures attached { OnOk result ((hub_of durable.new).attached ≡ others conn (hub_of durable.old).attached) }
     ensures room { OnOk result (L.lacks_room (log_of durable.new) ≡ L.lacks_room (log_of durable.old)) }
     ensures makes_stay { L.makes_stay (log_of durable.new) ≡ L.makes_stay (log_of durable.old) }
+    ensures segment { L.segment (log_of durable.new) ≡ L.segment (log_of durable.old) }
     ensures failed { result ≡ Err DurableFault.Journal → L.has_failed (log_of durable.new) ≡ true }
     ensures settled { IsSettled L.appended L.synced durable.old → IsSettled L.appended L.synced durable.new }
 {

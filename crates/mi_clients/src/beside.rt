@@ -73,7 +73,8 @@ fn asked_status<D: Sessions + Drop, L: Log + Drop, S>(
     seconds: u64,
 ) -> Option<String>
     ensures { IfSome result (λ line. (journal : LogState)
-        × IsStateOf (L.appended (log_of durable.now)) (L.synced (log_of durable.now)) (L.lacks_room (log_of durable.now)) journal
+        × IsStateOf (L.appended (log_of durable.now)) (L.synced (log_of durable.now)) (L.lacks_room (log_of durable.now))
+        (L.room_left (log_of durable.now)) (L.segment (log_of durable.now)) journal
         × TellsStatus clients.now (hub_of durable.now) journal seconds (string_bytes line)) }
 {
     if client.service_line().is_none() {
@@ -91,7 +92,8 @@ fn answer_now<D: Sessions + Drop, L: Log + Drop, S>(
     schema: &SchemaLine,
     seconds: u64,
 )
-    ensures { (status : List ℕ) × IsStatus (L.appended (log_of durable.now)) (L.synced (log_of durable.now)) (L.lacks_room (log_of durable.now)) seconds clients.now
+    ensures { (status : List ℕ) × IsStatus (L.appended (log_of durable.now)) (L.synced (log_of durable.now)) (L.lacks_room (log_of durable.now))
+        (L.room_left (log_of durable.now)) (L.segment (log_of durable.now)) seconds clients.now
         (hub_of durable.now) status
         × Answers status (line_of schema.now) client.old client.new }
 {
@@ -125,7 +127,8 @@ fn attend<D: Sessions + Drop, L: Log + Drop, S: Duplex>(
     seconds: u64,
 )
     requires room { 0 < length buffer.old }
-    ensures { (status : List ℕ) × IsStatus (L.appended (log_of durable.now)) (L.synced (log_of durable.now)) (L.lacks_room (log_of durable.now)) seconds clients.now
+    ensures { (status : List ℕ) × IsStatus (L.appended (log_of durable.now)) (L.synced (log_of durable.now)) (L.lacks_room (log_of durable.now))
+        (L.room_left (log_of durable.now)) (L.segment (log_of durable.now)) seconds clients.now
         (hub_of durable.now) status
         × Attended S.contents S.remaining status (line_of schema.now) client.old client.new }
 {
@@ -263,7 +266,8 @@ impl<S: Duplex + Drop> Beside<S> {
     )
         requires room { 0 < length buffer.old }
         ensures { InPlace (λ old last. (status : List ℕ)
-            × IsStatus (L.appended (log_of durable.now)) (L.synced (log_of durable.now)) (L.lacks_room (log_of durable.now)) seconds clients.now
+            × IsStatus (L.appended (log_of durable.now)) (L.synced (log_of durable.now)) (L.lacks_room (log_of durable.now))
+            (L.room_left (log_of durable.now)) (L.segment (log_of durable.now)) seconds clients.now
             (hub_of durable.now) status
             × Attended S.contents S.remaining status (line_of schema.now) old last) self.old.client self.new.client }
     {

@@ -108,7 +108,7 @@ pub fn hear_all<D: Sessions + Drop, L: Log + Drop, S: Duplex>(
         × Makes steps (hub_of durable.old) (hub_of durable.new) (L.appended (log_of durable.old)) (L.appended (log_of durable.new))
         × OpenOnlyAsk steps clients.new.items × EachAsked S.remaining steps clients.old.items clients.new.items
         × All (IsHeard steps) clients.new.items × TellsWhatIs S.contents (line_of schema.now) seconds steps (hub_of durable.old)
-        (L.appended (log_of durable.old)) (L.lacks_room (log_of durable.new)) clients.old.items) }
+        (L.appended (log_of durable.old)) (L.lacks_room (log_of durable.new)) (L.segment (log_of durable.new)) clients.old.items) }
     ensures whole { OnOk result (NoneIsWhole clients.new.items) }
     ensures same { OnOk result (EachSame S.handle clients.old.items clients.new.items) }
     ensures read { OnOk result (EachRead S.reads clients.old.items clients.new.items) }
@@ -140,6 +140,7 @@ pub fn send_all<D: Sessions + Drop, L: Log + Drop, S: Duplex>(
     ensures hub { OnOk result (hub_of durable.new ≡ hub_of durable.old) }
     ensures appended { OnOk result (Keeps (L.appended (log_of durable.old)) (L.appended (log_of durable.new))) }
     ensures room { OnOk result (L.lacks_room (log_of durable.new) ≡ L.lacks_room (log_of durable.old)) }
+    ensures segment { OnOk result (L.segment (log_of durable.new) ≡ L.segment (log_of durable.old)) }
     ensures attends { OnOk result (Attends (ids clients.new.items) (hub_of durable.new).attached) }
     ensures failed { OnErr result ((result ≡ Err DurableFault.Journal) × (L.has_failed (log_of durable.new) ≡ true)) }
     ensures settled { OnOk result (IsSettled L.appended L.synced durable.new) }
@@ -164,6 +165,7 @@ pub fn let_go<D: Sessions + Drop, L: Log + Drop, S: Drop>(
         × OpenOnlyAsk steps clients.new.items × AsksNone steps) }
     ensures stay { OnOk result (NoneIsOver clients.new.items) }
     ensures room { OnOk result (L.lacks_room (log_of durable.new) ≡ L.lacks_room (log_of durable.old)) }
+    ensures segment { OnOk result (L.segment (log_of durable.new) ≡ L.segment (log_of durable.old)) }
     ensures attends { OnOk result (Attends (ids clients.new.items) (hub_of durable.new).attached) }
     ensures failed { result ≡ Err DurableFault.Journal → L.has_failed (log_of durable.new) ≡ true }
     ensures settled { OnOk result (IsSettled L.appended L.synced durable.new) }
@@ -216,7 +218,7 @@ pub fn serve_all<D: Sessions + Drop, L: Log + Drop, S: Duplex + Drop>(
         × Makes steps (hub_of durable.old) (hub_of durable.new) (L.appended (log_of durable.old)) (L.appended (log_of durable.new))
         × OpenOnlyAsk steps clients.new.items × StayersAsked S.remaining steps clients.old.items clients.new.items
         × TellsWhatIs S.contents (line_of schema.now) seconds steps (hub_of durable.old)
-        (L.appended (log_of durable.old)) (L.lacks_room (log_of durable.new)) clients.old.items) }
+        (L.appended (log_of durable.old)) (L.lacks_room (log_of durable.new)) (L.segment (log_of durable.new)) clients.old.items) }
     ensures sent { OnOk result (All IsSent clients.new.items) }
     ensures stay { OnOk result (NoneIsOver clients.new.items) }
     ensures whole { OnOk result (NoneIsWhole clients.new.items) }

@@ -184,7 +184,19 @@ fn add_synced(alloc: Global, text: &mut String, synced: Option<u64>) -> Result<(
     text.push_str("}")
 }
 
-/// Adds what a journal is, where one is kept: how many bytes it has, whether it lacks room, and how many of its bytes stay.
+/// Adds for how many bytes a journal has room, the number of its segment, where it has one, and how many of its bytes stay.
+fn add_room(alloc: Global, text: &mut String, journal: LogState) -> Result<(), AllocError>
+    ensures { OnOk result (string_bytes text.new ≡ string_bytes text.old ++ spec.room_text journal) }
+{
+    text.push_str(",\"room\":")?;
+    add_number(alloc, text, journal.room)?;
+    text.push_str(",\"segment\":")?;
+    add_optional(alloc, text, journal.segment)?;
+    add_synced(alloc, text, journal.synced)
+}
+
+/// Adds what a journal is, where one is kept: how many bytes it has, whether it lacks room, for how many bytes it has some, the number of its
+/// segment, and how many of its bytes stay.
 fn add_journal(alloc: Global, text: &mut String, journal: LogState) -> Result<(), AllocError>
     ensures { OnOk result (string_bytes text.new ≡ string_bytes text.old ++ spec.journal_text journal) }
 {
@@ -195,7 +207,7 @@ fn add_journal(alloc: Global, text: &mut String, journal: LogState) -> Result<()
     add_number(alloc, text, bytes)?;
     text.push_str(",\"full\":")?;
     text.push_str(flag_word(journal.is_full))?;
-    add_synced(alloc, text, journal.synced)
+    add_room(alloc, text, journal)
 }
 
 /// Adds how many sessions of a database are open, who holds some, and its journal.

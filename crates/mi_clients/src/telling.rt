@@ -58,6 +58,7 @@ fn give<D: Sessions + Drop, L: Log + Drop, S>(
     ensures hub { hub_of durable.new ≡ hub_of durable.old }
     ensures appended { Keeps (L.appended (log_of durable.old)) (L.appended (log_of durable.new)) }
     ensures room { OnOk result (L.lacks_room (log_of durable.new) ≡ L.lacks_room (log_of durable.old)) }
+    ensures segment { OnOk result (L.segment (log_of durable.new) ≡ L.segment (log_of durable.old)) }
     ensures failed { OnErr result ((result ≡ Err DurableFault.Journal) × (L.has_failed (log_of durable.new) ≡ true)) }
     ensures settled { IsSettled L.appended L.synced durable.new }
 {
@@ -82,6 +83,7 @@ fn tell<D: Sessions + Drop, L: Log + Drop, S>(
         × Makes steps (hub_of durable.old) (hub_of durable.new) (L.appended (log_of durable.old)) (L.appended (log_of durable.new))) }
     ensures hub { OnOk result (hub_of durable.new ≡ hub_of durable.old) }
     ensures room { OnOk result (L.lacks_room (log_of durable.new) ≡ L.lacks_room (log_of durable.old)) }
+    ensures segment { OnOk result (L.segment (log_of durable.new) ≡ L.segment (log_of durable.old)) }
     ensures failed { result ≡ Err DurableFault.Journal → L.has_failed (log_of durable.new) ≡ true }
     ensures settled { OnOk result (IsSettled L.appended L.synced durable.new) }
 {
@@ -112,6 +114,7 @@ fn tell_each<D: Sessions + Drop, L: Log + Drop, S: Duplex>(
         × Makes steps (hub_of durable.old) (hub_of durable.new) (L.appended (log_of durable.old)) (L.appended (log_of durable.new))) }
     ensures attends { OnOk result (Attends (ids clients.new.items) (hub_of durable.new).attached) }
     ensures room { OnOk result (L.lacks_room (log_of durable.new) ≡ L.lacks_room (log_of durable.old)) }
+    ensures segment { OnOk result (L.segment (log_of durable.new) ≡ L.segment (log_of durable.old)) }
     ensures failed { result ≡ Err DurableFault.Journal → L.has_failed (log_of durable.new) ≡ true }
     ensures settled { OnOk result (IsSettled L.appended L.synced durable.new) }
 {
@@ -129,7 +132,8 @@ pub(crate) fn status_now<D: Sessions + Drop, L: Log + Drop, S>(
     seconds: u64,
 ) -> Option<String>
     ensures { IfSome result (λ line. (journal : LogState)
-        × IsStateOf (L.appended (log_of durable.now)) (L.synced (log_of durable.now)) (L.lacks_room (log_of durable.now)) journal
+        × IsStateOf (L.appended (log_of durable.now)) (L.synced (log_of durable.now)) (L.lacks_room (log_of durable.now))
+        (L.room_left (log_of durable.now)) (L.segment (log_of durable.now)) journal
         × TellsStatus clients.now (hub_of durable.now) journal seconds (string_bytes line)) }
 {
     status_line(
@@ -150,7 +154,8 @@ fn status_if_asked<D: Sessions + Drop, L: Log + Drop, S>(
     seconds: u64,
 ) -> Option<String>
     ensures { IfSome result (λ line. (journal : LogState)
-        × IsStateOf (L.appended (log_of durable.now)) (L.synced (log_of durable.now)) (L.lacks_room (log_of durable.now)) journal
+        × IsStateOf (L.appended (log_of durable.now)) (L.synced (log_of durable.now)) (L.lacks_room (log_of durable.now))
+        (L.room_left (log_of durable.now)) (L.segment (log_of durable.now)) journal
         × TellsStatus clients.now (hub_of durable.now) journal seconds (string_bytes line)) }
 {
     if !clients.iter().any(|client| client.service_line().is_some()) {
@@ -172,7 +177,8 @@ pub fn tell_all<D: Sessions + Drop, L: Log + Drop, S: Duplex>(
     requires attends { Attends (ids clients.old.items) (hub_of durable.old).attached }
     requires settled { IsSettled L.appended L.synced durable.old }
     ensures tells { OnOk result ((steps : List Step) × (status : List ℕ)
-        × IsStatus (L.appended (log_of durable.old)) (L.synced (log_of durable.old)) (L.lacks_room (log_of durable.new)) seconds clients.old.items
+        × IsStatus (L.appended (log_of durable.old)) (L.synced (log_of durable.old)) (L.lacks_room (log_of durable.new))
+        (L.room_left (log_of durable.old)) (L.segment (log_of durable.new)) seconds clients.old.items
         (hub_of durable.old) status
         × AllTell steps × TellsSo status (line_of schema.now) steps
         × EachServed S.contents steps clients.old.items clients.new.items × EachTakes steps clients.old.items clients.new.items

@@ -143,6 +143,7 @@ impl<D: Sessions + Drop, L: Log + Drop> Durable<D, L> {
         ensures memory { result ≡ Err DurableFault.Memory → log_of self.new ≡ log_of self.old }
         ensures journal { result ≡ Err DurableFault.Journal → L.has_failed (log_of self.new) ≡ true }
         ensures makes_stay { L.makes_stay (log_of self.new) ≡ L.makes_stay (log_of self.old) }
+        ensures segment { L.segment (log_of self.new) ≡ L.segment (log_of self.old) }
         ensures room { OnOk result (L.lacks_room (log_of self.new) ≡ L.lacks_room (log_of self.old)) }
         ensures left { OnOk result (L.room_left (log_of self.old) ≤ L.room_left (log_of self.new) + length line.now) }
         ensures settled { IsSettled L.appended L.synced self.old → IsSettled L.appended L.synced self.new }
@@ -180,6 +181,7 @@ impl<D: Sessions + Drop, L: Log + Drop> Durable<D, L> {
         ensures memory { result ≡ Err DurableFault.Memory → L.appended (log_of self.new) ≡ L.appended (log_of self.old) }
         ensures journal { result ≡ Err DurableFault.Journal → L.has_failed (log_of self.new) ≡ true }
         ensures makes_stay { L.makes_stay (log_of self.new) ≡ L.makes_stay (log_of self.old) }
+        ensures segment { L.segment (log_of self.new) ≡ L.segment (log_of self.old) }
         ensures settled { IsSettled L.appended L.synced self.old → IsSettled L.appended L.synced self.new }
     {
         if self.log.make_room(CHANGE_ROOM) {
@@ -218,6 +220,7 @@ impl<D: Sessions + Drop, L: Log + Drop> Durable<D, L> {
         ensures journal { OnErr result (result ≡ Err DurableFault.Journal) }
         ensures failed { OnErr result (L.has_failed (log_of self.new) ≡ true) }
         ensures makes_stay { L.makes_stay (log_of self.new) ≡ L.makes_stay (log_of self.old) }
+        ensures segment { L.segment (log_of self.new) ≡ L.segment (log_of self.old) }
         ensures room { OnOk result (L.lacks_room (log_of self.new) ≡ L.lacks_room (log_of self.old)) }
         ensures left { OnOk result (L.room_left (log_of self.old) ≤ L.room_left (log_of self.new) + length line.now) }
         ensures settled { IsSettled L.appended L.synced self.old → IsSettled L.appended L.synced self.new }
@@ -244,6 +247,7 @@ impl<D: Sessions + Drop, L: Log + Drop> Durable<D, L> {
         ensures journal { OnErr result (result ≡ Err DurableFault.Journal) }
         ensures failed { OnErr result (L.has_failed (log_of self.new) ≡ true) }
         ensures makes_stay { L.makes_stay (log_of self.new) ≡ L.makes_stay (log_of self.old) }
+        ensures segment { L.segment (log_of self.new) ≡ L.segment (log_of self.old) }
         ensures room { OnOk result (L.lacks_room (log_of self.new) ≡ L.lacks_room (log_of self.old)) }
         ensures settled { IsSettled L.appended L.synced self.new }
     {

@@ -1,9 +1,13 @@
 -- What a log over a device shows.
-use Rattle.std.specs.Prelude.{ℕ, Bool, is_some, if◌then◌else◌}
+use Rattle.std.specs.Prelude.{ℕ, Bool, Option, is_some, if◌then◌else◌}
 use Rattle.mi_log.specs.declared.device_log.DeviceLog.{DeviceLog}
 
 abbrev pub device_of : {D : Type 0} → DeviceLog D → D
 device_of l = l.device
+
+-- the number of the segment that it appends to, where it has one
+abbrev pub segment_of : {D : Type 0} → DeviceLog D → Option ℕ
+segment_of l = l.segment
 
 -- whether a call has failed: what the device said then is kept
 abbrev pub is_broken : {D : Type 0} → DeviceLog D → Bool

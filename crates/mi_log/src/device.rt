@@ -36,6 +36,10 @@ pub trait Device {
     fn is_full(&self) -> bool
         ensures { result ≡ lacks_room self.now };
 
+    /// For how many bytes room is there, behind what was written.
+    fn room(&self) -> u64
+        ensures { result ≡ room_left self.now };
+
     /// How many bytes were written to it, where it counts them.
     fn written(&self) -> Option<u64>
         ensures { IfSome result (λ count. IfSome (contents self.now) (λ bytes. count ≡ length bytes)) };

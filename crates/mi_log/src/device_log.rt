@@ -12,19 +12,22 @@ use std::io::{Error, ErrorKind};
 #[derive(Drop)]
 pub struct DeviceLog<D> {
     device: D,
+    segment: Option<u64>,
     error: Option<io::Error>,
 }
 
 impl<D> DeviceLog<D> {
-    ghost use Rattle.mi_log.specs.DeviceLog.{device_of, is_broken};
+    ghost use Rattle.mi_log.specs.DeviceLog.{device_of, segment_of, is_broken};
 
-    /// Nothing has failed yet.
-    pub fn new(device: D) -> DeviceLog<D>
+    /// The log of the segment of this number, or of none. Nothing has failed yet.
+    pub fn new(device: D, segment: Option<u64>) -> DeviceLog<D>
         ensures device { device_of result ≡ device }
+        ensures segment { segment_of result ≡ segment }
         ensures sound { is_broken result ≡ false }
     {
         DeviceLog {
             device,
+            segment,
             error: None,
         }
     }
@@ -64,6 +67,21 @@ fn write_all<D: Device>(device: &mut D, bytes: &[u8]) -> io::Result<()>
     Ok(())
 }
 
+impl<D: Device> DeviceLog<D> {
+    ghost use Rattle.mi_log.specs.DeviceLog.{room_left};
+
+    /// For how many bytes its device has room, and none where a call has failed.
+    fn room(&self) -> u64
+        ensures { result ≡ room_left D.room_left self.now }
+    {
+        if self.error.is_some() {
+            0
+        } else {
+            self.device.room()
+        }
+    }
+}
+
 /// Notes what came of a call of the device, where none has failed before.
 fn note(error: &mut Option<io::Error>, came: io::Result<()>) -> Result<(), LogFault>
     requires { error.old ≡ None }
@@ -81,7 +99,7 @@ fn note(error: &mut Option<io::Error>, came: io::Result<()>) -> Result<(), LogFa
 
 impl<D: Device> Log for DeviceLog<D> {
     ghost use Rattle.std.specs.Prelude.{◌||◌};
-    ghost use Rattle.mi_log.specs.DeviceLog.{device_of, is_broken, room_left};
+    ghost use Rattle.mi_log.specs.DeviceLog.{device_of, segment_of, is_broken, room_left};
 
     ghost appended = { λ l. D.contents (device_of l) };
 
@@ -95,6 +113,8 @@ impl<D: Device> Log for DeviceLog<D> {
 
     ghost room_left = { λ l. room_left D.room_left l };
 
+    ghost segment = { λ l. segment_of l };
+
     fn make_room(&mut self, bytes: u64) -> bool {
         self.error.is_none() && self.device.make_room(bytes)
     }
@@ -104,6 +124,8 @@ impl<D: Device> Log for DeviceLog<D> {
             bytes: self.device.written(),
             synced: self.device.synced(),
             is_full: self.error.is_some() || self.device.is_full(),
+            room: self.room(),
+            segment: self.segment,
         }
     }
 

@@ -13,6 +13,10 @@ pub struct LogState {
     pub synced: Option<u64>,
     /// Whether room was last asked for, and wasn't there.
     pub is_full: bool,
+    /// For how many bytes room is there.
+    pub room: u64,
+    /// The number of the segment that it appends to, where it has one.
+    pub segment: Option<u64>,
 }
 
 /// Bytes that are appended one behind another, and made to stay.
@@ -42,6 +46,9 @@ pub trait Log {
     /// For how many bytes room is there, which an append takes no more of the disk for.
     ghost room_left: { Self → ℕ };
 
+    /// The number of the segment that it appends to, where it has one. No call changes it.
+    ghost segment: { Self → Option ℕ };
+
     /// Makes room for so many bytes, and answers whether it is there; it isn't where a call has failed. Where it is, it stays until as many
     /// are appended, whoever else writes to the disk.
     fn make_room(&mut self, bytes: u64) -> bool
@@ -51,11 +58,14 @@ pub trait Log {
         ensures appended { appended self.new ≡ appended self.old }
         ensures synced { synced self.new ≡ synced self.old }
         ensures makes_stay { makes_stay self.new ≡ makes_stay self.old }
+        ensures segment { segment self.new ≡ segment self.old }
         ensures failed { has_failed self.new ≡ has_failed self.old };
 
     /// How far it has come.
     fn state(&self) -> LogState
         ensures full { result.is_full ≡ lacks_room self.now }
+        ensures room { result.room ≡ room_left self.now }
+        ensures segment { result.segment ≡ segment self.now }
         ensures bytes { IfSome result.bytes (λ count. IfSome (appended self.now) (λ bytes. count ≡ length bytes)) }
         ensures synced { IfSome result.synced (λ count. IfSome (synced self.now) (λ bytes. count ≡ length bytes)) }
         ensures made { makes_stay self.now ≡ false → result.synced ≡ None };
@@ -68,6 +78,7 @@ pub trait Log {
         ensures synced { Keeps (synced self.old) (synced self.new) }
         ensures makes_stay { makes_stay self.new ≡ makes_stay self.old }
         ensures failed { has_failed self.new ≡ not (is_ok result) }
+        ensures segment { segment self.new ≡ segment self.old }
         ensures room { OnOk result (lacks_room self.new ≡ lacks_room self.old) }
         ensures left { OnOk result (room_left self.old ≤ room_left self.new + length bytes.now) }
         ensures over { has_failed self.old ≡ true → IsErr result × (self.new ≡ self.old) };
@@ -79,6 +90,7 @@ pub trait Log {
         ensures appended { Keeps (appended self.old) (appended self.new) }
         ensures makes_stay { makes_stay self.new ≡ makes_stay self.old }
         ensures failed { has_failed self.new ≡ not (is_ok result) }
+        ensures segment { segment self.new ≡ segment self.old }
         ensures room { OnOk result (lacks_room self.new ≡ lacks_room self.old) }
         ensures left { OnOk result (room_left self.old ≤ room_left self.new) }
         ensures over { has_failed self.old ≡ true → IsErr result × (self.new ≡ self.old) };

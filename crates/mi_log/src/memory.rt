@@ -98,6 +98,10 @@ impl Device for MemoryDevice {
         self.lacks
     }
 
+    fn room(&self) -> u64 {
+        self.size.saturating_sub(self.bytes.len()) as u64
+    }
+
     fn written(&self) -> Option<u64> {
         Some(self.bytes.len() as u64)
     }

@@ -138,6 +138,10 @@ impl<F: PlacedFile> Device for RoomFile<F> {
         self.lacks
     }
 
+    fn room(&self) -> u64 {
+        self.size - self.end
+    }
+
     fn written(&self) -> Option<u64>
         ensures told { IfSome result (λ count. IfSome (front_of self.now.end (F.contents self.now.file)) (λ bytes. count ≡ length bytes)) }
     {

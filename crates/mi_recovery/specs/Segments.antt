@@ -82,10 +82,12 @@ pub record GoesOn (header text : List ℕ) (found : Journaled) (keeping : Keepin
   pub none : GivesNone steps
   pub makes : Makes steps old new (told_by keeping (kept_bytes header text found)) told
 
--- From old a journal is opened behind a position, and new goes on with its newest segment.
+-- From old a journal is opened behind a position, and new goes on with its newest segment, which has this number.
 pub record IsOpenedBehind {F : Type 0} (is_locked : F → Type 0) (is_seen : List ℕ → F → Type 0) (is_newest : ℕ → Type 0) (contents : F → Option (List ℕ))
-    (path : List ℕ) (schema : JournalSchema) (position : Option Position) (keeping : Keeping) (old new : HubState) (told : Option (List ℕ)) : Type 0 where
+    (path : List ℕ) (schema : JournalSchema) (position : Option Position) (keeping : Keeping) (old new : HubState) (told : Option (List ℕ))
+    (segment : Option ℕ) : Type 0 where
   pub asked : Asked F
   pub mid : HubState
   pub behind : IsAskedBehind is_locked is_seen is_newest contents path schema position old.held asked mid.held
   pub goes : IfSome (contents asked.file) (λ bytes. GoesOn (string_bytes asked.place.header) (text_of bytes) asked.found keeping mid new told)
+  pub number : segment ≡ Some asked.place.number

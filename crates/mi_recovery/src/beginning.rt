@@ -1,8 +1,8 @@
 //! The segment behind the newest one of a journal: it is made with its header, which stays. It looks at no other file.
-ghost use Rattle.std.specs.Prelude.{◌≡◌, ◌∷◌, ◌++◌, [], true, OnOk, IfOk, IfSome};
+ghost use Rattle.std.specs.Prelude.{◌≡◌, ◌∷◌, ◌++◌, [], true, Some, OnOk, IfOk, IfSome};
 ghost use Rattle.std.specs.String.{string_bytes};
 ghost use Rattle.std.specs.Io.KnownBytes.{Keeps};
-ghost use Rattle.mi_log.specs.DeviceLog.{device_of};
+ghost use Rattle.mi_log.specs.DeviceLog.{device_of, segment_of};
 ghost use Rattle.mi_recovery.specs.declared.device.Keeping.TheVariants as kept;
 ghost use Rattle.mi_recovery.specs.Device.{told_of, is_staying};
 ghost use Rattle.mi_recovery.specs.Recovery.{Has};
@@ -39,6 +39,7 @@ pub fn sync<D: Device>(log: &mut DeviceLog<D>) -> Result<(), JournalFault>
     ensures contents { Keeps (D.contents (device_of log.old)) (D.contents (device_of log.new)) }
     ensures stays { OnOk result (Keeps (D.contents (device_of log.new)) (D.stays (device_of log.new))) }
     ensures makes_stay { D.makes_stay (device_of log.new) ≡ D.makes_stay (device_of log.old) }
+    ensures segment { segment_of log.new ≡ segment_of log.old }
 {
     match log.sync() {
         Ok(()) => Ok(()),
@@ -64,12 +65,13 @@ pub fn next_segment<P: JournalFiles>(
         (λ _. Has kept.Synced (string_bytes next.now.header ++ 10 ∷ []) (told_of P.File.contents (device_of log)))) }
     ensures settled { IfOk result (λ log. Keeps (told_of P.File.contents (device_of log)) (told_of P.File.stays (device_of log))) }
     ensures stays { IfOk result (λ log. is_staying (device_of log) ≡ true) }
+    ensures segment { IfOk result (λ log. segment_of log ≡ Some next.now.number) }
 {
     let Ok(name) = segment_path(alloc, path, next.number) else {
         return Err(JournalFault::from(JournalFailure::Memory));
     };
     let file = made(files, name.as_str())?;
-    let mut log = begun(file, Keeping::Synced, next.header.as_bytes())?;
+    let mut log = begun(file, Keeping::Synced, next.number, next.header.as_bytes())?;
     sync(&mut log)?;
     named(files, name.as_str(), Keeping::Synced)?;
     Ok(log)

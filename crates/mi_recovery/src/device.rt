@@ -98,6 +98,15 @@ impl<F: Device> Device for JournalDevice<F> {
         }
     }
 
+    fn room(&self) -> u64
+        ensures { result ≡ room_left F.room_left self.now }
+    {
+        match &self.file {
+            Some(file) => file.room(),
+            None => u64::MAX,
+        }
+    }
+
     fn written(&self) -> Option<u64>
         ensures counted { IfSome result (λ count. IfSome (told_of F.contents self.now) (λ bytes. count ≡ length bytes)) }
         ensures none { file_of self.now ≡ None → result ≡ None }

@@ -1,8 +1,8 @@
 //! A journal in segments at a start: what was asked is gone on with. The newest segment alone changes.
-ghost use Rattle.std.specs.Prelude.{◌≡◌, ◌∷◌, [], true, List, length, option_map, IfOk, IfSome};
+ghost use Rattle.std.specs.Prelude.{◌≡◌, ◌∷◌, [], true, List, length, Some, option_map, IfOk, IfSome};
 ghost use Rattle.std.specs.String.{string_bytes};
 ghost use Rattle.std.specs.Io.KnownBytes.{Keeps};
-ghost use Rattle.mi_log.specs.DeviceLog.{device_of};
+ghost use Rattle.mi_log.specs.DeviceLog.{device_of, segment_of};
 ghost use Rattle.mi_replay.specs.Replayed.{replayer};
 ghost use Rattle.mi_durable.specs.Durable.{hub_of, log_of};
 ghost use Rattle.mi_clients.specs.Clients.{fresh};
@@ -39,6 +39,7 @@ fn undone<D: Sessions + Drop, L: Log + Drop>(
     ensures stay { IfOk result (λ durable. Keeps (L.appended (log_of durable)) (L.synced (log_of durable))) }
     ensures attached { IfOk result (λ durable. (hub_of durable).attached ≡ []) }
     ensures makes_stay { IfOk result (λ durable. L.makes_stay (log_of durable) ≡ L.makes_stay log) }
+    ensures segment { IfOk result (λ durable. L.segment (log_of durable) ≡ L.segment log) }
 {
     let mut durable = Durable::new(hub, log);
     disconnect(alloc, &mut durable, REPLAYER)?;
@@ -59,6 +60,7 @@ pub fn log_of_newest<P: JournalFiles>(
     ensures has { IfOk result (λ log. IfSome (P.File.contents asked.file)
         (λ bytes. Has keeping (kept_bytes (string_bytes asked.place.header) (text_of bytes) asked.found) (told_of P.File.contents (device_of log)))) }
     ensures makes_stay { IfOk result (λ log. is_staying (device_of log) ≡ is_synced keeping) }
+    ensures segment { IfOk result (λ log. segment_of log ≡ Some asked.place.number) }
 {
     named(files, asked.path.as_str(), keeping)?;
     let Asked {
@@ -68,7 +70,14 @@ pub fn log_of_newest<P: JournalFiles>(
         found,
         ..
     } = asked;
-    continued(file, text, keeping, found, place.header.as_bytes())
+    continued(
+        file,
+        text,
+        keeping,
+        found,
+        place.number,
+        place.header.as_bytes(),
+    )
 }
 
 /// A hub that stands where a base does, or at the start, and that the lines of a path's journal behind that were asked of again. The journal
@@ -89,7 +98,7 @@ pub fn opened_behind<P: JournalFiles, D: Sessions + Drop>(
     requires { hub.attached ≡ [] }
     ensures opened { IfOk result (λ durable. IsOpenedBehind (λ file. P.File.is_locked file ≡ true) (P.is_seen files.now) (P.is_newest files.now path.now)
         P.File.contents path.now schema.now (option_map (λ p. p.now) position.entry) keeping hub (hub_of durable)
-        (told_of P.File.contents (device_of (log_of durable)))) }
+        (told_of P.File.contents (device_of (log_of durable))) (segment_of (log_of durable))) }
     ensures attached { IfOk result (λ durable. (hub_of durable).attached ≡ []) }
     ensures settled { IfOk result (λ durable. Keeps (told_of P.File.contents (device_of (log_of durable))) (told_of P.File.stays (device_of (log_of durable)))) }
     ensures stays { IfOk result (λ durable. is_staying (device_of (log_of durable)) ≡ is_synced keeping) }

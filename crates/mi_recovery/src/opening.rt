@@ -1,9 +1,9 @@
 //! A segment at a start: its header is read, a torn end of it is cut off, and it is gone on with, under a name that stays. It asks no line.
-ghost use Rattle.std.specs.Prelude.{◌≡◌, ◌-◌, ◌++◌, ◌∷◌, [], true, false, take, length, Some, Ok, OnOk, IfOk, IfErr, IfSome};
+ghost use Rattle.std.specs.Prelude.{◌≡◌, ◌-◌, ◌++◌, ◌∷◌, [], true, false, take, length, None, Some, Ok, OnOk, IfOk, IfErr, IfSome};
 ghost use Rattle.std.specs.Io.BufRead.{ends_with_byte};
 ghost use Rattle.std.specs.Io.KnownBytes.{Keeps, Appends};
 ghost use Rattle.mi_log.specs.LogLines.{reader_of};
-ghost use Rattle.mi_log.specs.DeviceLog.{device_of};
+ghost use Rattle.mi_log.specs.DeviceLog.{device_of, segment_of};
 ghost use Rattle.mi_recovery.specs.JournalFile.{text_of};
 ghost use Rattle.mi_durable.specs.Durable.{hub_of, log_of};
 ghost use Rattle.mi_recovery.specs.Device.{is_synced, is_staying, told_of};
@@ -109,6 +109,7 @@ pub fn log_error<D>(log: &DeviceLog<D>) -> Option<Error> {
 fn append<D: Device>(log: &mut DeviceLog<D>, bytes: &[u8]) -> Result<(), JournalFault>
     ensures appended { OnOk result (Appends (D.contents (device_of log.old)) (D.contents (device_of log.new)) bytes.now) }
     ensures makes_stay { D.makes_stay (device_of log.new) ≡ D.makes_stay (device_of log.old) }
+    ensures segment { segment_of log.new ≡ segment_of log.old }
 {
     if bytes.is_empty() {
         return Ok(());
@@ -132,24 +133,26 @@ pub(crate) fn size_of<F: JournalFile>(file: &F) -> Result<u64, JournalFault>
     }
 }
 
-/// The log of a journal that begins: what its file lacks of the header is appended to it. Nothing is cut off the file.
+/// The log of a segment of this number that begins: what its file lacks of the header is appended to it. Nothing is cut off the file.
 ///
 /// `File` where the file is longer than the header, `Write` where it can't be appended to.
 pub(crate) fn begun<F: JournalFile + Drop>(
     file: F,
     keeping: Keeping,
+    number: u64,
     header: &[u8],
 ) -> Result<DeviceLog<JournalDevice<F>>, JournalFault>
     requires { IfSome (F.contents file) (IsBeginning header.now) }
     ensures has { IfOk result (λ log. IfSome (F.contents file) (λ _. Has keeping (header.now ++ 10 ∷ []) (told_of F.contents (device_of log)))) }
     ensures makes_stay { IfOk result (λ log. is_staying (device_of log) ≡ is_synced keeping) }
+    ensures segment { IfOk result (λ log. segment_of log ≡ Some number) }
 {
     let size = size_of(&file)?;
     if size > header.len() as u64 {
         return Err(JournalFault::from(JournalFailure::File));
     }
     let (_, missing) = header.split_at(size as usize);
-    let mut log = DeviceLog::new(JournalDevice::new(Some(file), keeping));
+    let mut log = DeviceLog::new(JournalDevice::new(Some(file), keeping), Some(number));
     append(&mut log, missing)?;
     append(&mut log, b"\n")?;
     Ok(log)
@@ -176,12 +179,13 @@ fn cut_off<F: JournalFile>(file: &mut F, text: u64, torn: u64) -> Result<(), Jou
     }
 }
 
-/// The log of a journal that goes on behind what was found in its text, which has so many bytes.
+/// The log of a segment of this number, which goes on behind what was found in its text, which has so many bytes.
 pub(crate) fn continued<F: JournalFile + Drop>(
     file: F,
     text: u64,
     keeping: Keeping,
     found: Journaled,
+    number: u64,
     header: &[u8],
 ) -> Result<DeviceLog<JournalDevice<F>>, JournalFault>
     requires text { IfSome (F.contents file) (λ bytes. text ≡ length (text_of bytes)) }
@@ -189,16 +193,17 @@ pub(crate) fn continued<F: JournalFile + Drop>(
     ensures has { IfOk result (λ log. IfSome (F.contents file)
         (λ bytes. Has keeping (kept_bytes header.now (text_of bytes) found) (told_of F.contents (device_of log)))) }
     ensures makes_stay { IfOk result (λ log. is_staying (device_of log) ≡ is_synced keeping) }
+    ensures segment { IfOk result (λ log. segment_of log ≡ Some number) }
 {
     match found {
         Journaled::Nothing => {
             check_end(&file, text)?;
-            begun(file, keeping, header)
+            begun(file, keeping, number, header)
         }
         Journaled::Journal(torn) => {
             let mut file = file;
             cut_off(&mut file, text, torn)?;
-            Ok(DeviceLog::new(JournalDevice::new(Some(file), keeping)))
+            Ok(DeviceLog::new(JournalDevice::new(Some(file), keeping), Some(number)))
         }
     }
 }
@@ -208,9 +213,10 @@ pub fn without<F: JournalFile + Drop, D: Sessions + Drop>(hub: Hub<D>) -> Journa
     ensures hub { hub_of result ≡ hub }
     ensures settled { Keeps (told_of F.contents (device_of (log_of result))) (told_of F.stays (device_of (log_of result))) }
     ensures stays { is_staying (device_of (log_of result)) ≡ false }
+    ensures segment { segment_of (log_of result) ≡ None }
 {
     Durable::new(
         hub,
-        DeviceLog::new(JournalDevice::new(None, Keeping::Unsynced)),
+        DeviceLog::new(JournalDevice::new(None, Keeping::Unsynced), None),
     )
 }

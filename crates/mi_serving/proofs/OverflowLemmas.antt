@@ -25,16 +25,16 @@ pub less_not : (m n : ℕ) → m < n → ¬ (nat_lt m n ≡ false)
 less_not m n lt is = let less : nat_lt m n ≡ true = grind (arith, lt) in (let bad : true ≡ false = sym less ∙ is in cc)
 
 -- who was attended to beside these connections was so beside the same ones, and what became of the place is the same
-pub attended_there : (after stays : Option (List ℕ)) (lacks : Bool) (seconds : ℕ) (hub : HubState) (schema : List ℕ) (clients rows : List (Client Link))
+pub attended_there : (after stays : Option (List ℕ)) (lacks : Bool) (room : ℕ) (segment : Option ℕ) (seconds : ℕ) (hub : HubState) (schema : List ℕ) (clients rows : List (Client Link))
     (o p q : Option (Client Link)) → clients ≡ rows → q ≡ p
-    → InPlace (λ was last. (status : List ℕ) × IsStatus after stays lacks seconds clients hub status
+    → InPlace (λ was last. (status : List ℕ) × IsStatus after stays lacks room segment seconds clients hub status
     × Attended (λ _. None) (λ _. None) status schema was last) o p
-    → InPlace (λ was last. (status : List ℕ) × IsStatus after stays lacks seconds rows hub status
+    → InPlace (λ was last. (status : List ℕ) × IsStatus after stays lacks room segment seconds rows hub status
     × Attended (λ _. None) (λ _. None) status schema was last) o q
-attended_there after stays lacks seconds hub schema clients rows o p q same there is =
-    subst (λ r. InPlace (λ was last. (status : List ℕ) × IsStatus after stays lacks seconds r hub status
+attended_there after stays lacks room segment seconds hub schema clients rows o p q same there is =
+    subst (λ r. InPlace (λ was last. (status : List ℕ) × IsStatus after stays lacks room segment seconds r hub status
     × Attended (λ _. None) (λ _. None) status schema was last) o q) same
-    (subst (λ r. InPlace (λ was last. (status : List ℕ) × IsStatus after stays lacks seconds clients hub status
+    (subst (λ r. InPlace (λ was last. (status : List ℕ) × IsStatus after stays lacks room segment seconds clients hub status
     × Attended (λ _. None) (λ _. None) status schema was last) o r) (sym there) is)
 
 -- ---- numbers
@@ -82,7 +82,8 @@ up_to_placed last (Some c) old new hub mid olds news le all (inl admitted) =
 up_to_placed last (Some c) old new hub mid olds news le all (inr kept) = subst (AllUpTo last) (sym kept.2) all
 
 -- what a turn does are steps
-pub goes_turn : (schema : List ℕ) (seconds : ℕ) (old new : HubState) (a b stays : Option (List ℕ)) (lacks : Bool) (olds news : List (Client Link)) (o p : Overflow)
-    → IsTurn schema seconds old new a b stays lacks olds news o p → Goes old new a b
-goes_turn schema seconds old new a b stays lacks olds news o p t =
+pub goes_turn : (schema : List ℕ) (seconds : ℕ) (old new : HubState) (a b stays : Option (List ℕ)) (lacks : Bool) (room : ℕ) (segment : Option ℕ)
+    (olds news : List (Client Link)) (o p : Overflow)
+    → IsTurn schema seconds old new a b stays lacks room segment olds news o p → Goes old new a b
+goes_turn schema seconds old new a b stays lacks room segment olds news o p t =
     (t.first ++ t.comes, makes_then t.first t.comes old t.mid new a t.kept b t.makes t.admits)

@@ -24,14 +24,14 @@ module _ {F G : Type 0} (remaining : G → Option (List ℕ)) (is_locked : F →
     (contents : F → Option (List ℕ)) where
   -- a journal that is opened behind a position is one that a service begins with, where the words name it
   pub begins_with : (schema : JournalSchema) (position : Option Position) (start : HubState) (words : JournalWords) (named : Option JournalWords)
-      (path : List ℕ) (keeping : Keeping) (hub : HubState) (told : Option (List ℕ)) → named ≡ Some words → path ≡ string_bytes words.file
-      → keeping ≡ keeping_by words.sync → IsOpenedBehind is_locked is_seen (is_newest path) contents path schema position keeping start hub told
-      → Begins is_locked is_seen is_newest contents schema position start named hub told
-  begins_with schema position start words named path keeping hub told is of by opened =
+      (path : List ℕ) (keeping : Keeping) (hub : HubState) (told : Option (List ℕ)) (segment : Option ℕ) → named ≡ Some words → path ≡ string_bytes words.file
+      → keeping ≡ keeping_by words.sync → IsOpenedBehind is_locked is_seen (is_newest path) contents path schema position keeping start hub told segment
+      → Begins is_locked is_seen is_newest contents schema position start named hub told segment
+  begins_with schema position start words named path keeping hub told segment is of by opened =
       let file = string_bytes words.file in
-      subst (λ n. Begins is_locked is_seen is_newest contents schema position start n hub told) (sym is)
-      (subst (λ k. IsOpenedBehind is_locked is_seen (is_newest file) contents file schema position k start hub told) by
-      (subst (λ p. IsOpenedBehind is_locked is_seen (is_newest p) contents p schema position keeping start hub told) of opened))
+      subst (λ n. Begins is_locked is_seen is_newest contents schema position start n hub told segment) (sym is)
+      (subst (λ k. IsOpenedBehind is_locked is_seen (is_newest file) contents file schema position k start hub told segment) by
+      (subst (λ p. IsOpenedBehind is_locked is_seen (is_newest p) contents p schema position keeping start hub told segment) of opened))
 
   pub performed : (r : Result Fault Fault) (named same : Bool) (catalog : CatalogShape) (schema : JournalSchema) (position place : Option Position)
       (hub : HubState) (words given : Option JournalWords) → named ≡ same → place ≡ position → words ≡ given → IsCatalog remaining named (Ok catalog)

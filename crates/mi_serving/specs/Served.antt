@@ -59,19 +59,19 @@ StandsAt is_seen contents catalog hash path (Some position) hub = (heading : Hea
     × (hub ≡ hub_over (restored_database catalog images heading.revision))
 
 -- From a hub that is as start, which stands behind a position. With a journal its lines behind that are asked, and it is opened, to be synced as the
--- words ask. Without one nothing is done.
+-- words ask, in a segment of this number. Without one nothing is done.
 abbrev pub Begins : {F : Type 0} → (F → Type 0) → (List ℕ → F → Type 0) → (List ℕ → ℕ → Type 0) → (F → Option (List ℕ)) → JournalSchema
-    → Option Position → HubState → Option JournalWords → HubState → Option (List ℕ) → Type 0
-Begins is_locked is_seen is_newest contents schema position start None hub told = hub ≡ start
-Begins is_locked is_seen is_newest contents schema position start (Some words) hub told = IsOpenedBehind is_locked is_seen
-    (is_newest (string_bytes words.file)) contents (string_bytes words.file) schema position (keeping_by words.sync) start hub told
+    → Option Position → HubState → Option JournalWords → HubState → Option (List ℕ) → Option ℕ → Type 0
+Begins is_locked is_seen is_newest contents schema position start None hub told segment = (hub ≡ start) × (segment ≡ None)
+Begins is_locked is_seen is_newest contents schema position start (Some words) hub told segment = IsOpenedBehind is_locked is_seen
+    (is_newest (string_bytes words.file)) contents (string_bytes words.file) schema position (keeping_by words.sync) start hub told segment
 
 -- so it began, and was served until this failure; where the poll or the turns ended it, what its steps left is told
 abbrev pub Serves : {F : Type 0} → (F → Type 0) → (List ℕ → F → Type 0) → (List ℕ → ℕ → Type 0) → (F → Option (List ℕ)) → JournalSchema
     → Option Position → HubState → Option JournalWords → Failure → Type 0
 Serves is_locked is_seen is_newest contents schema position old words failure =
-    (start : HubState) × (end : HubState) × (before : Option (List ℕ)) × (after : Option (List ℕ))
-    × Begins is_locked is_seen is_newest contents schema position old words start before
+    (start : HubState) × (end : HubState) × (before : Option (List ℕ)) × (after : Option (List ℕ)) × (segment : Option ℕ)
+    × Begins is_locked is_seen is_newest contents schema position old words start before segment
     × ((failure ≡ Turns) ⊎ (failure ≡ Poll) → Goes start end before after) × (ends_serving failure ≡ true)
 
 -- A service of a catalog began with what its journal's base has, or with empty tables, and served.

@@ -44,18 +44,19 @@ AllUpTo {S} last clients = (c : Client S) → Contains clients c → c.conn ≤ 
 
 -- What a turn does. The list is served by the first steps, as who is there and has come asks. By the others who has waited for a place is
 -- admitted, and nobody is asked or given anything. The one beside the list is attended to by the status of what these leave; it makes no step.
-pub record IsTurn (schema : List ℕ) (seconds : ℕ) (old new : HubState) (before after stays : Option (List ℕ)) (lacks : Bool) (olds news : List (Client Link))
-    (waited beside : Overflow) : Type 0 where
+pub record IsTurn (schema : List ℕ) (seconds : ℕ) (old new : HubState) (before after stays : Option (List ℕ)) (lacks : Bool) (room : ℕ)
+    (segment : Option ℕ) (olds news : List (Client Link)) (waited beside : Overflow) : Type 0 where
   pub first : List Step
   pub comes : List Step
   pub mid : HubState
   pub kept : Option (List ℕ)
   pub clients : List (Client Link)
   pub lacked : Bool
+  pub number : Option ℕ
   pub serves : Serves (λ _. None) first olds clients
   pub makes : Makes first old mid before kept
   pub stayers : StayersOnlyAsk first olds clients
-  pub tells : TellsWhatIs (λ _. None) schema seconds first old before lacked olds
+  pub tells : TellsWhatIs (λ _. None) schema seconds first old before lacked number olds
   pub admits : Makes comes mid new kept after
   pub none : GivesNone comes
   pub quiet : AsksNone comes
@@ -63,7 +64,7 @@ pub record IsTurn (schema : List ℕ) (seconds : ℕ) (old new : HubState) (befo
   pub joins : Joins clients news
   pub at : Overflow
   pub placed : IsPlaced waited.comer waited at mid new clients news
-  pub attended : InPlace (λ was last. (status : List ℕ) × IsStatus after stays lacks seconds news new status
+  pub attended : InPlace (λ was last. (status : List ℕ) × IsStatus after stays lacks room segment seconds news new status
       × Attended (λ _. None) (λ _. None) status schema was last) at.beside.client beside.beside.client
 
 -- whether a service that serves may end by this failure

@@ -174,7 +174,8 @@ impl Overflow {
     )
         requires room { 0 < length buffer.old }
         ensures attended { InPlace (λ old last. (status : List ℕ)
-            × IsStatus (L.appended (log_of durable.now)) (L.synced (log_of durable.now)) (L.lacks_room (log_of durable.now)) seconds clients.now
+            × IsStatus (L.appended (log_of durable.now)) (L.synced (log_of durable.now)) (L.lacks_room (log_of durable.now))
+            (L.room_left (log_of durable.now)) (L.segment (log_of durable.now)) seconds clients.now
             (hub_of durable.now) status
             × Attended (λ _. None) (λ _. None) status (line_of schema.now) old last) self.old.beside.client self.new.beside.client }
         ensures comer { self.new.comer ≡ self.old.comer }

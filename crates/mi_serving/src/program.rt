@@ -2,7 +2,7 @@
 //! is asked again, and then connections are served. Or a journal is rebased, or put under another schema.
 ghost use Rattle.std.specs.Prelude.{◌≡◌, [], None, Ok, true, false, is_some, option_map, IfOk, IfSome, OnOk, MatchOption};
 ghost use Rattle.std.specs.Io.KnownBytes.{Keeps};
-ghost use Rattle.mi_log.specs.DeviceLog.{device_of};
+ghost use Rattle.mi_log.specs.DeviceLog.{device_of, segment_of};
 ghost use Rattle.mi_durable.specs.Durable.{hub_of, log_of};
 ghost use Rattle.mi_recovery.specs.Device.{is_staying, is_synced, told_of};
 ghost use Rattle.mi_serving.specs.Words as spec;
@@ -62,7 +62,7 @@ fn durable_of<P: JournalFiles, D: Sessions + Drop>(
     requires { hub.attached ≡ [] }
     ensures begins { IfOk result (λ durable. Begins (λ file. P.File.is_locked file ≡ true) (P.is_seen files.now) (P.is_newest files.now) P.File.contents
         schema.now (option_map (λ p. p.now) position.entry) hub (option_map (λ words. words.now) journal.entry) (hub_of durable)
-        (told_of P.File.contents (device_of (log_of durable)))) }
+        (told_of P.File.contents (device_of (log_of durable))) (segment_of (log_of durable))) }
     ensures attached { IfOk result (λ durable. (hub_of durable).attached ≡ []) }
     ensures settled { IfOk result (λ durable. Keeps (told_of P.File.contents (device_of (log_of durable))) (told_of P.File.stays (device_of (log_of durable)))) }
     ensures stays { IfOk result (λ durable. MatchOption journal.entry (is_staying (device_of (log_of durable)) ≡ false)

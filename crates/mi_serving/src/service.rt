@@ -128,7 +128,7 @@ pub fn take_turn<D: Sessions + Drop, L: Log + Drop>(
         × Makes steps (hub_of durable.old) (hub_of durable.new) (L.appended (log_of durable.old)) (L.appended (log_of durable.new))
         × StayersOnlyAsk steps clients.old.items clients.new.items
         × TellsWhatIs (λ _. None) (line_of schema.now) seconds steps (hub_of durable.old)
-        (L.appended (log_of durable.old)) (L.lacks_room (log_of durable.new)) clients.old.items) }
+        (L.appended (log_of durable.old)) (L.lacks_room (log_of durable.new)) (L.segment (log_of durable.new)) clients.old.items) }
     ensures known { OnOk result (AllUpTo last.new clients.new.items) }
     ensures rises { last.old ≤ last.new }
     ensures same { OnOk result (SameStreams ⟦<Link as Duplex>⟧.handle last.old clients.old.items clients.new.items) }
@@ -184,7 +184,8 @@ pub fn turn<D: Sessions + Drop, L: Log + Drop>(
     requires own { replayer ≤ last.old }
     requires room { 0 < length buffer.old }
     ensures turns { OnOk result (IsTurn (line_of schema.now) seconds (hub_of durable.old) (hub_of durable.new) (L.appended (log_of durable.old))
-        (L.appended (log_of durable.new)) (L.synced (log_of durable.new)) (L.lacks_room (log_of durable.new)) clients.old.items clients.new.items
+        (L.appended (log_of durable.new)) (L.synced (log_of durable.new)) (L.lacks_room (log_of durable.new))
+        (L.room_left (log_of durable.new)) (L.segment (log_of durable.new)) clients.old.items clients.new.items
         overflow.old overflow.new) }
     ensures known { OnOk result (AllUpTo last.new clients.new.items) }
     ensures waits { OnOk result (WaitsUpTo last.new overflow.new.comer) }

@@ -46,7 +46,7 @@ fn written_after(calls: u64) -> &'static [u8] {
 }
 
 fn fail_after(rt: &impl Abort, alloc: Global, calls: u64) {
-    let mut log = DeviceLog::new(MemoryDevice::new(alloc, calls, 3));
+    let mut log = DeviceLog::new(MemoryDevice::new(alloc, calls, 3), None);
     check(rt, is_synced(&mut log, b"ab\n") == (calls >= 2), "one line");
     check(rt, is_synced(&mut log, b"cdef\n") == (calls >= 5), "two");
     check_bytes(rt, log.device().kept(), kept_after(calls));
@@ -67,13 +67,20 @@ fn file_log(host: &HostRuntime, path: &str) -> io::Result<DeviceLog<RoomFile<Fil
     let file = OpenOptions::new().write(true).open(host, path)?;
     let mut device = RoomFile::new(file, 7);
     device.cut(3)?;
-    Ok(DeviceLog::new(device))
+    Ok(DeviceLog::new(device, Some(7)))
 }
 
 /// Whether a log has so many bytes, and says that so many of them stay.
 fn has_synced(log: &DeviceLog<RoomFile<File>>, bytes: u64, synced: u64) -> bool {
     let state = log.state();
     state.bytes == Some(bytes) && state.synced == Some(synced)
+}
+
+/// Whether a log says which segment it is, and that the room is there that was made before four bytes of it were taken: whole pieces for 100 bytes
+/// and 1 MiB.
+fn tells_room(log: &DeviceLog<RoomFile<File>>) -> bool {
+    let state = log.state();
+    state.segment == Some(7) && state.room == 65 * 16_384 - 4
 }
 
 /// Appends a line to it, and one more in room that is made. Answers what the file has after each.
@@ -85,6 +92,7 @@ fn append_two(rt: &impl Abort, host: &HostRuntime, path: &str) -> io::Result<(Ve
     let is_appended = log.make_room(100) && log.append(b"efg\n").is_ok();
     check(rt, is_appended, "one in its room");
     check(rt, has_synced(&log, 10, 6), "one doesn't stay yet");
+    check(rt, tells_room(&log), "its room and its number");
     Ok((first, fs::read(host, path)?))
 }
 
@@ -157,7 +165,7 @@ fn a_small_disk(rt: HostRuntime) {
         bytes: &bytes,
         most: 20_000,
     };
-    let mut log = DeviceLog::new(RoomFile::new(disk, 0));
+    let mut log = DeviceLog::new(RoomFile::new(disk, 0), None);
     fill_room(&rt, &mut log, b"ab\n", 19_997);
     fill_room(&rt, &mut log, b"cd\n", 19_994);
     let text = bytes.replace(Vec::new(rt.alloc()));

@@ -308,6 +308,10 @@ impl<'a> Device for FolderFile<'a> {
         false
     }
 
+    fn room(&self) -> u64 {
+        u64::MAX
+    }
+
     fn written(&self) -> Option<u64> {
         None
     }

@@ -108,7 +108,7 @@ fn three_turns<'a, D: Sessions + Drop, L: Log + Drop>(
     turn(alloc, durable, clients)
 }
 
-/// Three turns of two connections, 2 and 3, that have sent these bytes, over a journal that has room for so many.
+/// Three turns of two connections, 2 and 3, that have sent these bytes, over segment 3 of a journal, which has room for so many.
 fn serve_two<'a>(
     alloc: Global,
     room: usize,
@@ -117,7 +117,7 @@ fn serve_two<'a>(
 ) -> Result<(), Fail> {
     let mut device = MemoryDevice::new(alloc, 100, 100);
     device.set_size(room);
-    let log = DeviceLog::new(device);
+    let log = DeviceLog::new(device, Some(3));
     let mut durable = Durable::<Plain, DeviceLog<MemoryDevice>>::new(hub(alloc)?, log);
     let mut clients = Vec::new(alloc);
     three_turns(alloc, &mut durable, &mut clients, first, second)
@@ -154,7 +154,7 @@ fn the_status_of_two(rt: HostRuntime) -> Result<(), Fail> {
     )?;
     let want =
         b"{\"connections\":[{\"holds\":true,\"lines\":1,\"number\":2,\"since\":1,\"unsent\":25},{\"holds\":false,\"lines\":0,\"number\":3,\"since\":null,\"unsent\":0}],\
-\"depth\":1,\"holder\":2,\"journal\":{\"bytes\":16,\"full\":false,\"synced\":0},\"ok\":true,\"tables\":[{\"memory\":null,\"name\":\"accounts\",\"size\":0}],\"uptime\":7,\"version\":\"0.1.0\"}\n";
+\"depth\":1,\"holder\":2,\"journal\":{\"bytes\":16,\"full\":false,\"room\":18446744073709551599,\"segment\":3,\"synced\":0},\"ok\":true,\"tables\":[{\"memory\":null,\"name\":\"accounts\",\"size\":0}],\"uptime\":7,\"version\":\"0.1.0\"}\n";
     assert!(rt; out.as_slice() == want.as_slice());
     Ok(())
 }
@@ -171,7 +171,7 @@ fn a_holder_is_told_with_its_line(rt: HostRuntime) -> Result<(), Fail> {
     let want =
         b"{\"connections\":[{\"holds\":false,\"lines\":0,\"number\":2,\"since\":null,\"unsent\":0},\
 {\"holds\":true,\"lines\":6,\"number\":3,\"since\":5,\"unsent\":142}],\
-\"depth\":2,\"holder\":3,\"journal\":{\"bytes\":63,\"full\":false,\"synced\":0},\"ok\":true,\"tables\":[{\"memory\":null,\"name\":\"accounts\",\"size\":0}],\"uptime\":7,\"version\":\"0.1.0\"}\n";
+\"depth\":2,\"holder\":3,\"journal\":{\"bytes\":63,\"full\":false,\"room\":18446744073709551552,\"segment\":3,\"synced\":0},\"ok\":true,\"tables\":[{\"memory\":null,\"name\":\"accounts\",\"size\":0}],\"uptime\":7,\"version\":\"0.1.0\"}\n";
     assert!(rt; out.ends_with(want));
     Ok(())
 }
@@ -223,7 +223,7 @@ fn a_look_up_leaves_a_journal_full(rt: HostRuntime) -> Result<(), Fail> {
     let want =
         b"{\"ok\":true,\"revision\":1}\n{\"error\":\"journal\",\"ok\":false}\n{\"ok\":true,\"size\":0}\n\
 {\"connections\":[{\"holds\":false,\"lines\":0,\"number\":2,\"since\":null,\"unsent\":0},{\"holds\":true,\"lines\":3,\"number\":3,\"since\":1,\"unsent\":77}],\
-\"depth\":1,\"holder\":3,\"journal\":{\"bytes\":16,\"full\":true,\"synced\":0},\"ok\":true,\"tables\":[{\"memory\":null,\"name\":\"accounts\",\"size\":0}],\"uptime\":7,\"version\":\"0.1.0\"}\n";
+\"depth\":1,\"holder\":3,\"journal\":{\"bytes\":16,\"full\":true,\"room\":131072,\"segment\":3,\"synced\":0},\"ok\":true,\"tables\":[{\"memory\":null,\"name\":\"accounts\",\"size\":0}],\"uptime\":7,\"version\":\"0.1.0\"}\n";
     assert!(rt; out.as_slice() == want.as_slice());
     Ok(())
 }
@@ -287,7 +287,7 @@ fn turns_beside<'a, D: Sessions + Drop, L: Log + Drop>(
 /// A connection beside connection 2 is served four times, and what it has asked to end is ended in between. Whether connection 2 is gone then, nobody holds
 /// sessions, and the other one, whose last line was none of the service's, is gone too.
 fn serve_beside<'a>(alloc: Global, first: Pipe<'a>, other: Pipe<'a>) -> Result<bool, Fail> {
-    let log = DeviceLog::new(MemoryDevice::new(alloc, 100, 100));
+    let log = DeviceLog::new(MemoryDevice::new(alloc, 100, 100), None);
     let mut durable = Durable::<Plain, DeviceLog<MemoryDevice>>::new(hub(alloc)?, log);
     let mut clients = Vec::new(alloc);
     let mut beside = Beside::new();
@@ -316,7 +316,7 @@ fn one_is_served_beside_the_others(rt: HostRuntime) -> Result<(), Fail> {
     assert!(rt; serve_beside(alloc, first, other)?);
     let want =
         b"{\"connections\":[{\"holds\":true,\"lines\":1,\"number\":2,\"since\":1,\"unsent\":0}],\
-\"depth\":1,\"holder\":2,\"journal\":{\"bytes\":16,\"full\":false,\"synced\":16},\"ok\":true,\"tables\":[{\"memory\":null,\"name\":\"accounts\",\"size\":0}],\"uptime\":7,\"version\":\"0.1.0\"}\n\
+\"depth\":1,\"holder\":2,\"journal\":{\"bytes\":16,\"full\":false,\"room\":18446744073709551599,\"segment\":null,\"synced\":16},\"ok\":true,\"tables\":[{\"memory\":null,\"name\":\"accounts\",\"size\":0}],\"uptime\":7,\"version\":\"0.1.0\"}\n\
 {\"ok\":true}\n{\"error\":\"places\",\"ok\":false}\n";
     let out = out.replace(Vec::new(alloc));
     assert!(rt; out.as_slice() == want.as_slice());

@@ -60,6 +60,10 @@ impl Device for MemoryFile {
         false
     }
 
+    fn room(&self) -> u64 {
+        u64::MAX
+    }
+
     fn written(&self) -> Option<u64> {
         None
     }

@@ -15,6 +15,7 @@ invariant-sessions g l = record {
   still : ¬ (holder_conn (hub_of l.fn.durable).held.holder ≡ Some l.fn.conn) → l.durable ≡ l.fn.durable;
   makes_stay : g.L.Log.makes_stay (log_of l.durable) ≡ g.L.Log.makes_stay (log_of l.fn.durable);
   room : g.L.Log.lacks_room (log_of l.durable) ≡ g.L.Log.lacks_room (log_of l.fn.durable);
+  segment : g.L.Log.segment (log_of l.durable) ≡ g.L.Log.segment (log_of l.fn.durable);
   steps : List Step;
   own : AreUndos l.fn.conn steps;
   makes : Makes steps (hub_of l.fn.durable) (hub_of l.durable) (g.L.Log.appended (log_of l.fn.durable)) (g.L.Log.appended (log_of l.durable));

@@ -32,6 +32,7 @@ returns-clause-serves g c =
         hub = hub_of c.ask_all.new.durable;
         appended = g.L.Log.appended (log_of c.ask_all.new.durable);
         stays = g.L.Log.synced (log_of c.ask_all.new.durable);
+        room = g.L.Log.room_left (log_of c.ask_all.new.durable);
         makes = asked.2;
         clients = b;
         attends = c.in_ok-ask_all.ensures.attends;

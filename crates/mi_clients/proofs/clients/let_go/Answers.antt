@@ -23,6 +23,7 @@ clients-init g c = record {
   gone = lets_none c.args.clients.now.items;
   stay = holds_none stays c.args.clients.now.items;
   room = refl;
+  segment = refl;
   steps = [];
   none = nothing_given;
   quiet = nothing_asked;
@@ -54,6 +55,7 @@ clients-preserved-then-is_over g c =
           (lets_one c.args.clients.now.items c.clients.clients.items c.clients.at c.index.result.now before.gone within over);
       stay = subst (HoldsTo stays c.clients.at) (sym c.remove.ensures.items) (holds_less stays c.clients.clients.items c.clients.at within before.stay);
       room = c.in_ok-disconnect.ensures.room ∙ before.room;
+      segment = c.in_ok-disconnect.ensures.segment ∙ before.segment;
       steps = before.steps ++ parted.0;
       none = none_join before.steps parted.0 before.none parted.1;
       quiet = quiet_join before.steps parted.0 before.quiet parted.4;
@@ -73,6 +75,7 @@ clients-preserved g c =
       stay = holds_more stays c.clients.clients.items c.clients.at c.index.result.now c.index.ensures within
           (λ over. true_false c.is_over.result (c.is_over.ensures.1 over) c.if-is_over.false) before.stay;
       room = before.room;
+      segment = before.segment;
       steps = before.steps;
       none = before.none;
       quiet = before.quiet;

@@ -14,6 +14,7 @@ invariant-clients g l = record {
   gone : LetsGo l.fn.clients.items l.clients.items;
   stay : HoldsTo (λ c. ¬ IsOver c) l.at l.clients.items;
   room : g.L.Log.lacks_room (log_of l.durable) ≡ g.L.Log.lacks_room (log_of l.fn.durable);
+  segment : g.L.Log.segment (log_of l.durable) ≡ g.L.Log.segment (log_of l.fn.durable);
   steps : List Step;
   none : GivesNone steps;
   quiet : AsksNone steps;

@@ -29,6 +29,7 @@ loop-client-init g c = record {
   hub = refl;
   appended = Keeps-refl _;
   room = refl;
+  segment = refl;
 }
 
 pub loop-client-preserved : goal.loop-client-preserved
@@ -66,6 +67,7 @@ loop-client-preserved g c =
       hub = c.release.ensures.hub ∙ before.hub;
       appended = Keeps-trans _ _ _ before.appended c.release.ensures.appended;
       room = c.in_ok-release.ensures.room ∙ before.room;
+      segment = c.in_ok-release.ensures.segment ∙ before.segment;
     }
 
 pub returns-clause-sends : goal.returns-clause-sends

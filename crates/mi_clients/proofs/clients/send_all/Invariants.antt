@@ -21,4 +21,5 @@ invariant-loop-client g l = record {
   hub : hub_of l.durable ≡ hub_of l.fn.durable;
   appended : Keeps (g.L.Log.appended (log_of l.fn.durable)) (g.L.Log.appended (log_of l.durable));
   room : g.L.Log.lacks_room (log_of l.durable) ≡ g.L.Log.lacks_room (log_of l.fn.durable);
+  segment : g.L.Log.segment (log_of l.durable) ≡ g.L.Log.segment (log_of l.fn.durable);
 }

@@ -4,7 +4,7 @@ use Rattle.std.proofs.lemmas.Result.{on_ok_weaker}
 use Rattle.mi_durable.specs.Durable.{hub_of}
 use Rattle.mi_clients.proofs.StepLemmas.{makes_then, makes_kept}
 use Rattle.mi_clients.specs.Client.{IsSent, IsWhole}
-use Rattle.mi_clients.proofs.ServedLemmas.{on_ok_both, on_ok_all, serves_each, opens_all, all_left, stayers_asked}
+use Rattle.mi_clients.proofs.ServedLemmas.{on_ok_both, on_ok_four, serves_each, opens_all, all_left, stayers_asked}
 use Rattle.mi_clients.specs.ServiceLines.{line_of}
 use Rattle.mi_clients.proofs.TellLemmas.{is_told_on, none_quiet}
 use Rattle.mi_clients.proofs.StreamLemmas.{stayers_same, stayers_read, none_failed}
@@ -18,7 +18,7 @@ returns-clause-serves g c =
     let a = c.args.clients.now.items in
     let b = c.hear_all.new.clients.items in
     let d = c.send_all.new.clients.items in
-    on_ok_all c.let_go.result (λ gone stay same.
+    on_ok_four c.let_go.result (λ gone stay same number.
     let e = c.let_go.new.clients.items in (
       asked.0 ++ gone.0,
       serves_each contents asked.0 gone.0 a b d e gone.1 asked.1 asked.5 sent.sends sent.inputs gone.2 stay,
@@ -26,9 +26,9 @@ returns-clause-serves g c =
           (makes_kept asked.0 _ (hub_of c.hear_all.new.durable) _ _ _ _ asked.2 sent.hub sent.appended) gone.3,
       opens_all contents asked.0 gone.0 b d e sent.sends sent.far sent.inputs asked.3 gone.2 gone.4,
       stayers_asked contents g.S.Duplex.remaining asked.0 gone.0 a b d e asked.4 sent.sends asked.1 sent.unread sent.inputs sent.far gone.2 gone.5,
-      is_told_on contents (line_of c.args.schema.now) c.args.seconds asked.0 gone.0 _ _ _ _ a asked.6 (none_quiet gone.0 gone.3.acts _ _ gone.3.done gone.1)
-          (same ∙ sent.room),
-    )) c.let_go.ensures.goes c.let_go.ensures.stay c.let_go.ensures.room
+      is_told_on contents (line_of c.args.schema.now) c.args.seconds asked.0 gone.0 _ _ _ _ _ _ a asked.6 (none_quiet gone.0 gone.3.acts _ _ gone.3.done gone.1)
+          (same ∙ sent.room) (number ∙ sent.segment),
+    )) c.let_go.ensures.goes c.let_go.ensures.stay c.let_go.ensures.room c.let_go.ensures.segment
 
 pub returns-clause-sent : goal.returns-clause-sent
 returns-clause-sent g c =

@@ -19,6 +19,7 @@ loop-client-init g c = record {
   attends = subst (λ items. Attends (ids items) (hub_of c.args.durable.now).attached) (sym c.deref_mut-client-items.ensures.value) c.requires.attends;
   settled = c.requires.settled;
   room = refl;
+  segment = refl;
   steps = [];
   all = tt;
   so = tt;
@@ -46,6 +47,7 @@ loop-client-preserved g c =
           (subst (λ (s : HubState). Attends (ids clients) s.attached) (sym c.in_ok-tell.ensures.hub) before.attends);
       settled = c.in_ok-tell.ensures.settled;
       room = c.in_ok-tell.ensures.room ∙ before.room;
+      segment = c.in_ok-tell.ensures.segment ∙ before.segment;
       steps = before.steps ++ one.0;
       all = tell_join before.steps one.0 before.all (tells_all old.conn one.0 one.1);
       so = so_join c.args.status.now (line_of c.args.schema.now) before.steps one.0 before.so one.2;

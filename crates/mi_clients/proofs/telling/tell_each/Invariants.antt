@@ -13,6 +13,7 @@ invariant-loop-client g l = record {
   attends : Attends (ids l.client-items) (hub_of l.durable).attached;
   settled : IsSettled g.L.Log.appended g.L.Log.synced l.durable;
   room : g.L.Log.lacks_room (log_of l.durable) ≡ g.L.Log.lacks_room (log_of l.fn.durable);
+  segment : g.L.Log.segment (log_of l.durable) ≡ g.L.Log.segment (log_of l.fn.durable);
   steps : List Step;
   all : AllTell steps;
   so : TellsSo l.fn.status (line_of l.fn.schema) steps;

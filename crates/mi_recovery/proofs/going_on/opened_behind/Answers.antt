@@ -1,4 +1,5 @@
 -- What was asked was found, and is gone on with; what was held is undone.
+use Rattle.std.proofs.Common.{◌∙◌}
 use Rattle.std.specs.String.{string_bytes}
 use Rattle.mi_log.specs.DeviceLog.{device_of}
 use Rattle.mi_durable.specs.Durable.{hub_of, log_of}
@@ -23,4 +24,5 @@ returns-clause-opened g c =
       goes = goes_by (contents asked.file) (string_bytes asked.place.header) asked.found c.args.keeping c.ask_journal.new.hub
           (hub_of c.in_ok-undone.field-0) (told_of contents (device_of c.in_ok-log.log)) (told_of contents (device_of (log_of c.in_ok-undone.field-0)))
           c.in_ok-log.ensures.has c.in_ok-undone.ensures.makes c.in_ok-undone.ensures.held;
+      number = c.in_ok-undone.ensures.segment ∙ c.in_ok-log.ensures.segment;
     }

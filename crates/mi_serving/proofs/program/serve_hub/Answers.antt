@@ -1,5 +1,5 @@
 -- What began was served.
-use Rattle.mi_log.specs.DeviceLog.{device_of}
+use Rattle.mi_log.specs.DeviceLog.{device_of, segment_of}
 use Rattle.mi_durable.specs.Durable.{hub_of, log_of}
 use Rattle.mi_recovery.specs.Device.{told_of}
 use Rattle.mi_serving.proofs.program.serve_hub.Goals as goal
@@ -14,6 +14,7 @@ returns g c =
       hub_of c.serve-failure.new.durable,
       told (device_of (log_of c.in_ok-durable.durable)),
       told (device_of (log_of c.serve-failure.new.durable)),
+      segment_of (log_of c.in_ok-durable.durable),
       c.in_ok-durable.ensures.begins,
       c.serve-failure.ensures.turns,
       c.serve-failure.ensures.ends,

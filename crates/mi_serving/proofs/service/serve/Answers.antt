@@ -27,7 +27,7 @@ turns-preserved g c = record {
   own = omega (arith, c.turns.invariant.own, c.in_default-turn.ensures.rises);
   waits = subst (WaitsUpTo c.turn.new.last) (sym c.judge.ensures.comer) c.in_default-turn.ensures.waits;
   settled = c.in_default-turn.ensures.settled;
-  goes = goes_then _ (hub_of c.turns.durable) _ _ _ _ c.turns.invariant.goes (goes_turn _ _ _ _ _ _ _ _ _ _ _ _ c.in_default-turn.ensures.turns);
+  goes = goes_then _ (hub_of c.turns.durable) _ _ _ _ c.turns.invariant.goes (goes_turn _ _ _ _ _ _ _ _ _ _ _ _ _ _ c.in_default-turn.ensures.turns);
 }
 
 pub turn-requires-clause-known : goal.turn-requires-clause-known

@@ -19,7 +19,7 @@ returns-clause-serves g c =
       serves_joined (λ _. None) came.0 served.0 c.args.clients.now.items c.accept_all.new.clients.items c.serve_all.new.clients.items came.1 came.2 served.1,
       makes_then came.0 served.0 _ (hub_of c.accept_all.new.durable) _ _ _ _ came.3 served.2,
       stayers_ask came.0 served.0 c.args.clients.now.items c.serve_all.new.clients.items came.4 served.3,
-      is_told_joined (λ _. None) (line_of c.args.schema.now) c.args.seconds came.0 served.0 _ (hub_of c.accept_all.new.durable) _ _ _ c.args.clients.now.items
+      is_told_joined (λ _. None) (line_of c.args.schema.now) c.args.seconds came.0 served.0 _ (hub_of c.accept_all.new.durable) _ _ _ _ c.args.clients.now.items
           c.accept_all.new.clients.items came.3 came.1 came.2 served.5 came.5,
     )) c.serve_all.ensures.serves
 

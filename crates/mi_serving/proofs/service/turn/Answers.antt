@@ -19,6 +19,7 @@ returns-clause-turns g c =
       kept = g.L.Log.appended (log_of c.take_turn.new.durable);
       clients = c.take_turn.new.clients.items;
       lacked = g.L.Log.lacks_room (log_of c.take_turn.new.durable);
+      number = g.L.Log.segment (log_of c.take_turn.new.durable);
       serves = clients.1;
       makes = clients.2;
       stayers = clients.3;
@@ -31,7 +32,7 @@ returns-clause-turns g c =
       at = c.place.new.self;
       placed = c.in_ok-place.ensures.placed;
       attended = attended_there (g.L.Log.appended (log_of c.place.new.durable)) (g.L.Log.synced (log_of c.place.new.durable))
-          (g.L.Log.lacks_room (log_of c.place.new.durable)) c.args.seconds (hub_of c.place.new.durable) (line_of c.args.schema.now) c.as_slice.result.now c.place.new.clients.items c.place.new.self.beside.client
+          (g.L.Log.lacks_room (log_of c.place.new.durable)) (g.L.Log.room_left (log_of c.place.new.durable)) (g.L.Log.segment (log_of c.place.new.durable)) c.args.seconds (hub_of c.place.new.durable) (line_of c.args.schema.now) c.as_slice.result.now c.place.new.clients.items c.place.new.self.beside.client
           c.serve.new.self.beside.client c.receive.new.overflow.beside.client c.as_slice.ensures.value
           (ap (λ (b : Beside Link). b.client) c.receive.ensures.beside) c.serve.ensures.attended;
     }
