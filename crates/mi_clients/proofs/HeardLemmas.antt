@@ -11,7 +11,7 @@ use Rattle.mi_clients.specs.declared.client.Client.{Client}
 use Rattle.mi_clients.specs.declared.client.Phase.TheVariants.{Open}
 use Rattle.mi_clients.specs.declared.input.Input.{Input}
 use Rattle.mi_clients.proofs.InputLemmas.{first_newline, tail_by, unended_back}
-use Rattle.mi_clients.proofs.RowLemmas.{true_false}
+use Rattle.mi_clients.proofs.ClientsLemmas.{true_false}
 
 not_true : (b : Bool) → (b ≡ true → ⊥) → b ≡ false
 not_true true h = absurd (h refl)

@@ -61,17 +61,17 @@ module _ {T : Type 0} (s : ℕ) where
   frame m k l b (x ∷ xs) f o h = let same = link_there m k s l x.name s o.0 in
       (ref-with_link m k s l x.name ∙ h.0, ap (λ (y : Link). y.back) same ∙ h.1, ap (λ (y : Link). y.forth) same ∙ h.2, frame m k l (Some x) xs f o.1 h.3)
 
-  pub block_back : (m : Pooled T) (o c : Option Ref) (b : Option Ref) (xs : List Ref) (f : Option Ref)
+  pub frame_back : (m : Pooled T) (o c : Option Ref) (b : Option Ref) (xs : List Ref) (f : Option Ref)
       → IsOutIf o xs → IsLinked m s b xs f → IsLinked (with_back_if m s o c) s b xs f
   unfolding with_back
-  block_back m None c b xs f h l = l
-  block_back m (Some r) c b xs f h l = frame m r.name (record (link_of m r.name s) { back = c }) b xs f h l
+  frame_back m None c b xs f h l = l
+  frame_back m (Some r) c b xs f h l = frame m r.name (record (link_of m r.name s) { back = c }) b xs f h l
 
-  pub block_forth : (m : Pooled T) (o c : Option Ref) (b : Option Ref) (xs : List Ref) (f : Option Ref)
+  pub frame_forth : (m : Pooled T) (o c : Option Ref) (b : Option Ref) (xs : List Ref) (f : Option Ref)
       → IsOutIf o xs → IsLinked m s b xs f → IsLinked (with_forth_if m s o c) s b xs f
   unfolding with_forth
-  block_forth m None c b xs f h l = l
-  block_forth m (Some r) c b xs f h l = frame m r.name (record (link_of m r.name s) { forth = c }) b xs f h l
+  frame_forth m None c b xs f h l = l
+  frame_forth m (Some r) c b xs f h l = frame m r.name (record (link_of m r.name s) { forth = c }) b xs f h l
 
   -- what no link has a part in stays
   stays-forth : {X : Type 0} (f : Pooled T → X) (m : Pooled T) → ((k : ℕ) (l : Link) → f (with_link m k s l) ≡ f m)
@@ -127,8 +127,8 @@ module _ {T : Type 0} (s : ℕ) where
       → IsLinked (joined m s (last_of None xs) l (first_of ys None) r) s None xs l × IsLinked (joined m s (last_of None xs) l (first_of ys None) r) s r ys None
   joins m xs ys f b l r a g h =
       let n = with_forth_if m s (last_of None xs) l in let across = apart_across xs ys a in (
-        block_back n (first_of ys None) r None xs l (out_of_first xs ys across) (retail m None xs f l (apart_left xs ys a) g),
-        rehead n b r ys None (apart_right xs ys a) (block_forth m (last_of None xs) l b ys None (last_out None xs ys tt across) h),
+        frame_back n (first_of ys None) r None xs l (out_of_first xs ys across) (retail m None xs f l (apart_left xs ys a) g),
+        rehead n b r ys None (apart_right xs ys a) (frame_forth m (last_of None xs) l b ys None (last_out None xs ys tt across) h),
       )
 
   pub ref-joined : (m : Pooled T) (b l f r : Option Ref) (q : ℕ) → ref_of (joined m s b l f r) q ≡ ref_of m q
