@@ -27,6 +27,9 @@ STRICT = ["-Wall", "-Wextra", "-Werror", "-pedantic"]
 VALGRIND = ["valgrind", "-q", "--error-exitcode=9", "--leak-check=full", "--show-leak-kinds=all", "--errors-for-leak-kinds=all"]
 # The tests in C that print `ok`, and what valgrind watches of each: it takes fifty times as long.
 C_TESTS = ("calls", "edges", "typed")
+CPP_TESTS = ("sessions", "tables")
+# The examples, which print what is stored beside them; those in C++ stand in docs/COMING_FROM.md too.
+C_EXAMPLES, CPP_EXAMPLES = ("unwind", "ranges"), ("accounts", "container")
 WATCHED_COMMANDS = {"calls": [], "edges": [], "typed": ["2000"]}
 # Lines beside the examples' whose requests are refused: an index grows, rows are moved and shown, and sessions are undone over all of it.
 REFUSED_ROWS = 40
@@ -110,10 +113,10 @@ class Bindings:
         self.run([compiler or self.cc, "-std=c99", *STRICT, "-O1", "-g", f"-I{self.made}", source, f"{self.made}/libweltiyo.a", "-o", to, *words])
         return to
 
-    def compiled_cpp(self, source):
+    def compiled_cpp(self, source, *words):
         """A program of C++, linked with the shared object."""
         to = f"{self.folder}/{os.path.basename(source)[:-4]}_cpp"
-        self.run([self.cxx, "-std=c++17", *STRICT, "-O1", f"-I{self.made}", f"-I{CLIENTS}/cpp", source, f"-L{self.made}", "-lweltiyo", f"-Wl,-rpath,{self.made}", "-o", to])
+        self.run([self.cxx, "-std=c++17", *STRICT, "-O1", f"-I{self.made}", f"-I{CLIENTS}/cpp", source, f"-L{self.made}", "-lweltiyo", f"-Wl,-rpath,{self.made}", "-o", to, *words])
         return to
 
     def prints(self, wanted, *words):
@@ -140,21 +143,24 @@ class Bindings:
         self.answers("clients/c, in parts", [to, "--parts"], cases[:5])
         for name in C_TESTS:
             self.check(f"clients/c/tests/{name}.c", self.prints, "ok\n", self.compiled(f"{CLIENTS}/c/tests/{name}.c"))
-        with open(f"{CLIENTS}/c/unwind.out", encoding="utf-8") as file:
-            self.check("clients/c/unwind.c", self.prints, file.read(), self.compiled(f"{CLIENTS}/c/unwind.c"))
+        for name in C_EXAMPLES:
+            with open(f"{CLIENTS}/c/{name}.out", encoding="utf-8") as file:
+                self.check(f"clients/c/{name}.c", self.prints, file.read(), self.compiled(f"{CLIENTS}/c/{name}.c", "-Wconversion"))
 
     def cpp(self, cases):
         if not self.has("clients/cpp", self.cxx):
             return
         self.answers("clients/cpp", [self.compiled_cpp(f"{CLIENTS}/cpp/tests/answers.cpp")], cases)
-        self.check("clients/cpp/tests/sessions.cpp", self.prints, "ok\n", self.compiled_cpp(f"{CLIENTS}/cpp/tests/sessions.cpp"))
-        self.check("clients/cpp/accounts.cpp", self.side_by_side)
+        for name in CPP_TESTS:
+            self.check(f"clients/cpp/tests/{name}.cpp", self.prints, "ok\n", self.compiled_cpp(f"{CLIENTS}/cpp/tests/{name}.cpp"))
+        for name in CPP_EXAMPLES:
+            self.check(f"clients/cpp/{name}.cpp", self.side_by_side, name)
 
-    def side_by_side(self):
-        """The program that stands beside one of chainbase's: it prints what is stored, and the page shows both as they are."""
-        with open(f"{CLIENTS}/cpp/accounts.out", encoding="utf-8") as out, open(f"{CLIENTS}/cpp/accounts.cpp", encoding="utf-8") as source:
+    def side_by_side(self, name):
+        """A program that stands beside one of chainbase's: it prints what is stored, and the page shows both as they are."""
+        with open(f"{CLIENTS}/cpp/{name}.out", encoding="utf-8") as out, open(f"{CLIENTS}/cpp/{name}.cpp", encoding="utf-8") as source:
             wanted, text = out.read(), source.read()
-        self.prints(wanted, self.compiled_cpp(f"{CLIENTS}/cpp/accounts.cpp"))
+        self.prints(wanted, self.compiled_cpp(f"{CLIENTS}/cpp/{name}.cpp", "-Wconversion"))
         with open(f"{TOP}/docs/COMING_FROM.md", encoding="utf-8") as file:
             page = file.read()
         if f"```cpp\n{text}```" not in page or f"```\n{wanted}```" not in page:

@@ -7,7 +7,7 @@
     library.py install ROOT
                          copies it below ROOT; where it isn't up to date, says so and copies nothing
 
-The folder has `libweltiyo.a`, `libweltiyo.so` with its versions, `weltiyo.h`, `weltiyo.hpp` and `weltiyo.pc`. It is up to date where its files
+The folder has `libweltiyo.a`, `libweltiyo.so` with its versions, the headers and `weltiyo.pc`. It is up to date where its files
 and links are those that `build` made from the sources that stand here now: a stamp in it has the digests of both. It may be moved, and so may
 ROOT: weltiyo.pc finds the rest from its own folder on. `build` needs `rt`, `ar`, and a C compiler for the shared object (CC, else cc). It
 writes to crates/*/out by way of `rt`, and to out/library."""
@@ -28,7 +28,8 @@ VERSION = "0.1.0"
 MAJOR = VERSION.partition(".")[0]
 ARCHIVE, SHARED, SONAME = "libweltiyo.a", f"libweltiyo.so.{VERSION}", f"libweltiyo.so.{MAJOR}"
 LINKS = ((SONAME, SHARED), ("libweltiyo.so", SONAME))
-HEADERS, EXPORTS = (f"{TOP}/clients/c/weltiyo.h", f"{TOP}/clients/cpp/weltiyo.hpp"), f"{TOP}/clients/c/weltiyo.map"
+HEADERS = (f"{TOP}/clients/c/weltiyo.h", f"{TOP}/clients/cpp/weltiyo.hpp", f"{TOP}/clients/cpp/weltiyo_tables.hpp")
+EXPORTS = f"{TOP}/clients/c/weltiyo.map"
 
 
 def made_from():
@@ -38,7 +39,7 @@ def made_from():
 
 def stamp(sources):
     """What the stamp has. Raises OSError where a file or a link isn't there."""
-    files = [f"{MADE}/{it}" for it in (ARCHIVE, SHARED, "weltiyo.h", "weltiyo.hpp", "weltiyo.pc")]
+    files = [f"{MADE}/{it}" for it in (ARCHIVE, SHARED, *map(os.path.basename, HEADERS), "weltiyo.pc")]
     links = "".join(f"{name} {os.readlink(f'{MADE}/{name}')}\n" for name, _ in LINKS)
     return f"sources {sources}\nlibrary {program.digest_of(files, links.encode())}\n"
 
@@ -190,7 +191,7 @@ def install(root):
     os.umask(0o022)
     for folder in ("include", "lib/pkgconfig"):
         os.makedirs(f"{root}/{folder}", exist_ok=True)
-    for it in ("weltiyo.h", "weltiyo.hpp"):
+    for it in map(os.path.basename, HEADERS):
         put(f"{MADE}/{it}", f"{root}/include/{it}", 0o644)
     put(f"{MADE}/{ARCHIVE}", f"{root}/lib/{ARCHIVE}", 0o644)
     put(f"{MADE}/{SHARED}", f"{root}/lib/{SHARED}", 0o755)
@@ -198,7 +199,7 @@ def install(root):
         os.symlink(to, cleared(f"{root}/lib/{name}"))
     with open(cleared(f"{root}/lib/pkgconfig/weltiyo.pc"), "w", encoding="utf-8") as file:
         file.write(installed())
-    print(f"and the library: {root}/lib/libweltiyo.*, {root}/include/weltiyo.h, weltiyo.hpp")
+    print(f"and the library: {root}/lib/libweltiyo.*, {root}/include/weltiyo.h, weltiyo.hpp, weltiyo_tables.hpp")
 
 
 def main(verb="", *words):

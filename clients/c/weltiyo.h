@@ -94,7 +94,9 @@ typedef enum weltiyo_refusal {
     WELTIYO_REFUSED_DEPTH = 16,   /* 1,024 sessions are open */
     WELTIYO_REFUSED_SESSION = 17, /* no session is open */
     WELTIYO_REFUSED_MEMORY = 18,  /* a growth was refused, and nothing has changed */
-    WELTIYO_NO_ROOM = 19          /* what is answered needs `index` values and `number` bytes of texts */
+    WELTIYO_NO_ROOM = 19,         /* what is answered needs `index` values and `number` bytes of texts */
+    WELTIYO_END = 20,             /* of a cursor: no row is left there */
+    WELTIYO_GONE = 10             /* of a cursor: its row is gone, which is WELTIYO_REFUSED_ID of its id */
 } weltiyo_refusal;
 
 /* What a call tells. */
@@ -112,6 +114,10 @@ enum { WELTIYO_ROW_VALUES = 16, WELTIYO_ROW_TEXTS = 16 * 1024 };
 weltiyo_told weltiyo_table(weltiyo_db *handle, const void *name, size_t length);
 weltiyo_told weltiyo_index(weltiyo_db *handle, size_t table, const void *name, size_t length);
 weltiyo_told weltiyo_column(weltiyo_db *handle, size_t table, const void *name, size_t length);
+
+/* The other way round: the name of an index is copied to the front of `out`, and its length is told. With WELTIYO_NO_ROOM nothing is copied, and
+   `number` is how many bytes it has; WELTIYO_REFUSED_TABLE or WELTIYO_REFUSED_INDEX where there is none. */
+weltiyo_told weltiyo_index_name(weltiyo_db *handle, size_t table, size_t index, void *out, size_t room);
 
 /* A key is values too, one for each part of the index in its order; the index of ids has one part, a whole number. Where it says so the first
    values of a key will do: they stand for every key that begins with them. */
@@ -246,6 +252,171 @@ static inline const weltiyo_value *weltiyo_row(const weltiyo_value *rows, size_t
 /* Where the text of a value begins; it has `value->length` bytes, and no 0 behind them. */
 static inline const char *weltiyo_text(const void *texts, const weltiyo_value *value) { return (const char *)texts + value->at; }
 
+/* ---- Cursors. A cursor is a row by its id, seen under an index. It is plain data: it is copied by value, owes nothing, and stays what it is
+   while rows change. A call finds its row anew, so a row that is gone is told (WELTIYO_GONE) and never read. One column of it is read at a
+   time, and no row is copied. Of these calls the two that are given a key take memory as above, and the others take none. */
+
+/* Where a cursor stands. */
+typedef struct weltiyo_cursor {
+    uint32_t status; /* 0 at a row; WELTIYO_END, WELTIYO_GONE, or why it was refused: then `id` is no row's */
+    uint32_t table;
+    uint32_t index;
+    uint64_t id;
+} weltiyo_cursor;
+
+/* A column of a row. */
+typedef struct weltiyo_field {
+    uint32_t status; /* 0, or why it wasn't read: WELTIYO_GONE, WELTIYO_REFUSED_ROW where there is no such column */
+    uint32_t kind;   /* as of a weltiyo_value; of a text it is all that is told here */
+    int64_t integer; /* of WELTIYO_INT the number */
+} weltiyo_field;
+
+/* The ids that cursors stand at. Where there is none, WELTIYO_END. The first row of a key, as by `weltiyo_find`; */
+weltiyo_told weltiyo_find_id(weltiyo_db *handle, size_t table, size_t index, const weltiyo_value *key, size_t count, const void *texts,
+                             size_t length);
+
+/* the first row of an ordered or ranked index whose key isn't less than this one, or with `beyond` is greater; the first values of one will do; */
+weltiyo_told weltiyo_seek_id(weltiyo_db *handle, size_t table, size_t index, const weltiyo_value *key, size_t count, const void *texts,
+                             size_t length, uint32_t beyond);
+
+/* the first and the last row of any index but a hashed one; */
+weltiyo_told weltiyo_first_id(weltiyo_db *handle, size_t table, size_t index);
+weltiyo_told weltiyo_last_id(weltiyo_db *handle, size_t table, size_t index);
+
+/* the row of a ranked index before which `n` others stand; */
+weltiyo_told weltiyo_at_rank_id(weltiyo_db *handle, size_t table, size_t index, uint64_t n);
+
+/* the row directly behind that of an id, or with `back` before it, in any index but a hashed one. WELTIYO_GONE where the id has no row. */
+weltiyo_told weltiyo_step_id(weltiyo_db *handle, size_t table, size_t index, uint64_t id, uint32_t back);
+
+/* The id itself, where it has a row; else WELTIYO_GONE. */
+weltiyo_told weltiyo_has_id(weltiyo_db *handle, size_t table, uint64_t id);
+
+/* A column of the row of an id. */
+weltiyo_field weltiyo_field_of(weltiyo_db *handle, size_t table, uint64_t id, size_t column);
+
+/* Copies a text of the row of an id to the front of `out`, and tells its length. With WELTIYO_NO_ROOM nothing is copied, and `number` is how many
+   bytes it has; WELTIYO_REFUSED_ROW where the column is no text. */
+weltiyo_told weltiyo_text_in(weltiyo_db *handle, size_t table, uint64_t id, size_t column, void *out, size_t room);
+
+/* What was told, as a cursor. */
+static inline weltiyo_cursor weltiyo_cursor_at(size_t table, size_t index, weltiyo_told told) {
+    weltiyo_cursor at;
+    at.status = told.status;
+    at.table = (uint32_t)table;
+    at.index = (uint32_t)index;
+    at.id = told.number;
+    return at;
+}
+
+/* A cursor at the first row of a key; where an ordered or ranked index has a key that isn't less, or is greater; at its first row, and at its
+   last; at a rank; and at an id. `at.status` is 0 where it stands at a row. */
+static inline weltiyo_cursor weltiyo_find_at(weltiyo_db *handle, size_t table, size_t index, const weltiyo_value *key, size_t count,
+                                             const void *texts, size_t length) {
+    return weltiyo_cursor_at(table, index, weltiyo_find_id(handle, table, index, key, count, texts, length));
+}
+
+static inline weltiyo_cursor weltiyo_seek(weltiyo_db *handle, size_t table, size_t index, const weltiyo_value *key, size_t count,
+                                          const void *texts, size_t length) {
+    return weltiyo_cursor_at(table, index, weltiyo_seek_id(handle, table, index, key, count, texts, length, 0));
+}
+
+static inline weltiyo_cursor weltiyo_seek_beyond(weltiyo_db *handle, size_t table, size_t index, const weltiyo_value *key, size_t count,
+                                                 const void *texts, size_t length) {
+    return weltiyo_cursor_at(table, index, weltiyo_seek_id(handle, table, index, key, count, texts, length, 1));
+}
+
+static inline weltiyo_cursor weltiyo_first(weltiyo_db *handle, size_t table, size_t index) {
+    return weltiyo_cursor_at(table, index, weltiyo_first_id(handle, table, index));
+}
+
+static inline weltiyo_cursor weltiyo_last(weltiyo_db *handle, size_t table, size_t index) {
+    return weltiyo_cursor_at(table, index, weltiyo_last_id(handle, table, index));
+}
+
+static inline weltiyo_cursor weltiyo_at_rank(weltiyo_db *handle, size_t table, size_t index, uint64_t n) {
+    return weltiyo_cursor_at(table, index, weltiyo_at_rank_id(handle, table, index, n));
+}
+
+static inline weltiyo_cursor weltiyo_of_id(weltiyo_db *handle, size_t table, size_t index, uint64_t id) {
+    return weltiyo_cursor_at(table, index, weltiyo_has_id(handle, table, id));
+}
+
+/* The cursor behind this one, or with `back` before it. From WELTIYO_END one steps back to the last row, and on to the end. One that was refused, or
+   whose row is gone, stays so. */
+static inline weltiyo_cursor weltiyo_step(weltiyo_db *handle, weltiyo_cursor at, uint32_t back) {
+    if (at.status == WELTIYO_END)
+        return back ? weltiyo_last(handle, at.table, at.index) : at;
+    return at.status ? at : weltiyo_cursor_at(at.table, at.index, weltiyo_step_id(handle, at.table, at.index, at.id, back));
+}
+
+/* What is told of a cursor that stands at no row. */
+static inline weltiyo_told weltiyo_no_row(weltiyo_cursor at) {
+    weltiyo_told told;
+    told.status = at.status;
+    told.index = 0;
+    told.number = 0;
+    return told;
+}
+
+/* How many rows of a ranked index stand before it. At the end these are all. */
+static inline weltiyo_told weltiyo_rank_of(weltiyo_db *handle, weltiyo_cursor at) {
+    if (at.status == WELTIYO_END)
+        return weltiyo_size(handle, at.table);
+    return at.status ? weltiyo_no_row(at) : weltiyo_rank(handle, at.table, at.index, at.id);
+}
+
+/* Its id. Of a cursor that stands at no row it is none. */
+static inline uint64_t weltiyo_id_of(weltiyo_cursor at) { return at.id; }
+
+/* Whether two cursors stand at the same place: at the same row of a table, or both at the end. */
+static inline int weltiyo_is_same(weltiyo_cursor one, weltiyo_cursor other) {
+    return one.status == other.status && one.table == other.table && (one.status != 0 || one.id == other.id);
+}
+
+/* Whether one stands before another in their ranked index: 1 or 0 is told, or why not. */
+static inline weltiyo_told weltiyo_is_before(weltiyo_db *handle, weltiyo_cursor one, weltiyo_cursor other) {
+    weltiyo_told left = weltiyo_rank_of(handle, one), right = weltiyo_rank_of(handle, other);
+    if (left.status || right.status)
+        return left.status ? left : right;
+    left.number = left.number < right.number;
+    return left;
+}
+
+/* A column of its row. */
+static inline weltiyo_field weltiyo_field_at(weltiyo_db *handle, weltiyo_cursor at, size_t column) {
+    weltiyo_field none;
+    if (!at.status)
+        return weltiyo_field_of(handle, at.table, at.id, column);
+    none.status = at.status;
+    none.kind = WELTIYO_INT;
+    none.integer = 0;
+    return none;
+}
+
+/* The whole number of a column, which is put to `out`, or a flag as 1 or 0. The status is answered: 0, WELTIYO_REFUSED_ROW where the column is of
+   another type, or that of the cursor; then `out` stays. */
+static inline uint32_t weltiyo_int(weltiyo_db *handle, weltiyo_cursor at, size_t column, int64_t *out) {
+    const weltiyo_field field = weltiyo_field_at(handle, at, column);
+    if (field.status || field.kind != WELTIYO_INT)
+        return field.status ? field.status : (uint32_t)WELTIYO_REFUSED_ROW;
+    *out = field.integer;
+    return 0;
+}
+
+static inline uint32_t weltiyo_flag(weltiyo_db *handle, weltiyo_cursor at, size_t column, int *out) {
+    const weltiyo_field field = weltiyo_field_at(handle, at, column);
+    if (field.status || field.kind < WELTIYO_FALSE)
+        return field.status ? field.status : (uint32_t)WELTIYO_REFUSED_ROW;
+    *out = field.kind == WELTIYO_TRUE;
+    return 0;
+}
+
+/* The text of a column, which is copied as by `weltiyo_text_in`. */
+static inline weltiyo_told weltiyo_text_of(weltiyo_db *handle, weltiyo_cursor at, size_t column, void *out, size_t room) {
+    return at.status ? weltiyo_no_row(at) : weltiyo_text_in(handle, at.table, at.id, column, out, room);
+}
+
 /* ---- */
 
 /* A connection goes away: the sessions that it holds are undone, as where a client of the program breaks off. It takes no memory. */
@@ -257,7 +428,7 @@ void weltiyo_close(weltiyo_db *handle);
 /* The word of a refusal, as a line's reply has it. */
 static inline const char *weltiyo_refusal_word(uint32_t status) {
     static const char *const words[] = {"ok",   "line",  "json",   "form", "busy",  "table",  "index",  "kind", "row",     "key",
-                                        "id",   "range", "full",   "spent", "unique", "unique", "depth", "session", "memory", "room"};
+                                        "id",   "range", "full",   "spent", "unique", "unique", "depth", "session", "memory", "room", "end"};
     return status < sizeof words / sizeof *words ? words[status] : "unknown";
 }
 

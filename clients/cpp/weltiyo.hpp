@@ -71,6 +71,15 @@ public:
     explicit Refused(weltiyo_told told, std::optional<std::size_t> column = {}, bool is_modify = false)
         : std::runtime_error(said(told, column, is_modify)), word_(weltiyo_refusal_word(told.status)), told_(told), column_(column) {}
 
+    // The same of a table of weltiyo_tables.hpp, with the column or the index by its name.
+    Refused(weltiyo_told told, std::string_view column, std::string_view index, bool is_modify = false)
+        : std::runtime_error(named(told, column, index, is_modify)), word_(weltiyo_refusal_word(told.status)), told_(told), column_name_(column),
+          index_name_(index) {}
+
+    // The names of the column that is at fault and of the index that refuses, where a table of weltiyo_tables.hpp tells them; else empty.
+    const std::string &column_name() const noexcept { return column_name_; }
+    const std::string &index_name() const noexcept { return index_name_; }
+
     // What a call with values told; its status is 0 of a line.
     weltiyo_told told() const noexcept { return told_; }
 
@@ -102,9 +111,25 @@ private:
         return reply + "\"ok\":false}";
     }
 
+    static std::string named(weltiyo_told told, std::string_view column, std::string_view index, bool is_modify) {
+        std::string reply(front());
+        reply.append(weltiyo_refusal_word(told.status)).append("\",");
+        if (!column.empty())
+            reply.append("\"column\":\"").append(column).append("\",");
+        const bool is_lost = told.status == WELTIYO_REFUSED_LOST, is_unique = is_lost || told.status == WELTIYO_REFUSED_UNIQUE;
+        if (is_unique)
+            reply += "\"id\":" + std::to_string(told.number) + ',';
+        if (!index.empty())
+            reply.append("\"index\":\"").append(index).append("\",");
+        if (is_unique && is_modify)
+            reply.append("\"lost\":").append(is_lost ? "true," : "false,");
+        return reply + "\"ok\":false}";
+    }
+
     std::string word_;
     weltiyo_told told_{};
     std::optional<std::size_t> column_;
+    std::string column_name_, index_name_;
 };
 
 // A value of a row: a whole number, a text, true or false.
@@ -487,6 +512,7 @@ private:
 };
 
 class Session;
+template <class Struct> class Table;
 
 class Database {
 public:
@@ -610,6 +636,10 @@ public:
     void relocate(std::size_t table, std::size_t index, std::uint64_t id, std::optional<std::uint64_t> before = {}, std::uint64_t connection = own) {
         well(weltiyo_relocate(handle(), connection, table, index, id, before.has_value(), before.value_or(0)));
     }
+
+    // A table whose rows are a struct, with the name of a column for each member: weltiyo_tables.hpp defines it. Throws Refused, with the name of the
+    // column that isn't there or is of another type.
+    template <class Struct> Table<Struct> table(std::string_view name, std::initializer_list<std::string_view> columns);
 
     // The number of the table, of its index or its column of a name. Throws Refused, with the word `table`, `index` or `row`, where none has it.
     std::size_t table(std::string_view name) { return well(weltiyo_table(handle(), some(name), name.size())); }

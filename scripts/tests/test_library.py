@@ -27,11 +27,12 @@ PASSED = {
     "&mut [u64]": ["uint64_t *", "size_t"],
     "i64": ["int64_t"],
     "Told": ["weltiyo_told"],
+    "Field": ["weltiyo_field"],
 }
 """What C passes for a parameter of an export."""
 
 EXPORT = re.compile(r'#\[unsafe\(no_mangle\)\]\s+pub (?:unsafe )?extern "C" fn (\w+)\(([^)]*)\)(?: -> (\w+))?')
-PROTOTYPE = re.compile(r"^(uint32_t|size_t|void|weltiyo_told) (weltiyo_\w+)\(([^)]*)\);", re.M)
+PROTOTYPE = re.compile(r"^(uint32_t|size_t|void|weltiyo_told|weltiyo_field) (weltiyo_\w+)\(([^)]*)\);", re.M)
 
 
 def read(path):
@@ -58,7 +59,7 @@ def prototypes():
 
 class Agree(unittest.TestCase):
     def test_the_header_has_the_exports(self):
-        self.assertEqual(len(exports()), 33)
+        self.assertEqual(len(exports()), 43)
         self.assertEqual(prototypes(), exports())
 
     def test_the_map_has_the_exports(self):

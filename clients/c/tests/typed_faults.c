@@ -1,6 +1,6 @@
 /* Each request for memory that the calls with values make is refused in turn, and then every one that a call makes. A call may tell
    WELTIYO_REFUSED_MEMORY for that alone, and called again it tells what it tells where nothing is refused: so a refusal has changed nothing. A
-   size, a get, a rank, an nth, an undo, a squash, a commit, an undo_all and a push are never refused so.
+   size, a get, a rank, an nth, a step, a text, a seek of a number, an undo, a squash, a commit, an undo_all and a push are never refused so.
 
    It is linked with the archive and -Wl,--wrap=malloc,--wrap=realloc, so that the requests of the library, and of nothing else, come here. */
 #include <inttypes.h>
@@ -9,7 +9,7 @@
 #include <string.h>
 #include <weltiyo.h>
 
-enum { CALLS = 480 };
+enum { CALLS = 480, LOOK_UPS = 12 };
 
 static long requests, refused, refuse_at, refuse_all;
 static weltiyo_db *db;
@@ -47,7 +47,7 @@ static weltiyo_told look_up(int n) {
     const weltiyo_value key[] = {{WELTIYO_INT, n * 7919 % 101, 0, 0}, {WELTIYO_TEXT, 0, 0, (size_t)((n - 1) % 150)}};
     char owner[150]; /* (of the row that came last) */
     memset(owner, 'a' + (n - 1) % 26, sizeof owner);
-    switch (n / 12 % 8) {
+    switch (n / 12 % LOOK_UPS) {
     case 0: return weltiyo_get(db, 0, id_of(2), page_rows, 90, page_texts, sizeof page_texts);
     case 1: return weltiyo_find(db, 0, 1, key + 1, 1, owner, sizeof owner, page_rows, 90, page_texts, sizeof page_texts);
     case 2: return weltiyo_nth(db, 0, 2, 2, page_rows, 90, page_texts, sizeof page_texts);
@@ -55,6 +55,10 @@ static weltiyo_told look_up(int n) {
     case 4: return weltiyo_rank(db, 0, 2, id_of(1));
     case 5: return weltiyo_lower_rank(db, 0, 2, key, 1, texts, 0);
     case 6: return weltiyo_upper_rank(db, 0, 2, key, 1, texts, 0);
+    case 7: return weltiyo_seek_id(db, 0, 2, key, 1, texts, 0, (uint32_t)(n % 2));
+    case 8: return weltiyo_find_id(db, 0, 1, key + 1, 1, owner, sizeof owner);
+    case 9: return weltiyo_step_id(db, 0, 5, id_of(1), (uint32_t)(n % 2));
+    case 10: return weltiyo_text_in(db, 0, id_of(1), 0, page_texts, sizeof page_texts);
     default: return weltiyo_size(db, 0);
     }
 }
@@ -77,8 +81,8 @@ static weltiyo_told change(int n, const weltiyo_value *row, size_t length) {
 }
 
 static int takes_none(int n) {
-    static const int looks[] = {1, 0, 1, 0, 1, 0, 0, 1};
-    return n % 12 == 9 || n % 12 == 11 || (n % 12 == 5 && looks[n / 12 % 8]);
+    static const int looks[LOOK_UPS] = {1, 0, 1, 0, 1, 0, 0, 1, 0, 1, 1, 1};
+    return n % 12 == 9 || n % 12 == 11 || (n % 12 == 5 && looks[n / 12 % LOOK_UPS]);
 }
 
 /* The call of a number: rows come in, are changed, replaced and erased in sessions, which are undone, squashed, committed and let go of. */

@@ -5,6 +5,7 @@
 #include <cstdio>
 #include <cstdlib>
 #include <cstring>
+#include <iterator>
 #include <map>
 #include <set>
 #include <string>
@@ -272,5 +273,119 @@ weltiyo_told weltiyo_list(weltiyo_db *handle, size_t, size_t, uint32_t, uint64_t
     weltiyo_told page = copied(shown, bytes, ids, rows, static_cast<char *>(texts));
     page.index = shown.size() < handle->table.size();
     return page;
+}
+
+// (both indexes list the rows in the order of their ids)
+static weltiyo_told at(const weltiyo_db *handle, Table::const_iterator it) {
+    return it == handle->table.end() ? refused(WELTIYO_END) : told(it->first);
+}
+
+weltiyo_told weltiyo_first_id(weltiyo_db *handle, size_t, size_t index) {
+    OPEN(handle);
+    return index == 0 ? at(handle, handle->table.begin()) : refused(WELTIYO_REFUSED_KIND);
+}
+
+weltiyo_told weltiyo_last_id(weltiyo_db *handle, size_t, size_t index) {
+    OPEN(handle);
+    if (index != 0)
+        return refused(WELTIYO_REFUSED_KIND);
+    return at(handle, handle->table.empty() ? handle->table.end() : std::prev(handle->table.end()));
+}
+
+weltiyo_told weltiyo_at_rank_id(weltiyo_db *handle, size_t, size_t index, uint64_t n) {
+    OPEN(handle);
+    if (index != 0)
+        return refused(WELTIYO_REFUSED_KIND);
+    return n < handle->table.size() ? told(std::next(handle->table.begin(), static_cast<std::ptrdiff_t>(n))->first) : refused(WELTIYO_END);
+}
+
+weltiyo_told weltiyo_seek_id(weltiyo_db *handle, size_t, size_t index, const weltiyo_value *key, size_t, const void *texts, size_t, uint32_t beyond) {
+    OPEN(handle);
+    NOT_NULL(key);
+    NOT_NULL(texts);
+    if (index != 0)
+        return refused(WELTIYO_REFUSED_KIND);
+    const auto id = static_cast<uint64_t>(std::max<int64_t>(key->integer, 0));
+    return at(handle, beyond ? handle->table.upper_bound(id) : handle->table.lower_bound(id));
+}
+
+weltiyo_told weltiyo_find_id(weltiyo_db *handle, size_t, size_t, const weltiyo_value *key, size_t, const void *texts, size_t) {
+    OPEN(handle);
+    NOT_NULL(key);
+    NOT_NULL(texts);
+    const std::string text(weltiyo_text(texts, key), key->length);
+    return at(handle, std::find_if(handle->table.begin(), handle->table.end(), [&](const auto &it) { return it.second.text == text; }));
+}
+
+weltiyo_told weltiyo_has_id(weltiyo_db *handle, size_t, uint64_t id) {
+    OPEN(handle);
+    return handle->table.count(id) == 0 ? refused(WELTIYO_GONE) : told(id);
+}
+
+weltiyo_told weltiyo_step_id(weltiyo_db *handle, size_t, size_t, uint64_t id, uint32_t back) {
+    OPEN(handle);
+    const auto it = handle->table.find(id);
+    if (it == handle->table.end())
+        return refused(WELTIYO_GONE);
+    if (back)
+        return it == handle->table.begin() ? refused(WELTIYO_END) : told(std::prev(it)->first);
+    return at(handle, std::next(it));
+}
+
+weltiyo_field weltiyo_field_of(weltiyo_db *handle, size_t, uint64_t id, size_t column) {
+    OPEN(handle);
+    const auto it = handle->table.find(id);
+    if (it == handle->table.end())
+        return {WELTIYO_GONE, 0, 0};
+    if (column > 2)
+        return {WELTIYO_REFUSED_ROW, 0, 0};
+    if (column == 1)
+        return {0, WELTIYO_INT, it->second.number};
+    return {0, static_cast<uint32_t>(column == 0 ? WELTIYO_TEXT : it->second.flag ? WELTIYO_TRUE : WELTIYO_FALSE), 0};
+}
+
+// a text to the front of bytes, if there is room
+static weltiyo_told put(const std::string &text, void *out, size_t room) {
+    if (room < text.size())
+        return {WELTIYO_NO_ROOM, 1, text.size()};
+    std::memcpy(out, text.data(), text.size());
+    return told(text.size());
+}
+
+weltiyo_told weltiyo_text_in(weltiyo_db *handle, size_t, uint64_t id, size_t column, void *out, size_t room) {
+    OPEN(handle);
+    NOT_NULL(out);
+    const auto it = handle->table.find(id);
+    if (it == handle->table.end())
+        return refused(WELTIYO_GONE);
+    return column == 0 ? put(it->second.text, out, room) : refused(WELTIYO_REFUSED_ROW);
+}
+
+weltiyo_told weltiyo_index_name(weltiyo_db *handle, size_t, size_t index, void *out, size_t room) {
+    OPEN(handle);
+    NOT_NULL(out);
+    return index < 2 ? put(index == 0 ? "id" : "by_owner", out, room) : refused(WELTIYO_REFUSED_INDEX);
+}
+
+// (a page of a stand-in has no rows)
+weltiyo_told weltiyo_range(weltiyo_db *handle, size_t, size_t, uint32_t, const weltiyo_value *, size_t, uint32_t, const weltiyo_value *, size_t,
+                           const void *, size_t, uint32_t, uint64_t *, size_t, weltiyo_value *, size_t, void *, size_t) {
+    OPEN(handle);
+    return refused(WELTIYO_REFUSED_KIND);
+}
+
+weltiyo_told weltiyo_rank(weltiyo_db *handle, size_t, size_t index, uint64_t id) {
+    OPEN(handle);
+    if (index != 0)
+        return refused(WELTIYO_REFUSED_KIND);
+    const auto it = handle->table.find(id);
+    return it == handle->table.end() ? refused(WELTIYO_GONE) : told(static_cast<uint64_t>(std::distance(handle->table.begin(), it)));
+}
+
+weltiyo_told weltiyo_erase(weltiyo_db *handle, uint64_t connection, size_t, uint64_t id) {
+    OPEN(handle);
+    if (is_kept_out(handle, connection))
+        return refused(WELTIYO_REFUSED_BUSY);
+    return handle->table.erase(id) == 0 ? refused(WELTIYO_REFUSED_ID) : told(0);
 }
 }

@@ -26,9 +26,11 @@
 //! thread that opened it, so it is neither `Send` nor `Sync`.
 mod page;
 mod raw;
+mod scan;
 mod sessions;
 
 pub use page::{Page, Row, Rows};
+pub use scan::{FromColumn, Named, Scan, Seen};
 
 use sessions::Sessions;
 use std::cell::RefCell;
@@ -115,9 +117,9 @@ fn word_of(status: u32) -> &'static str {
 
 /// The word of a refusal of a call with values.
 fn refusal_of(status: u32) -> &'static str {
-    const WORDS: [&str; 20] = [
+    const WORDS: [&str; 21] = [
         "ok", "line", "json", "form", "busy", "table", "index", "kind", "row", "key", "id", "range", "full", "spent", "unique", "unique", "depth",
-        "session", "memory", "room",
+        "session", "memory", "room", "end",
     ];
     WORDS.get(status as usize).copied().unwrap_or("unknown")
 }

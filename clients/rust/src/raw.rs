@@ -48,10 +48,22 @@ pub(crate) struct Told {
     pub(crate) number: u64,
 }
 
-/// The statuses that are told apart here: there is no such row, a unique index refuses, and there is no room for what is answered.
+/// `weltiyo_field`.
+#[repr(C)]
+#[derive(Clone, Copy, Debug)]
+pub(crate) struct Field {
+    pub(crate) status: u32,
+    pub(crate) kind: u32,
+    pub(crate) integer: i64,
+}
+
+/// The statuses that are told apart here: there is no such column, or no such row, a unique index refuses, there is no room for what is answered, and
+/// no row is left.
+pub(crate) const REFUSED_ROW: u32 = 8;
 pub(crate) const REFUSED_ID: u32 = 10;
 pub(crate) const REFUSED_UNIQUE: u32 = 14;
 pub(crate) const NO_ROOM: u32 = 19;
+pub(crate) const END: u32 = 20;
 
 /// The most rows that a page has.
 pub(crate) const MOST_ROWS: usize = 1000;
@@ -130,4 +142,13 @@ extern "C" {
         handle: *mut Handle, table: usize, index: usize, has_after: u32, after: u64, ids: *mut u64, most: usize, rows: *mut Cell,
         values: usize, texts: *mut u8, room: usize,
     ) -> Told;
+    pub(crate) fn weltiyo_seek_id(
+        handle: *mut Handle, table: usize, index: usize, key: *const Cell, count: usize, texts: *const u8, length: usize, beyond: u32,
+    ) -> Told;
+    pub(crate) fn weltiyo_first_id(handle: *mut Handle, table: usize, index: usize) -> Told;
+    pub(crate) fn weltiyo_last_id(handle: *mut Handle, table: usize, index: usize) -> Told;
+    pub(crate) fn weltiyo_step_id(handle: *mut Handle, table: usize, index: usize, id: u64, back: u32) -> Told;
+    pub(crate) fn weltiyo_has_id(handle: *mut Handle, table: usize, id: u64) -> Told;
+    pub(crate) fn weltiyo_field_of(handle: *mut Handle, table: usize, id: u64, column: usize) -> Field;
+    pub(crate) fn weltiyo_text_in(handle: *mut Handle, table: usize, id: u64, column: usize, out: *mut u8, room: usize) -> Told;
 }

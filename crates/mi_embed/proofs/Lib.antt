@@ -4,5 +4,6 @@ pub mod ReadLemmas
 pub mod EditLemmas
 pub mod RowLemmas
 pub mod CallLemmas
+pub mod CursorLemmas
 mod AsLinesLaws
 mod LookedLaws

@@ -9,6 +9,7 @@ pub mod Calls
 pub mod Shown
 pub mod LookUps
 pub mod Named
+pub mod Cursors
 pub mod Pages
 pub mod AsLines
 pub mod Looked

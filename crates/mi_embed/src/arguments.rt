@@ -76,6 +76,18 @@ pub(crate) fn ranked_index(schema: &Schema, index: usize) -> Result<usize, Refus
     }
 }
 
+/// The number of any index but a hashed one. Refusals, in this order: `Index` and `Kind`.
+pub(crate) fn listed_index(schema: &Schema, index: usize) -> Result<usize, Refusal>
+    ensures number { result ≡ index_in kinds.shows_one_list schema.now index }
+    ensures there { IfOk result (λ i. (i ≡ index) × (i < length schema.now.indexes) × IsTrue (kinds.shows_one_list (index_at schema.now i).kind)) }
+{
+    if kind_of(schema, index)?.shows_one_list() {
+        Ok(index)
+    } else {
+        Err(Refusal::Kind)
+    }
+}
+
 /// The number of a sequenced index. Refusals, in this order: `Index` and `Kind`.
 pub(crate) fn sequenced_index(schema: &Schema, index: usize) -> Result<usize, Refusal>
     ensures number { result ≡ index_in kinds.is_sequenced schema.now index }

@@ -3,6 +3,7 @@ ghost use Rattle.std.specs.Prelude.{◌≡◌};
 ghost use Rattle.mi_protocol.specs.Replies.{said};
 ghost use Rattle.mi_embed.specs.CallResults as meaning;
 ghost use Rattle.mi_embed.specs.CallResults.{told_of, number_told};
+ghost use Rattle.mi_embed.specs.Cursors.{cursor_told};
 
 use mi_protocol::Reply;
 use mi_value::Refusal;
@@ -10,11 +11,15 @@ use mi_value::Refusal;
 /// Where there is no room for what is answered.
 const ROOM: u32 = 19;
 
+/// Where no record is left in the direction that was asked.
+const END: u32 = 20;
+
 /// The answer of a call.
 #[repr(C)]
 #[derive(Clone, Copy, Debug, Drop)]
 pub struct CallResult {
-    /// 0 where the call was accepted, 1 to 18 why it was refused, in the order of `Refusal`, and 19 where there is no room for its answer.
+    /// 0 where the call was accepted, 1 to 18 why it was refused, in the order of `Refusal`, 19 where there is no room for its answer, and 20 where a
+    /// cursor is at the end.
     pub status: u32,
     /// Of a conflict the number of the index; of a page 1 where others remain, and else 0; of an answer without room the cells that it wants.
     pub index: u32,
@@ -31,7 +36,7 @@ fn in_32(n: usize) -> u32
 }
 
 /// The number of a refusal.
-fn refusal_number(refusal: Refusal) -> u32
+pub(crate) fn refusal_number(refusal: Refusal) -> u32
     ensures { result ≡ meaning.refusal_number refusal }
 {
     match refusal {
@@ -111,6 +116,21 @@ impl CallResult {
     {
         match answer {
             Ok(number) => CallResult::accepted(number),
+            Err(refusal) => CallResult::refused(refusal),
+        }
+    }
+
+    /// The id that was looked for, the end where there is none, or why it isn't answered.
+    pub fn cursor(answer: Result<Option<u64>, Refusal>) -> CallResult
+        ensures { result ≡ cursor_told answer }
+    {
+        match answer {
+            Ok(Some(id)) => CallResult::accepted(id),
+            Ok(None) => CallResult {
+                status: END,
+                index: 0,
+                number: 0,
+            },
             Err(refusal) => CallResult::refused(refusal),
         }
     }

@@ -11,6 +11,7 @@ ghost use Rattle.mi_embed.specs.Opening.{IsOpened};
 ghost use Rattle.mi_embed.specs.State.{EngineState, line_of, IsCopied};
 ghost use Rattle.weltiyo.specs.Handle.{engine_at, engine_where, TellsOpening};
 
+mod cursors;
 mod look_ups;
 mod names;
 mod opened;

@@ -1,0 +1,19 @@
+-- The engine at the pointer is lent to `id_found` for the call, and lies there again as it was.
+use Rattle.std.proofs.Common.{[], ◌∷◌, w64}
+use denote.Builtin.{u8}
+use Rattle.mi_embed.specs.contracts.cell.Cell.{the_row as Cell}
+use Rattle.mi_embed.specs.contracts.call_result.CallResult.{the_row as CallResult}
+use Rattle.mi_embed.proofs.call_result.CallResult.TheLaws as told_laws
+use Rattle.weltiyo.specs.contracts.cursors.weltiyo_find_id as f
+use Rattle.weltiyo.proofs.cursors.weltiyo_find_id.Statement.{statement}
+use Rattle.weltiyo.proofs.cursors.weltiyo_find_id.Code as code
+use Rattle.weltiyo.specs.contracts.cursors.id_found as g
+use Rattle.weltiyo.proofs.cursors.id_found.Met.{met}
+use Rattle.weltiyo.proofs.Args.{number, slice}
+use Rattle.weltiyo.proofs.Forwards.{forwards_four}
+use Rattle.weltiyo.proofs.Lent.{lent, stays}
+
+pub weltiyo_find_id_spec : {M : Type 1} → statement M
+weltiyo_find_id_spec 𝓤 𝓛 𝓜 𝓡 wired =
+    lent 𝓛 𝓜 𝓡 2 (number w64 ∷ number w64 ∷ slice Cell tt 0 tt ∷ slice u8 tt 1 tt ∷ []) CallResult (λ κs a. (f.clauses 𝓛 𝓜.mem 𝓡.returns κs a).ensures) (λ κs a. (g.clauses 𝓛 𝓜.mem 𝓡.returns κs a).ensures) (told_laws.the_row_laws.lawful 𝓛)
+    _ code.function (code.unfolded 𝓤 𝓛.H 𝓜 𝓡 wired) _ (met 𝓤 𝓛 𝓜 𝓡 (code.calls-weltiyo::cursors::id_found 𝓡.env wired)) (λ κs a. forwards_four 𝓛 𝓜 𝓡 code.function _ _ _ _ _ _ _ _) (λ κs α a loan r w ws p. stays 𝓛 _ _ _ _)
