@@ -1,5 +1,5 @@
 -- The code of an export: the pointer is made a reference, and handed to the safe function with the other arguments as they came. There is a walk for each number of these, whatever their types. Assumes `Logic`.
--- Cited by `look_ups::weltiyo_count`, `look_ups::weltiyo_lower_rank`, `look_ups::weltiyo_rank`, `look_ups::weltiyo_size` and 19 more.
+-- Cited by `cursors::weltiyo_at_rank_id`, `cursors::weltiyo_field_of`, `cursors::weltiyo_find_id`, `cursors::weltiyo_first_id` and 27 more.
 use Rattle.std.proofs.Common.{[], ◌∷◌, refl}
 use seplogic.Ra.Ura.{Ura}
 use mir.Syntax.{Ty, ty_ptr, ty_ref, erased, mut, Local, local, value_local, Fn, Callee, place, copy, assign, seq, call, return, rv_opd, addr_of, deref}
