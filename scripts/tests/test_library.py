@@ -26,7 +26,7 @@ PASSED = {
     "&[EditCell]": ["const weltiyo_edit *", "size_t"],
     "&mut [u64]": ["uint64_t *", "size_t"],
     "i64": ["int64_t"],
-    "Told": ["weltiyo_told"],
+    "CallResult": ["weltiyo_told"],
     "Field": ["weltiyo_field"],
 }
 """What C passes for a parameter of an export."""
@@ -72,7 +72,7 @@ class Agree(unittest.TestCase):
         numbered = header[header.index("typedef enum weltiyo_refusal"):header.index("} weltiyo_refusal;")]
         for name, n in re.findall(r"WELTIYO_(?:REFUSED_|NO_)(\w+) = (\d+)", numbered):
             self.assertEqual(words[int(n)], {"lost": "unique"}.get(name.lower(), name.lower()))
-        refusals = dict(re.findall(r"Refusal::(\w+)(?: { \.\. })? => (\d+)", read("crates/mi_embed/src/told.rt")))
+        refusals = dict(re.findall(r"Refusal::(\w+)(?: { \.\. })? => (\d+)", read("crates/mi_embed/src/call_result.rt")))
         self.assertEqual(sorted(map(int, refusals.values())), list(range(1, 19)))
         self.assertEqual(int(refusals["NoTable"]), words.index("table"))
         self.assertEqual(int(refusals["Memory"]), words.index("memory"))
