@@ -30,7 +30,7 @@ broken_ended p is other = cc
 shut_open : (p : Phase) → shut p ≡ Open → ⊥
 shut_open Open e = cc
 shut_open Ended e = cc
-shut_open Asked e = cc
+shut_open Drained e = cc
 shut_open Broken e = cc
 
 pub other_some : (line : List ℕ) → ¬ (line ≡ []) → is_other line ≡ not (is_service line)

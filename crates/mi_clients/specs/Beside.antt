@@ -26,7 +26,7 @@ is_other (b ∷ bs) = not (is_service (b ∷ bs))
 abbrev pub shut : Phase → Phase
 shut Open = Ended
 shut Ended = Ended
-shut Asked = Asked
+shut Drained = Drained
 shut Broken = Broken
 
 -- Between old and new this line of it was answered: it is as far as it was, and where the line is none of the service's no more of it is read. Or
