@@ -13,7 +13,7 @@ use Rattle.weltiyo.specs.contracts.weltiyo_ask as f
 use Rattle.weltiyo.proofs.weltiyo_ask.Statement.{statement}
 use Rattle.weltiyo.proofs.weltiyo_ask.Code as code
 use Rattle.weltiyo.specs.contracts.asked as g
-use Rattle.weltiyo.proofs.arguments.Met.{met}
+use Rattle.weltiyo.proofs.asked.Met.{met}
 use Rattle.weltiyo.proofs.Args.{buffer, number, slice}
 use Rattle.weltiyo.proofs.Lent.{lent, changes_thrice, Asked, after}
 
