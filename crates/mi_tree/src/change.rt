@@ -65,7 +65,8 @@ pub(crate) fn take_first<T>(
         return (root, at.forth);
     };
     let mut nodes = no_nodes();
-    let (first, depth) = descend_first(p, slot, root, &mut nodes, START);
+    let mut first = root;
+    let depth = descend_first(p, slot, root, &mut first, &mut nodes, START);
     let link = p.link(first, slot);
     let high = height(p, slot, link.forth);
     let mut rest = Some(root);

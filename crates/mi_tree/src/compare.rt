@@ -1,7 +1,8 @@
 //! Comparisons by tags, and by values where tags don't decide.
 //! They read values through a counted pool, and no links: a caller has read those. It has also asked, once for its whole path
 //! down, whether the tag that it goes by decides.
-ghost use Rattle.std.specs.Prelude.{◌≡◌, ◌+◌, Some};
+ghost use Rattle.std.specs.Prelude.{◌≡◌, ◌+◌, ◌*◌, ◌^◌, Some};
+ghost use Rattle.std.specs.Ordering.{is_lt};
 ghost use Rattle.mi_node.specs.Pool.{IsHeld, value_of};
 ghost use Rattle.mi_tree.specs.Sorted.{IsTagOf, by_stamp, compared, stamped};
 ghost use Rattle.mi_tree.specs.Probed.{place_at, is_decided};
@@ -10,6 +11,9 @@ use crate::order::NodeOrder;
 use mi_node::{Counted, NodeRef, Pool, Tag};
 use mi_value::{Probe, Steps};
 use std::cmp::Ordering;
+
+/// How many stamps there are.
+const STAMPS: u128 = 0x1_0000_0000_0000_0000;
 
 /// Where the left node stands beside the right one: by the tags, or by the values if the left tag doesn't
 /// decide, and nodes of one key by their stamps.
@@ -48,6 +52,41 @@ pub(crate) fn compare_nodes<T, O: NodeOrder<T>>(
         right_tag.stamp,
         steps,
     )
+}
+
+/// Whether the left node stands before the right one. It is asked of nodes of which no two are alike: so where the left tag
+/// decides, both parts of the tags are compared at once.
+#[inline(always)]
+pub(crate) fn is_before<T, O: NodeOrder<T>>(
+    p: &Counted<T>,
+    order: &O,
+    left: NodeRef,
+    left_tag: Tag,
+    decided: bool,
+    right: NodeRef,
+    right_tag: Tag,
+    steps: &mut Steps,
+) -> bool
+    requires left { IsHeld p.now.pool left × IsTagOf (O.tag_of order.now) (value_of p.now.pool left.name) left_tag.key }
+    requires decided { decided ≡ O.is_exact order.now left_tag.key }
+    requires right { IsHeld p.now.pool right × IsTagOf (O.tag_of order.now) (value_of p.now.pool right.name) right_tag.key }
+    ensures result { result ≡ is_lt (compared (by_stamp (O.order order.now))
+        (stamped (value_of p.now.pool left.name) left_tag.stamp) (stamped (value_of p.now.pool right.name) right_tag.stamp)) }
+    ensures steps { steps.new.count ≡ steps.old.count + 1 }
+{
+    if decided {
+        steps.tick();
+        return number(left_tag).cmp(&number(right_tag)).is_lt();
+    }
+    compare_nodes(p, order, left, left_tag, decided, right, right_tag, steps).is_lt()
+}
+
+/// A tag as one number: its key, and behind that its stamp.
+#[inline(always)]
+fn number(tag: Tag) -> u128
+    ensures { result ≡ tag.key * 2 ^ 64 + tag.stamp }
+{
+    u128::from(tag.key) * STAMPS + u128::from(tag.stamp)
 }
 
 /// The same by the values, and by these stamps. On a path down most nodes differ by their tags, so this

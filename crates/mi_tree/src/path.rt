@@ -10,7 +10,7 @@ ghost use Rattle.mi_tree.specs.Joining.{IsBalanced};
 ghost use Rattle.mi_tree.specs.PathSteps.{path_steps, AreBits};
 
 use crate::balance::rotate;
-use crate::compare::compare_nodes;
+use crate::compare::{compare_nodes, is_before};
 use crate::order::NodeOrder;
 use crate::parts::{height, set_side};
 use crate::path_steps::{Depth, Nodes, PathStep};
@@ -49,7 +49,7 @@ pub(crate) fn descend_insert<T, O: NodeOrder<T>>(
         return depth;
     };
     let seen = p.link(here, slot);
-    let side = compare_nodes(
+    let left = is_before(
         &Counted::new(p),
         order,
         node,
@@ -59,7 +59,6 @@ pub(crate) fn descend_insert<T, O: NodeOrder<T>>(
         seen.tag,
         steps,
     );
-    let left = side.is_lt();
     let link = p.link(here, slot);
     let next = p.neighbour(here, slot, left);
     p.set_size(here, slot, link.size + 1);
@@ -123,27 +122,31 @@ pub(crate) fn descend_to<T, O: NodeOrder<T>>(
 }
 
 /// Goes down to the first node, and puts each node above it onto the path. Each gets a size that is one
-/// less: the first node is about to leave. That node.
+/// less: the first node is about to leave. `first` becomes that node.
+///
+/// It answers no pair, so that the compiler makes a loop of it.
 pub(crate) fn descend_first<T>(
     p: &mut Pool<T>,
     slot: usize,
     at: NodeRef,
+    first: &mut NodeRef,
     nodes: &mut Nodes,
     depth: Depth,
-) -> (NodeRef, Depth)
+) -> Depth
     requires slot { slot < p.old.slots }
     requires bits { AreBits nodes.old depth }
     requires way { (fs : List Frame) × (t : BinaryTree) × (x : Ref) × (ys : List Ref) × (vs : List Ref)
         × (ws : List Ref) × Sinks p.old slot (path_steps nodes.old depth) (Some at) fs t [] x ys vs ws }
     ensures slots { p.new.slots ≡ p.old.slots }
-    ensures bits { AreBits nodes.new result.1 }
+    ensures bits { AreBits nodes.new result }
     ensures way { (fs : List Frame) (t : BinaryTree) (x : Ref) (ys : List Ref) (vs : List Ref) (ws : List Ref)
         → Sinks p.old slot (path_steps nodes.old depth) (Some at) fs t [] x ys vs ws
-        → (result.0 ≡ x) × (gs : List Frame) × (B : BinaryTree) × HasSunk p.old p.new slot (path_steps nodes.new result.1) [] x ys vs ws (plug fs t) gs Tip B }
+        → (first.new ≡ x) × (gs : List Frame) × (B : BinaryTree) × HasSunk p.old p.new slot (path_steps nodes.new result) [] x ys vs ws (plug fs t) gs Tip B }
 {
     let link = p.link(at, slot);
     let Some(left) = link.back else {
-        return (at, depth);
+        *first = at;
+        return depth;
     };
     p.set_size(at, slot, link.size - 1);
     let path_step = PathStep {
@@ -151,7 +154,7 @@ pub(crate) fn descend_first<T>(
         left: true,
     };
     let deeper = depth.push(nodes, path_step);
-    descend_first(p, slot, left, nodes, deeper)
+    descend_first(p, slot, left, first, nodes, deeper)
 }
 
 /// The link with another child on that side.

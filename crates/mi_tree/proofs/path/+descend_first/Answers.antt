@@ -47,4 +47,4 @@ pub returns-clause-way : goal.returns-clause-way
 returns-clause-way g t c fs u x ys vs ws h =
     let on = next g t (goal.at.returns-clause-way g t c).After-push-deeper h in
     let far = c.descend_first.ensures.way on.gs on.sub x on.zs vs ws on.sinks in
-    (far.0, far.1, far.2, on.sunk c.descend_first.new.p (path_steps c.descend_first.new.nodes c.descend_first.result.1) far.1 Tip far.2 far.3)
+    (far.0, far.1, far.2, on.sunk c.descend_first.new.p (path_steps c.descend_first.new.nodes c.descend_first.result) far.1 Tip far.2 far.3)

@@ -28,16 +28,16 @@ module _ (g : Over) (t : ℕ) (c : After-push-deeper g t) where
       (path_steps c.push-deeper.new.nodes c.push-deeper.result) c.args.at c.neighbour-next.result c.args.node fs u
   next h =
       let side_found = side_read (g.O.NodeOrder.order c.args.order.now) c.args.slot c.args.node c.in-Some.here c.new.ensures.pool c.requires.tag
-      (ap (λ (k : Link). k.tag) c.link-seen.ensures) c.compare_nodes-side.ensures.result in
+      (ap (λ (k : Link). k.tag) c.link-seen.ensures) refl in
       next_fall (g.met.O.NodeOrder.total c.args.order.now) h c.in-Some.is refl (c.set_size.ensures ∙ ap (λ (z : Link). with_link c.args.p.now c.in-Some.here.name c.args.slot
-      (sized_link (z.size + 1) (link_of c.args.p.now c.in-Some.here.name c.args.slot))) c.link-link.ensures) side_found c.is_lt-left.ensures
+      (sized_link (z.size + 1) (link_of c.args.p.now c.in-Some.here.name c.args.slot))) c.link-link.ensures) side_found c.is_before-left.ensures.result
       c.push-deeper.ensures.items c.neighbour-next.ensures
 
 pub returns-in_default-clause-way : goal.returns-in_default-clause-way
 returns-in_default-clause-way g t c fs u h = (fs, fallen_none h c.in_default.is)
 
-pub compare_nodes-side-requires-clause-right : goal.compare_nodes-side-requires-clause-right
-compare_nodes-side-requires-clause-right g t c =
+pub is_before-left-requires-clause-right : goal.is_before-left-requires-clause-right
+is_before-left-requires-clause-right g t c =
     let v = c.args in let i = c.link-seen.ensures in
     let on = here_tagged (g.met.O.NodeOrder.total v.order.now) c.requires.way.2 c.in-Some.is i refl in
     tagged_read (g.O.NodeOrder.tag_of v.order.now) v.slot c.in-Some.here c.new.ensures.pool (ap (λ (k : Link). k.tag) i) on.0 on.1.0
