@@ -4,7 +4,7 @@ use Rattle.std.proofs.Common.{◌≡◌, ℕ, ◌+◌, ◌*◌, ◌^◌, ◌<◌
 use Rattle.std.specs.Cmp.{IsTotalOrder}
 use Rattle.std.specs.Ordering.{nat_cmp, ordering_then, ordering_reverse}
 use Rattle.std.specs.declared.cmp.Ordering.{Ordering}
-use Rattle.std.specs.declared.cmp.Ordering.TheVariants.{Less, Equal, Greater}
+use Rattle.std.specs.declared.cmp.Ordering.TheVariants.{Less, Greater}
 use Rattle.std.proofs.lemmas.Bool.Decides.{nat_tests}
 use Rattle.mi_tree.specs.Order.{IsTagBelow, IsExact, IsProbeBelow, IsProbeAbove}
 use Rattle.mi_tree.specs.Probed.{place_at}
@@ -17,25 +17,8 @@ less_cmp k l h = grind (arith, nat_tests)
 more_cmp : (k l : ℕ) → l < k → nat_cmp k l ≡ Greater
 more_cmp k l h = grind (arith, nat_tests)
 
-equal_cmp : (k l : ℕ) → k ≡ l → nat_cmp k l ≡ Equal
-equal_cmp k l h = grind (arith, nat_tests)
-
--- a key with a stamp behind it, as one number
-pub number_cmp : (k l i j : ℕ) → i < 2 ^ 64 → j < 2 ^ 64 → nat_cmp (k * 2 ^ 64 + i) (l * 2 ^ 64 + j) ≡ ordering_then (nat_cmp k l) (nat_cmp i j)
-number_cmp k l i j a b = elim (at_most_or_more k l) [
-  | inl le ↦ elim (at_most_or_more l k) [
-    | inl ge ↦
-        let same : k ≡ l = omega arith in
-        ap (λ z. nat_cmp (z * 2 ^ 64 + i) (l * 2 ^ 64 + j)) same ∙ behind l i j ∙ ap (λ o. ordering_then o (nat_cmp i j)) (sym (equal_cmp k l same))
-    | inr lt ↦
-        less_cmp (k * 2 ^ 64 + i) (l * 2 ^ 64 + j) (omega arith) ∙ ap (λ o. ordering_then o (nat_cmp i j)) (sym (less_cmp k l (omega arith)))
-  ]
-  | inr lt ↦
-      more_cmp (k * 2 ^ 64 + i) (l * 2 ^ 64 + j) (omega arith) ∙ ap (λ o. ordering_then o (nat_cmp i j)) (sym (more_cmp k l (omega arith)))
-]
-  where
-    behind : (l i j : ℕ) → nat_cmp (l * 2 ^ 64 + i) (l * 2 ^ 64 + j) ≡ nat_cmp i j
-    behind l i j = grind (arith, nat_tests)
+behind_cmp : (k l i j : ℕ) → k ≡ l → nat_cmp (k * 2 ^ 64 + i) (l * 2 ^ 64 + j) ≡ nat_cmp i j
+behind_cmp k l i j h = grind (arith, nat_tests)
 
 module _ {T : Type 0} (order : T → T → Ordering) (tag : T → ℕ) where
   pub at_values : (a b : Option T) (x y : T) (i j : ℕ) → a ≡ Some x → b ≡ Some y
@@ -66,23 +49,19 @@ module _ {T : Type 0} (order : T → T → Ordering) (tag : T → ℕ) where
       let p = key_of a x k e g in let q = key_of b y l f h in
       sym (at_values a b x y i j e f ∙ ap (λ o. ordering_then o (nat_cmp i j)) (law x y (ap exact (sym p) ∙ t) (sym p ∙ d ∙ q)))
 
-  -- tags of which the left one decides
-  pub by_tags : IsTotalOrder order → IsTagBelow order tag → (exact : ℕ → Bool) → IsExact order tag exact → (a b : Option T) (x y : T) (k l i j : ℕ)
-      → a ≡ Some x → b ≡ Some y → IsTagOf tag a k → IsTagOf tag b l → exact k ≡ true
-      → ordering_then (nat_cmp k l) (nat_cmp i j) ≡ compared (by_stamp order) (stamped a i) (stamped b j)
-  by_tags total below exact law a b x y k l i j e f g h d = elim (at_most_or_more k l) [
-    | inl le ↦ elim (at_most_or_more l k) [
-      | inl ge ↦
-          let same : k ≡ l = omega arith in
-          ap (λ o. ordering_then o (nat_cmp i j)) (equal_cmp k l same) ∙ by_stamps exact law a b x y k l i j e f g h same d
-      | inr lt ↦
-          let is = less_cmp k l (omega arith) in
-          ap (λ o. ordering_then o (nat_cmp i j)) is ∙ sym is ∙ by_key total below a b x y k l i j e f g h (λ s. (let t : k ≡ l = s in absurd (omega arith)))
-    ]
-    | inr lt ↦
-        let is = more_cmp k l (omega arith) in
-        ap (λ o. ordering_then o (nat_cmp i j)) is ∙ sym is ∙ by_key total below a b x y k l i j e f g h (λ s. (let t : k ≡ l = s in absurd (omega arith)))
-  ]
+  -- tags as numbers, the key with the stamp behind it, where the left key decides
+  pub by_number : IsTotalOrder order → IsTagBelow order tag → (exact : ℕ → Bool) → IsExact order tag exact → (a b : Option T) (x y : T) (k l i j : ℕ)
+      → a ≡ Some x → b ≡ Some y → IsTagOf tag a k → IsTagOf tag b l → i < 2 ^ 64 → j < 2 ^ 64 → exact k ≡ true
+      → nat_cmp (k * 2 ^ 64 + i) (l * 2 ^ 64 + j) ≡ compared (by_stamp order) (stamped a i) (stamped b j)
+  by_number total below exact law a b x y k l i j e f g h p q d =
+      let differ : (k ≡ l → ⊥) → nat_cmp k l ≡ compared (by_stamp order) (stamped a i) (stamped b j) = by_key total below a b x y k l i j e f g h in
+      elim (at_most_or_more k l) [
+        | inl le ↦ elim (at_most_or_more l k) [
+          | inl ge ↦ let same : k ≡ l = omega arith in behind_cmp k l i j same ∙ by_stamps exact law a b x y k l i j e f g h same d
+          | inr lt ↦ less_cmp (k * 2 ^ 64 + i) (l * 2 ^ 64 + j) (omega arith) ∙ sym (less_cmp k l (omega arith)) ∙ differ (λ s. (let t : k ≡ l = s in absurd (omega arith)))
+        ]
+        | inr lt ↦ more_cmp (k * 2 ^ 64 + i) (l * 2 ^ 64 + j) (omega arith) ∙ sym (more_cmp k l (omega arith)) ∙ differ (λ s. (let t : k ≡ l = s in absurd (omega arith)))
+      ]
 
   -- a probe's tag is another
   pub by_probe : (place : T → Ordering) (probe : Option ℕ) → IsProbeBelow place tag probe → IsProbeAbove place tag probe
