@@ -66,7 +66,7 @@ impl Sub {
     }
 }
 
-/// Sets the node's link, by which it has two sides.
+/// Sets the node's link, by which it has two sides, but for its tag, which is right.
 pub(crate) fn set_fork<T>(p: &mut Pool<T>, slot: usize, x: NodeRef, link: Link)
     requires slot { slot < p.old.slots }
     requires parts { (A : BinaryTree) × (B : BinaryTree) × IsFork p.old slot x link A B }
@@ -75,7 +75,8 @@ pub(crate) fn set_fork<T>(p: &mut Pool<T>, slot: usize, x: NodeRef, link: Link)
     ensures keeps { Keeps p.old p.new slot (x ∷ []) }
     ensures tags { SameTags p.old p.new slot }
 {
-    p.set_link(x, slot, link);
+    let tag = p.link(x, slot).tag;
+    p.set_link(x, slot, Link { tag, ..link });
 }
 
 /// The node gets another side and another height. Its other side and its size are right.
