@@ -1,8 +1,7 @@
 -- What one edit changes: a key of its column, if it gives that another value, and no other key.
 -- Cited by `MultiIndex::changed_by_edits`.
-use Rattle.std.proofs.Common.{◌≡◌, ◌≢◌, ℕ, zero, suc, ℤ, pos, Bool, true, false, not, cond, List, [], ◌∷◌, map, slice_get, get_or, length, Option, Some, None, inl, inr, refl, ap, sym, ◌∙◌, arith}
-use Rattle.std.specs.Prelude.{◌+ℤ◌, ◌==◌, slice_set, if◌then◌else◌}
-use Rattle.std.specs.Bool.{Decides}
+use Rattle.std.proofs.Common.{◌≡◌, ◌≢◌, ℕ, zero, suc, ℤ, pos, Bool, true, false, not, cond, List, [], ◌∷◌, slice_get, get_or, length, Option, Some, None, inl, inr, refl, ap, sym, ◌∙◌, arith}
+use Rattle.std.specs.Prelude.{◌+ℤ◌, slice_set, if◌then◌else◌}
 use Rattle.std.specs.Option.{option_map, option_map_or, option_and_then}
 use Rattle.std.specs.Ordering.{is_eq, int_cmp, int_eq, ordering_reverse}
 use Rattle.std.specs.declared.cmp.Ordering.{Ordering}
@@ -17,7 +16,7 @@ use Rattle.mi_value.specs.declared.edit.Edit.{Edit}
 use Rattle.mi_value.specs.declared.edit.Edit.TheVariants.{Put, Add}
 use Rattle.mi_value.specs.declared.compare.KeyPart.{KeyPart}
 use Rattle.mi_value.specs.Edits.{fits_int, add_to, edited, apply, column_of}
-use Rattle.mi_value.specs.Order.{compare_missing, directed}
+use Rattle.mi_value.specs.Order.{compare_missing}
 use Rattle.mi_value.proofs.OrderLaws.{directed_total}
 use Rattle.mi_catalog.specs.declared.index.Index.{Index}
 use Rattle.mi_container.proofs.PairLemmas.{none_some, some_is}

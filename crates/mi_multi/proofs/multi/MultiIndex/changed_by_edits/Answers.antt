@@ -1,12 +1,10 @@
 -- The record that the edit changes is that of the row's node.
-use Rattle.std.proofs.Common.{◌≡◌, List, [], Some, length, ap, sym, ◌∙◌, arith}
+use Rattle.std.proofs.Common.{◌≡◌, [], Some, length, ap, sym, ◌∙◌, arith}
 use Rattle.std.specs.Option.{unwrap_or}
-use Rattle.mi_value.specs.declared.value.Value.{Value}
 use Rattle.mi_value.specs.Edits.{apply}
 use Rattle.mi_model.specs.Table.{row}
 use Rattle.mi_container.specs.Data.{as_table}
 use Rattle.mi_container.specs.declared.inverse.RowRef.{RowRef as Row}
-use Rattle.mi_multi.specs.Changed.{changed_keys}
 use Rattle.mi_multi.specs.Columns.{keys_with}
 use Rattle.mi_multi.proofs.EditMarkLemmas.{edit_marks, single}
 use Rattle.mi_multi.proofs.PutCallLemmas.{row_held, row_got, marks_are}
