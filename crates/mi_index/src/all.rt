@@ -33,6 +33,7 @@ pub(crate) struct Linking<'a> {
 }
 
 /// Puts a node into one structure, if it moves there.
+#[inline(always)]
 fn link_one(structure: &mut Structure, slot: usize, p: &mut Pool<Stored>, it: &Linking<'_>)
     requires { IsReady (pass.joining it.now.moves it.now.node it.now.stamp it.now.before) slot structure.old p.old }
     ensures step { IsStep (pass.joining it.now.moves it.now.node it.now.stamp it.now.before)
@@ -211,6 +212,7 @@ pub(crate) fn retag_all(
 }
 
 /// Puts a node into each structure in which it moves.
+#[inline(always)]
 pub(crate) fn link_all(structures: &mut [Structure], p: &mut Pool<Stored>, it: &Linking<'_>)
     requires { AreReady (pass.joining it.now.moves it.now.node it.now.stamp it.now.before) 0 structures.old p.old }
     ensures pass { IsPass (pass.joining it.now.moves it.now.node it.now.stamp it.now.before)
