@@ -3,7 +3,7 @@
 --     kept_stamped      the node has the stamp in the end
 --     flagged_as, flagged_past      what a flag says, and where there is none
 --     retagged_from      the node's links, seen from another pool
--- Cited by `Nodes::rekey`, `Nodes::rekey_back`, `all::+retag_all`, `all::keeps_one` and `RekeyLemmas`.
+-- Cited by `Nodes::rekey`, `Nodes::rekey_back`, `Structures::retag`, `all::+retag_all`, `all::keeps_one` and 2 more.
 use Rattle.std.proofs.Common.{◌≡◌, ◌↔◌, ℕ, zero, suc, ◌+◌, ◌<◌, ◌≤◌, ◌==◌, Bool, true, false, cond, List, [], ◌∷◌, ◌++◌, length, replicate, set}
 use Rattle.std.proofs.Common.{Option, Some, None, option_map, IsTrue, refl, sym, ap, ◌∙◌, subst, arith}
 use Rattle.std.specs.Cmp.Lexicographic.{pointwise}

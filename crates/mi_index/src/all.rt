@@ -80,6 +80,7 @@ fn place_of(
 }
 
 /// Puts a node back into one structure, if it moves there.
+#[inline(always)]
 fn relink_one(
     structure: &mut Structure,
     slot: usize,
@@ -241,6 +242,7 @@ pub(crate) fn unlink_all(
 }
 
 /// Puts a node back into each structure in which it moves.
+#[inline(always)]
 pub(crate) fn relink_all(
     structures: &mut [Structure],
     p: &mut Pool<Stored>,

@@ -146,6 +146,7 @@ impl Structures {
     }
 
     /// Sets the tags of a node in the structures in which it keeps its place, by the value that it has now. Takes no memory.
+    #[inline(always)]
     pub(crate) fn retag(
         &self,
         p: &mut Pool<Stored>,
@@ -167,6 +168,7 @@ impl Structures {
     }
 
     /// Puts a node back into each structure in which it moves. Takes no memory.
+    #[inline(always)]
     pub(crate) fn relink(&mut self, p: &mut Pool<Stored>, node: NodeRef, moves: &MovedIndexes<'_>)
         requires held { IsHeld p.old node }
         requires all { AreReady (pass.returning moves.now node) 0 self.old.items p.old }

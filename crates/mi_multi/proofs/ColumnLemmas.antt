@@ -1,5 +1,5 @@
 -- What the marks of the columns in which two records differ say of their keys.
--- Cited by `changed::key_changed`.
+-- Cited by `changed::key_changed` and `EditMarkLemmas`.
 use Rattle.std.proofs.Common.{◌≡◌, ℕ, ◌+◌, ◌<◌, zero, suc, Bool, true, false, not, List, [], ◌∷◌, ◌++◌, drop, length, get_or, slice_get, Some, None}
 use Rattle.std.proofs.Common.{refl, ap, sym, ◌∙◌}
 use Rattle.std.specs.Ordering.{is_eq, ordering_then}

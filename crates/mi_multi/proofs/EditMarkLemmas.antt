@@ -113,7 +113,7 @@ module _ (c : ℕ) (b : Bool) (old new : List Value)
   key_changes : (ps : List KeyPart) → is_changed ps old new ≡ cond b (has_column c ps) false
   key_changes [] = sym (never b)
   key_changes (p ∷ ps) = elim (eqb_tells p.column c) [
-    inl is ↦ part_here p ps (key_changes ps) b refl is.1 ∙ sym (ap (λ z. cond b (cond z true (has_column c ps)) false) is.0 ∙ once b)
+    | inl is ↦ part_here p ps (key_changes ps) b refl is.1 ∙ sym (ap (λ z. cond b (cond z true (has_column c ps)) false) is.0 ∙ once b)
     | inr isnt ↦ then_rest p.descending _ _ (same_value (slice_get old p.column) (slice_get new p.column) (others p.column (λ e. isnt.1 (sym e))))
         ∙ key_changes ps ∙ sym (ap (λ z. cond b (cond z true (has_column c ps)) false) isnt.0)
   ]
