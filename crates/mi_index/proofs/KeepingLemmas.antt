@@ -3,9 +3,12 @@
 --     kept_stamped      the node has the stamp in the end
 --     flagged_as, flagged_past      what a flag says, and where there is none
 --     retagged_from      the node's links, seen from another pool
--- Cited by `Nodes::rekey`, `Nodes::rekey_back`, `all::+retag_all`, `all::keeps_one` and `RekeyLemmas`.
-use Rattle.std.proofs.Common.{◌≡◌, ◌↔◌, ℕ, ◌+◌, ◌<◌, ◌≤◌, ◌==◌, Bool, true, false, cond, List, [], ◌∷◌, ◌++◌, length, set}
+-- Cited by `Nodes::rekey`, `Nodes::rekey_back`, `Structures::retag`, `all::+retag_all`, `all::keeps_one` and 2 more.
+use Rattle.std.proofs.Common.{◌≡◌, ◌↔◌, ℕ, zero, suc, ◌+◌, ◌<◌, ◌≤◌, ◌==◌, Bool, true, false, cond, List, [], ◌∷◌, ◌++◌, length, replicate, set}
 use Rattle.std.proofs.Common.{Option, Some, None, option_map, IsTrue, refl, sym, ap, ◌∙◌, subst, arith}
+use Rattle.std.specs.Cmp.Lexicographic.{pointwise}
+use Rattle.std.proofs.Math.Bool.{beq}
+use Rattle.std.proofs.lemmas.Bool.{false≢true}
 use Rattle.std.proofs.lemmas.List.{get_or-set_same, get_or-set_other, get_or_past}
 use Rattle.std.specs.declared.cmp.Ordering.{Ordering}
 use Rattle.mi_node.specs.Pool.{Pooled, value_of, link_of}
@@ -28,7 +31,7 @@ use Rattle.mi_index.specs.declared.moved_indexes.MovedIndexes.{MovedIndexes}
 use Rattle.mi_index.specs.declared.moved_indexes.MovedIndexes.TheVariants.{All, Marked, Placed}
 use Rattle.mi_index.specs.Pass.{Asks, AllStand, AllCan, AreReady}
 use Rattle.mi_index.specs.Passes.{IsSame, HasNodeIf}
-use Rattle.mi_index.specs.Keeping.{KeepsIts, IsFlagged, own_link, KeepsButLinks, AreRetagged, ArePlaced}
+use Rattle.mi_index.specs.Keeping.{KeepsIts, IsFlagged, own_link, retags, KeepsButLinks, AreRetagged, ArePlaced}
 use Rattle.mi_index.specs.declared.structure.Structure.{Structure}
 use Rattle.mi_index.specs.declared.structure.Structure.TheVariants.{Sorted}
 use Rattle.mi_index.proofs.LikeLemmas.{by_kind}
@@ -166,3 +169,22 @@ pub retagged_from : (stamps : ℕ → Option ℕ) (r : Ref) (v : Stored) (ys : L
 retagged_from stamps r v [] s n z o e h = tt
 retagged_from stamps r v (y ∷ ys) s n z o e h =
     (h.0 ∙ ap (own_link (stamps s) y v) (e s (omega arith)), retagged_from stamps r v ys (s + 1) n z o (λ t l. e t (omega arith)) h.1)
+
+-- No flag is set
+
+pub unset : (n : ℕ) (kept : List Bool) → pointwise beq kept (replicate n false) ≡ true → (s : ℕ) → mark_at kept s ≡ false
+unset zero [] h s = refl
+unset zero (k ∷ kept) h s = absurd (false≢true h)
+unset (suc n) [] h s = refl
+unset (suc n) (true ∷ kept) h s = absurd (false≢true h)
+unset (suc n) (false ∷ kept) h zero = refl
+unset (suc n) (false ∷ kept) h (suc s) = unset n kept h s
+
+-- then no link differs
+pub none_retagged : (kept : List Bool) → ((s : ℕ) → mark_at kept s ≡ false) → (stamps : ℕ → Option ℕ) (r : Ref) (v : Stored) (xs : List Structure) (s : ℕ) (m : Pooled Stored)
+    → AreRetagged (retags kept stamps) r v xs s m m
+none_retagged kept none stamps r v [] s m = tt
+none_retagged kept none stamps r v (x ∷ xs) s m = (
+  sym (ap (λ b. own_link (cond b (stamps s) None) x v (link_of m r.name s)) (none s)),
+  none_retagged kept none stamps r v xs (s + 1) m,
+)

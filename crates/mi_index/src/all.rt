@@ -33,6 +33,7 @@ pub(crate) struct Linking<'a> {
 }
 
 /// Puts a node into one structure, if it moves there.
+#[inline(always)]
 fn link_one(structure: &mut Structure, slot: usize, p: &mut Pool<Stored>, it: &Linking<'_>)
     requires { IsReady (pass.joining it.now.moves it.now.node it.now.stamp it.now.before) slot structure.old p.old }
     ensures step { IsStep (pass.joining it.now.moves it.now.node it.now.stamp it.now.before)
@@ -79,6 +80,7 @@ fn place_of(
 }
 
 /// Puts a node back into one structure, if it moves there.
+#[inline(always)]
 fn relink_one(
     structure: &mut Structure,
     slot: usize,
@@ -211,6 +213,7 @@ pub(crate) fn retag_all(
 }
 
 /// Puts a node into each structure in which it moves.
+#[inline(always)]
 pub(crate) fn link_all(structures: &mut [Structure], p: &mut Pool<Stored>, it: &Linking<'_>)
     requires { AreReady (pass.joining it.now.moves it.now.node it.now.stamp it.now.before) 0 structures.old p.old }
     ensures pass { IsPass (pass.joining it.now.moves it.now.node it.now.stamp it.now.before)
@@ -239,6 +242,7 @@ pub(crate) fn unlink_all(
 }
 
 /// Puts a node back into each structure in which it moves.
+#[inline(always)]
 pub(crate) fn relink_all(
     structures: &mut [Structure],
     p: &mut Pool<Stored>,

@@ -25,15 +25,11 @@ pub(crate) fn is_marked(marks: &[bool], slot: usize) -> bool
     }
 }
 
-/// Whether the mark of a number is set, and the flag isn't.
+/// Whether the mark of a number is set, and the flag isn't. The mark is asked first: most indexes have none.
 fn is_still_marked(marks: &[bool], kept: &[bool], slot: usize) -> bool
     ensures { result ≡ places.still_marked kept.now marks.now slot }
 {
-    if is_marked(kept, slot) {
-        false
-    } else {
-        is_marked(marks, slot)
-    }
+    is_marked(marks, slot) && !is_marked(kept, slot)
 }
 
 /// The place of a number, if there is one, and the flag isn't set.

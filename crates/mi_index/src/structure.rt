@@ -68,6 +68,7 @@ impl Structure {
 
     /// Puts a node in: by its key and this stamp, or in a list, which has no stamps, directly before `before`, or last
     /// where that is `None`. Takes no memory.
+    #[inline(always)]
     pub fn link(&mut self, p: &mut Pool<Stored>, node: NodeRef, stamp: u64, before: Option<NodeRef>)
         requires { IsReady (step.joining_one node stamp before) 0 self.old p.old }
         ensures step { IsStep (step.joining_one node stamp before) (step.joined_one node stamp before) node 0 self.old self.new p.old p.new }
@@ -96,6 +97,7 @@ impl Structure {
 
     /// Puts a node back to a place: in a tree by its key and the place's stamp, in chains and in a list between the
     /// neighbours that the place names. A list knows only the place that the node's own link names. Takes no memory.
+    #[inline(always)]
     pub fn relink(&mut self, p: &mut Pool<Stored>, node: NodeRef, place: OldPlace)
         requires { IsReady (step.returning_one node place) 0 self.old p.old }
         ensures step { IsStep (step.returning_one node place) (step.returned_one node place) node 0 self.old self.new p.old p.new }

@@ -1,10 +1,10 @@
 //! The structures of all indexes of one table, and for how many nodes each of them has room: so where a node comes in and
 //! nothing has to grow, one comparison says so. It knows no values of nodes.
-ghost use Rattle.std.specs.Prelude.{◌≡◌, ◌<◌, ◌≤◌, ◌^◌, Some, List as Seq, length, IfOk, slice_get};
+ghost use Rattle.std.specs.Prelude.{◌≡◌, ℕ, ◌<◌, ◌≤◌, ◌^◌, true, false, Some, List as Seq, length, IfOk, slice_get};
 ghost use Rattle.mi_node.specs.Pool.{IsHeld, value_of};
 ghost use Rattle.mi_node.specs.Refs.{Ref};
 ghost use Rattle.mi_order.specs.declared.stored.Stored.{Stored as Value};
-ghost use Rattle.mi_index.specs.Places.{stamp_for};
+ghost use Rattle.mi_index.specs.Places.{stamp_for, mark_at};
 ghost use Rattle.mi_index.specs.Pass.{AllStand, AllCan, AreReady, IsPass, AllLike, AllRoomy};
 ghost use Rattle.mi_index.specs.Keeping as keep;
 ghost use Rattle.mi_index.specs.Passes as pass;
@@ -56,6 +56,13 @@ fn room_for(n: u64) -> u64
     }
 }
 
+/// Whether no flag is set.
+fn keeps_none(kept: &[bool; FLAGS]) -> bool
+    ensures { result ≡ true → (s : ℕ) → mark_at kept.now s ≡ false }
+{
+    *kept == [false; FLAGS]
+}
+
 impl Structures {
     /// A structure for each index of a table with these columns, without nodes; hashed ones have the secret. Where memory is
     /// refused there are none.
@@ -90,7 +97,8 @@ impl Structures {
         &self.items[index]
     }
 
-    /// Puts a node into each structure in which it moves. Takes no memory.
+    /// Puts a node into each structure in which it moves. Takes no memory. In line, so that of all indexes none is asked whether it moves.
+    #[inline(always)]
     pub(crate) fn link(&mut self, p: &mut Pool<Stored>, it: &Linking<'_>)
         requires { AreReady (pass.joining it.now.moves it.now.node it.now.stamp it.now.before) 0 self.old.items p.old }
         ensures pass { IsPass (pass.joining it.now.moves it.now.node it.now.stamp it.now.before)
@@ -138,13 +146,14 @@ impl Structures {
     }
 
     /// Sets the tags of a node in the structures in which it keeps its place, by the value that it has now. Takes no memory.
+    #[inline(always)]
     pub(crate) fn retag(
         &self,
         p: &mut Pool<Stored>,
         node: NodeRef,
         moves: &MovedIndexes<'_>,
         stamp: u64,
-        kept: &[bool],
+        kept: &[bool; FLAGS],
     )
         requires held { IsHeld p.old node }
         requires placed { keep.ArePlaced self.now.items 0 p.old }
@@ -152,10 +161,14 @@ impl Structures {
         ensures own { (v : Value) → value_of p.old node.name ≡ Some v
             → keep.AreRetagged (keep.retags kept.now (λ s. stamp_for moves.now s stamp)) node v self.now.items 0 p.old p.new }
     {
+        if keeps_none(kept) {
+            return;
+        }
         retag_all(self.items.as_slice(), 0, p, node, moves, stamp, kept);
     }
 
     /// Puts a node back into each structure in which it moves. Takes no memory.
+    #[inline(always)]
     pub(crate) fn relink(&mut self, p: &mut Pool<Stored>, node: NodeRef, moves: &MovedIndexes<'_>)
         requires held { IsHeld p.old node }
         requires all { AreReady (pass.returning moves.now node) 0 self.old.items p.old }

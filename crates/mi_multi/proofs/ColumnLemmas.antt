@@ -1,5 +1,5 @@
 -- What the marks of the columns in which two records differ say of their keys.
--- Cited by `changed::key_changed`.
+-- Cited by `changed::key_changed` and `EditMarkLemmas`.
 use Rattle.std.proofs.Common.{◌≡◌, ℕ, ◌+◌, ◌<◌, zero, suc, Bool, true, false, not, List, [], ◌∷◌, ◌++◌, drop, length, get_or, slice_get, Some, None}
 use Rattle.std.proofs.Common.{refl, ap, sym, ◌∙◌}
 use Rattle.std.specs.Ordering.{is_eq, ordering_then}
@@ -26,14 +26,14 @@ get_in_front [] ys k b h = absurd (let bad : None ≡ Some b = h in cc)
 get_in_front (x ∷ xs) ys zero b h = h
 get_in_front (x ∷ xs) ys (suc k) b h = get_in_front xs ys k b h
 
-then_differs : (d : Bool) (o q : Ordering) → not (is_eq o) ≡ true → not (is_eq (ordering_then (directed d o) q)) ≡ true
+pub then_differs : (d : Bool) (o q : Ordering) → not (is_eq o) ≡ true → not (is_eq (ordering_then (directed d o) q)) ≡ true
 then_differs true Less q h = refl
 then_differs false Less q h = refl
 then_differs d Equal q h = absurd (false≢true h)
 then_differs true Greater q h = refl
 then_differs false Greater q h = refl
 
-then_rest : (d : Bool) (o q : Ordering) → not (is_eq o) ≡ false → not (is_eq (ordering_then (directed d o) q)) ≡ not (is_eq q)
+pub then_rest : (d : Bool) (o q : Ordering) → not (is_eq o) ≡ false → not (is_eq (ordering_then (directed d o) q)) ≡ not (is_eq q)
 then_rest d Less q h = absurd (false≢true (sym h))
 then_rest true Equal q h = refl
 then_rest false Equal q h = refl

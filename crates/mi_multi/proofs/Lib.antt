@@ -38,6 +38,7 @@ pub mod OldRecordPlaceLemmas
 pub mod TakeBackPutLemmas
 pub mod ChangedLemmas
 pub mod ColumnLemmas
+pub mod EditMarkLemmas
 pub mod UniqueLemmas
 pub mod ConflictLemmas
 pub mod ReplaceLemmas

@@ -1,5 +1,5 @@
 -- What the calls that put another record ask and answer, by what contracts see of the container.
--- Cited by `MultiIndex::changed_by`, `MultiIndex::edited`, `MultiIndex::live_row`, `MultiIndex::modify` and 5 more.
+-- Cited by `MultiIndex::changed_by`, `MultiIndex::changed_by_edits`, `MultiIndex::edited`, `MultiIndex::live_row` and 6 more.
 use Rattle.std.proofs.Common.{◌≡◌, ℕ, ◌+◌, ◌^◌, ◌<◌, Bool, true, false, not, List, ◌++◌, ◌∷◌, length, slice_get, refl, ap, sym, ◌∙◌, subst}
 use Rattle.std.specs.Ordering.{is_eq}
 use Rattle.std.specs.FinMap.{get}

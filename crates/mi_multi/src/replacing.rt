@@ -84,18 +84,20 @@ impl MultiIndex {
     }
 
     /// Sets the record that a modify made for a live row, unless a unique index refuses it: then with `rollback` nothing
-    /// changes, and without it the row is erased. Takes no memory.
+    /// changes, and without it the row is erased. The indexes in which its key changes are marked. Takes no memory.
     fn modify_to(
         &mut self,
         id: u64,
         node: NodeRef,
         row: Record,
+        marks: &[bool],
         rollback: bool,
         noted: bool,
         laid: &mut OldPlaces,
     ) -> Result<Step, Refusal>
         requires there { has_row (as_table self.old.plain) id ≡ true }
         requires live { IsLive self.old.plain.rows (record { id = id; at = node }) }
+        requires marks { marks.now ≡ changed_by self.old id row }
         ensures outcome { MeetsOn (modified self.old.shape id rollback (Some row)) (modify_answer result) self.old.plain self.new.plain }
         ensures made { IfOk result (λ k. Tells noted k laid.new.items (λ i. MakesModify (lost_by k) self.old.shape id self.old.plain i self.new.plain)) }
         ensures unnoted { noted ≡ false → laid.new.items ≡ laid.old.items }
@@ -109,10 +111,9 @@ impl MultiIndex {
         if self.arrivals == LAST_COUNT {
             return Err(Refusal::Spent);
         }
-        let marks = self.changed_by(id, node, &row);
-        match self.conflict_of_put(id, &row, marks.as_slice()) {
+        match self.conflict_of_put(id, &row, marks) {
             None => {
-                let old = self.put(id, node, row, marks.as_slice(), noted, laid);
+                let old = self.put(id, node, row, marks, noted, laid);
                 Ok(Step::Put(RowRef { id, node }, old))
             }
             Some((index, other)) if rollback => Err(Refusal::Unique { index, id: other }),
@@ -148,6 +149,7 @@ impl MultiIndex {
             return Err(Refusal::NoId);
         };
         let row = self.edited(alloc, RowRef { id, node }, edits)?;
-        self.modify_to(id, node, row, rollback, noted, laid)
+        let marks = self.changed_by_edits(id, node, edits, &row);
+        self.modify_to(id, node, row, marks.as_slice(), rollback, noted, laid)
     }
 }

@@ -18,3 +18,7 @@ edited-requires c =
 pub modify_to-requires-clause-live : goal.modify_to-requires-clause-live
 modify_to-requires-clause-live c =
     live_of c.self.inside c.args.self.now c.self.view_is c.args.id c.in-Some.node (sym c.live.ensures ∙ c.in-Some.is)
+
+pub changed_by_edits-marks-requires-clause-live : goal.changed_by_edits-marks-requires-clause-live
+changed_by_edits-marks-requires-clause-live c =
+    live_of c.self.inside c.args.self.now c.self.view_is c.args.id c.in-Some.node (sym c.live.ensures ∙ c.in-Some.is)
