@@ -1,7 +1,7 @@
 -- Rows that get rising stamps above all others in one index stand there behind the others, in the order of their list.
 -- Cited by `mi_multi`.
 use Rattle.std.proofs.Common.{◌≡◌, ◌≢◌, ℕ, ◌+◌, ◌<◌, ◌≤◌, zero, suc, true, cond, inl, inr, List}
-use Rattle.std.proofs.Common.{[], ◌∷◌, ◌++◌, map, length, get_or, take, drop, refl, ap, sym, ◌∙◌, subst, arith}
+use Rattle.std.proofs.Common.{[], ◌∷◌, ◌++◌, length, get_or, take, drop, refl, ap, sym, ◌∙◌, subst, arith}
 use Rattle.std.specs.Prelude.{◌==◌}
 use Rattle.std.specs.List.{AllByRecursion}
 use Rattle.std.specs.Ordering.{on, nat_cmp}
@@ -10,13 +10,12 @@ use Rattle.std.proofs.lemmas.Cmp.{ranked}
 use Rattle.std.proofs.lemmas.List.{take_more}
 use Rattle.std.specs.declared.cmp.Ordering.TheVariants.{Less}
 use Rattle.mi_catalog.specs.Shape.{Shape}
-use Rattle.mi_value.specs.declared.value.Value.{Value}
 use Rattle.mi_model.specs.Table.{ListsEach, times, list_of}
 use Rattle.mi_model.proofs.StampLaws.{Rises, of_one}
 use Rattle.mi_model.proofs.ViewLaws.{Lacks}
-use Rattle.mi_container.specs.Data.{Data, has_stamps, stamp_of, ids_of, ids_by_stamp, order_at, plain_row, as_table, IsData}
+use Rattle.mi_container.specs.Data.{Data, has_stamps, stamp_of, ids_of, order_at, as_table, IsData}
 use Rattle.mi_container.specs.Fits.{IsThere}
-use Rattle.mi_container.specs.Restore.{restamped_in, restamped_all, raised_all, High, Low, SameBut}
+use Rattle.mi_container.specs.Restore.{restamped_in, raised_all, Rising, High, Low, SameBut}
 use Rattle.mi_container.proofs.SequenceLemmas.{Once}
 use Rattle.mi_container.proofs.InvariantLemmas.{has_there, each_there, each_once, rows_climb}
 use Rattle.mi_container.proofs.ViewLemmas.{stamps_rise_in}
@@ -258,39 +257,39 @@ module _ (s : Shape) (x : ℕ) (d : Data) (is : IsData s d) (few : x < length d.
         let g = same.long in
         rising_list s x (xs ++ ys) new after (omega (arith, g, few)) (same.stamped ∙ has_) (each_by_rows d new same.rows (xs ++ ys) each) all_up
 
+rising_is : (ids : List ℕ) → Rising ids → Rises nat_cmp ids
+rising_is [] up = tt
+rising_is (e ∷ ids) up = (all_map (λ b l. less_is e b l) ids up.0, rising_is ids up.1)
+
 -- the same of a list that is cut
 module _ (s : Shape) (x : ℕ) (d : Data) (is : IsData s d) (few : x < length d.orders) (has_ : has_stamps (order_at d.orders x) ≡ true)
     (by_ids : list_of (as_table d) x ≡ ids_of d.rows) (ids : List ℕ) (m a : ℕ) (each : ListsEach (as_table d) ids) where
   pub behind_there : AllByRecursion (IsThere d.rows) (drop m ids)
   behind_there = all_back (IsThere d.rows) (take m ids) (drop m ids) (subst (AllByRecursion (IsThere d.rows)) (sym (parts m ids)) (each_there d ids each))
 
-  pub cut_list : Rises nat_cmp (take m ids) → Low x a d → IsData s (raised_all x (drop m ids) a d) → list_of (as_table (raised_all x (drop m ids) a d)) x ≡ ids
+  pub cut_list : Rising (take m ids) → Low x a d → IsData s (raised_all x (drop m ids) a d) → list_of (as_table (raised_all x (drop m ids) a d)) x ≡ ids
   cut_list up low after =
       tail_list s x d is few has_ by_ids (ids_rise d.next d.rows (rows_climb s d is)) (take m ids) (drop m ids) a
-      (subst (ListsEach (as_table d)) (sym (parts m ids)) each) up low after
+      (subst (ListsEach (as_table d)) (sym (parts m ids)) each) (rising_is (take m ids) up) low after
       ∙ parts m ids
 
 -- One more of the first ids of a list that rise
 
-rises_push : (xs : List ℕ) (b : ℕ) → Rises nat_cmp xs → AllByRecursion (λ e. nat_cmp e b ≡ Less) xs → Rises nat_cmp (xs ++ b ∷ [])
-rises_push [] b up all = (tt, tt)
-rises_push (e ∷ xs) b up all = (both xs up.0, rises_push xs b up.1 all.1)
-  where
-    both : (zs : List ℕ) → AllByRecursion (λ q. nat_cmp e q ≡ Less) zs → AllByRecursion (λ q. nat_cmp e q ≡ Less) (zs ++ b ∷ [])
-    both [] less = (all.0, tt)
-    both (z ∷ zs) less = (less.0, both zs less.1)
+all_push : (P : ℕ → Type 0) (xs : List ℕ) (b : ℕ) → AllByRecursion P xs → P b → AllByRecursion P (xs ++ b ∷ [])
+all_push P [] b all one = (one, tt)
+all_push P (e ∷ xs) b all one = (all.0, all_push P xs b all.1 one)
+
+rising_push : (xs : List ℕ) (b : ℕ) → Rising xs → AllByRecursion (λ e. e < b) xs → Rising (xs ++ b ∷ [])
+rising_push [] b up all = (tt, tt)
+rising_push (e ∷ xs) b up all = (all_push (λ q. e < q) xs b up.0 all.0, rising_push xs b up.1 all.1)
 
 -- the first ids rise, and none is above the last
 pub record FirstRise (ids : List ℕ) (m last : ℕ) : Type 0 where
-  pub up : Rises nat_cmp (take m ids)
+  pub up : Rising (take m ids)
   pub most : AllByRecursion (λ e. e ≤ last) (take m ids)
 
 pub first_none : (ids : List ℕ) (last : ℕ) → FirstRise ids 0 last
 first_none ids last = record { up = tt; most = tt }
-
-all_push : (P : ℕ → Type 0) (xs : List ℕ) (b : ℕ) → AllByRecursion P xs → P b → AllByRecursion P (xs ++ b ∷ [])
-all_push P [] b all one = (one, tt)
-all_push P (e ∷ xs) b all one = (all.0, all_push P xs b all.1 one)
 
 first_below : (b n last : ℕ) (ids : List ℕ) → (0 < n → last < b) → AllByRecursion (λ e. e ≤ last) (take n ids) → AllByRecursion (λ e. e < b) (take n ids)
 first_below b zero last ids up all = tt
@@ -299,8 +298,7 @@ first_below b (suc n) last ids up all = all_map (λ e le. let more = up (omega a
 pub first_more : (ids : List ℕ) (m last : ℕ) → FirstRise ids m last → m < length ids → (0 < m → last < get_or ids m 0) → FirstRise ids (m + 1) (get_or ids m 0)
 first_more ids m last h l above =
     let below = first_below (get_or ids m 0) m last ids above h.most in record {
-      up = subst (Rises nat_cmp) (sym (take_more ids m 0 l))
-          (rises_push (take m ids) (get_or ids m 0) h.up (all_map (λ e le. less_is e (get_or ids m 0) le) (take m ids) below));
+      up = subst Rising (sym (take_more ids m 0 l)) (rising_push (take m ids) (get_or ids m 0) h.up below);
       most = subst (AllByRecursion (λ e. e ≤ get_or ids m 0)) (sym (take_more ids m 0 l))
           (all_push (λ e. e ≤ get_or ids m 0) (take m ids) (get_or ids m 0) (all_map (λ e le. omega (arith, le)) (take m ids) below) (omega arith));
     }

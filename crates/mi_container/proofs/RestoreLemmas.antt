@@ -41,7 +41,7 @@ use Rattle.mi_container.proofs.PairLemmas.{none_some, is_other}
 use Rattle.mi_container.proofs.TableLemmas.{table_inserted}
 use Rattle.mi_container.proofs.SequenceLemmas.{Once, drop_is, drop_isnt, without_lacks}
 use Rattle.mi_container.proofs.ContentLemmas.{node_with, node_beside}
-use Rattle.mi_container.proofs.InvariantLemmas.{there_has, has_there, each_there, each_once, stamp_there, stamp_early, stamps_long, no_next, rows_climb}
+use Rattle.mi_container.proofs.InvariantLemmas.{there_has, has_there, each_there, each_once, stamp_there, stamp_early, stamps_long, rows_climb}
 use Rattle.mi_container.proofs.ViewLemmas.{stamps_rise_in}
 use Rattle.mi_container.proofs.RestampLemmas.{rows_plain, there_still, there_was, stamp_beside, stamp_here, stamp_other, long_lists}
 

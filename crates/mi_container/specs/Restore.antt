@@ -1,6 +1,7 @@
 -- A container that is restored from a table: its rows come in by their ids, and then each index is put in the order of its list.
 --     image_table      the table that an image is
 --     restamped_in, restamped_all, raised_all      rows get other stamps in one index, the last one first or the first one first
+--     Rising      ids that rise
 --     moved_all      rows go to the end of the list of one index, one after another
 --     High, Low      no row has a stamp there that is below a count, or each has
 --     SameBut      only one index may have changed
@@ -51,6 +52,11 @@ restamped_all x (e ∷ ids) a d = restamped_in x e a (restamped_all x ids (suc a
 abbrev pub raised_all : ℕ → List ℕ → ℕ → Data → Data
 raised_all x [] a d = d
 raised_all x (e ∷ ids) a d = raised_all x ids (suc a) (restamped_in x e a d)
+
+-- each id is below those behind it
+abbrev pub Rising : List ℕ → Type 0
+Rising [] = Unit {0}
+Rising (e ∷ ids) = AllByRecursion (λ b. e < b) ids × Rising ids
 
 -- each goes to the end
 abbrev pub moved_all : ℕ → List ℕ → Data → Data

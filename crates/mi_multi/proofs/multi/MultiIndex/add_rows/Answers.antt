@@ -22,7 +22,7 @@ rows-preserved c =
     let v = c.rows.invariant in (
       v.0 ++ (c.in-Some.id, c.in-Some.row) ∷ [],
       next_parts c.args.rows.items v.0 c.rows.rest.items c.pop.new.self.items c.in-Some.id c.in-Some.row v.1 c.in-Some.ensures.items,
-      c.in_ok-add_row.ensures.added (length c.args.rows.items) v.0 v.2,
+      c.in_ok-add_row.ensures.added v.0 v.2,
       c.in_ok-add_row.ensures.next ∙ sym (next_after_push 0 v.0 (c.in-Some.id, c.in-Some.row)),
       (let n = c.in_ok-add_row.ensures.next in let l = c.if-next-id.false in omega (arith, n, l)),
       c.add_row.ensures.shape ∙ v.5,
