@@ -1,5 +1,4 @@
 -- As many as there are.
-use Rattle.std.proofs.Common.{arith}
 use Rattle.mi_multi.proofs.RestoringLemmas.{all_behind}
 use Rattle.mi_multi.proofs.restoring.behind.Goals as goal
 

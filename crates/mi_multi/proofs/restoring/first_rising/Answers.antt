@@ -1,5 +1,5 @@
 -- One that is above the last one rises too.
-use Rattle.std.proofs.Common.{◌<◌, arith}
+use Rattle.std.proofs.Common.{arith}
 use Rattle.mi_container.proofs.RaiseLemmas.{first_none, first_more}
 use Rattle.mi_multi.proofs.restoring.first_rising.Goals.{else-place-gt0-via-then-place-gt0+else-id-last, else-place-gt0-via-else-place-gt0}
 use Rattle.mi_multi.proofs.restoring.first_rising.Goals as goal

@@ -1,5 +1,5 @@
 -- The next row's id is above those in front of it and below the next one, or the ids don't rise.
-use Rattle.std.proofs.Common.{◌∙◌, ◌++◌, ◌∷◌, [], ap, sym, length, arith}
+use Rattle.std.proofs.Common.{◌∙◌, ◌++◌, ◌∷◌, [], ap, sym, arith}
 use Rattle.mi_container.proofs.RestoreLemmas.{next_parts, next_rises, next_after_push}
 use Rattle.mi_multi.specs.Seen.{Seen}
 use Rattle.mi_multi.proofs.multi.MultiIndex.add_rows.Goals.{then-id-self-via-then-id-self, then-id-self-via-else-id-self+then-next-id}

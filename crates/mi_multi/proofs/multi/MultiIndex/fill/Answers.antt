@@ -7,7 +7,6 @@ use Rattle.mi_container.specs.Data.{Data, as_table, ids_of, plain_row, IsData}
 use Rattle.mi_model.specs.Table.{ListsEach}
 use Rattle.mi_multi.specs.Seen.{Seen}
 use Rattle.mi_multi.proofs.multi.MultiIndex.fill.Goals.{After-as_slice-in-Ok}
-use Rattle.mi_value.specs.declared.value.Value.{Value}
 use Rattle.mi_catalog.specs.Shape.{Shape}
 use Rattle.mi_multi.proofs.RestoringLemmas.{long_given, ids_count}
 use Rattle.mi_multi.proofs.multi.MultiIndex.fill.Goals as goal

@@ -2,7 +2,7 @@
 use Rattle.std.proofs.Common.{◌<◌, ap, sym, ◌∙◌, subst, length, arith}
 use Rattle.mi_catalog.specs.Shape.{Shape}
 use Rattle.mi_model.specs.Table.{ListsEach, list_of}
-use Rattle.mi_container.specs.Data.{Data, as_table, order_at, has_stamps, IsData}
+use Rattle.mi_container.specs.Data.{Data, as_table, IsData}
 use Rattle.mi_container.specs.Restore.{High, Low, SameBut}
 use Rattle.mi_container.proofs.InvariantLemmas.{each_there}
 use Rattle.mi_container.proofs.RestoreLemmas.{same_both, same_all, all_low, restamped_list, kinds_long, long_of}

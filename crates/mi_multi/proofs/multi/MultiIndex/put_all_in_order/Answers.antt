@@ -1,8 +1,8 @@
 -- Each index is still as it was when its turn comes.
-use Rattle.std.proofs.Common.{◌≡◌, ◌<◌, ap, sym, ◌∙◌, subst, true, List, ℕ, [], map, length, get_or, arith}
+use Rattle.std.proofs.Common.{◌≡◌, ◌<◌, ap, sym, ◌∙◌, subst, List, ℕ, [], map, length, get_or, arith}
 use Rattle.mi_model.specs.Table.{ListsEach}
 use Rattle.mi_model.proofs.TableLaws.{all_get}
-use Rattle.mi_container.specs.Data.{as_table, has_stamps, order_at, ids_of}
+use Rattle.mi_container.specs.Data.{as_table, order_at, ids_of}
 use Rattle.mi_container.specs.Data.Order.{ById}
 use Rattle.mi_container.proofs.RestoreLemmas.{ordered_each, ordered_ids, ordered_now, ordered_early, ordered_more, ids_by_rows, kinds_long}
 use Rattle.mi_multi.proofs.RestoringLemmas.{list_given, long_given}

@@ -3,7 +3,7 @@ use Rattle.std.proofs.Common.{◌<◌, ◌+◌, ap, sym, ◌∙◌, subst, drop,
 use Rattle.std.specs.List.{AllByRecursion}
 use Rattle.mi_catalog.specs.Shape.{Shape}
 use Rattle.mi_model.specs.Table.{list_of}
-use Rattle.mi_container.specs.Data.{Data, as_table, order_at, has_stamps, IsData}
+use Rattle.mi_container.specs.Data.{Data, as_table, IsData}
 use Rattle.mi_container.specs.Fits.{IsThere}
 use Rattle.mi_container.specs.Restore.{raised_all, Low, SameBut}
 use Rattle.mi_container.proofs.RestoreLemmas.{kinds_long, long_of}
