@@ -14,7 +14,7 @@ use Rattle.serde_json.specs.Find.{as_array, as_number, as_u64}
 use Rattle.serde_json.specs.View.{view, items_of, items_view}
 use Rattle.serde_json.specs.declared.value.Value.{Value}
 
-items_injective : (ds es : List Data) → items_of ds ≡ items_of es → ds ≡ es
+pub items_injective : (ds es : List Data) → items_of ds ≡ items_of es → ds ≡ es
 items_injective [] [] h = refl
 items_injective [] (e ∷ es) h = absurd (cc)
 items_injective (d ∷ ds) [] h = absurd (cc)

@@ -6,3 +6,4 @@ pub mod TableLemmas
 pub mod ReadLemmas
 pub mod ImageLemmas
 pub mod BaseLemmas
+mod KnownLemmas

@@ -1,5 +1,5 @@
 //! The lines of a base out of a reader's bytes, one after another, and the digest of those that were accepted. It knows no table.
-ghost use Rattle.std.specs.Prelude.{◌≡◌, [], IfOk, IfErr, IfSome, IsSome, OnOk, ℕ, List, ⊤};
+ghost use Rattle.std.specs.Prelude.{◌≡◌, [], true, false, IfOk, IfErr, IfSome, IsSome, OnOk, MatchResult, ℕ, List, ⊤};
 ghost use Rattle.std.specs.Io.BufRead.{ends_with_byte};
 ghost use Rattle.std.specs.Io.KnownBytes.{Consumes, IsAtEnd};
 ghost use Rattle.serde_json.specs.Data.{Data};
@@ -93,6 +93,31 @@ impl<R> BaseLines<R> {
         Ok(())
     }
 
+    /// Whether the line that was read last is this one. Then it's taken into the digest.
+    pub(crate) fn take_same(&mut self, line: &str) -> bool
+        ensures same { result ≡ true → last_line self.old ≡ line.now }
+        ensures hashed { result ≡ true → Hashes (digest_of self.old) (digest_of self.new) (last_line self.old) }
+        ensures other { result ≡ false → digest_of self.new ≡ digest_of self.old }
+        ensures line { last_line self.new ≡ last_line self.old }
+        ensures reader { reader_of self.new ≡ reader_of self.old }
+    {
+        if self.line.as_slice() != line.as_bytes() {
+            return false;
+        }
+        self.digest.update(self.line.as_slice());
+        true
+    }
+
+    /// The value that the line that was read last is.
+    pub(crate) fn value(&self, alloc: Global) -> Result<Value, BaseFault>
+        ensures { (d : Data) → IsPlain d → last_line self.now ≡ line_text d → MatchResult result (λ v. view v ≡ d) (λ e. IsFormat e → ⊥) }
+    {
+        match parse(alloc, self.line.as_slice())? {
+            Some(value) => Ok(value),
+            None => Err(self.fault()),
+        }
+    }
+
     /// Whether the line that was read last is the digest of those that were accepted.
     fn check_digest(&mut self, alloc: Global) -> Result<(), BaseFault>
         ensures ok { OnOk result ((front : List ℕ) → Holds256 (digest_of self.old) front → last_line self.old ≡ line_text (digest_data front)) }
@@ -115,7 +140,7 @@ impl<R: BufRead> BaseLines<R> {
     ghost use Rattle.mi_base.specs.Reader.{reader_of, digest_of, line_of as last_line};
 
     /// Reads the next line, up to and with its newline.
-    fn advance(&mut self) -> Result<(), BaseFault>
+    pub(crate) fn advance(&mut self) -> Result<(), BaseFault>
         ensures line { OnOk result (Consumes (R.remaining (reader_of self.old)) (R.remaining (reader_of self.new)) (last_line self.new)) }
         ensures exact { Reads line_text (λ d. Unit {0}) (λ _ d. last_line self.new ≡ line_text d)
             (R.remaining (reader_of self.old)) (R.remaining (reader_of self.new)) result }
@@ -141,10 +166,7 @@ impl<R: BufRead> BaseLines<R> {
         ensures digest { digest_of self.new ≡ digest_of self.old }
     {
         self.advance()?;
-        match parse(alloc, self.line.as_slice())? {
-            Some(value) => Ok(value),
-            None => Err(self.fault()),
-        }
+        self.value(alloc)
     }
 
     /// Reads the last line, which is to be the digest of those that were accepted.

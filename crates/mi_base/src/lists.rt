@@ -1,8 +1,10 @@
-//! A list of ids as a value of JSON, and back. It knows no table.
-ghost use Rattle.std.specs.Prelude.{◌≡◌, ◌++◌, ◌∷◌, [], IfOk, OnOk, ℕ, List, IsSome, IfSome, map};
+//! A list of ids as a value of JSON and its line, and back. It knows no table.
+ghost use Rattle.std.specs.Prelude.{◌≡◌, ◌++◌, ◌∷◌, [], IfOk, OnOk, ℕ, List, IsSome, IfSome, map, string_bytes};
 ghost use Rattle.serde_json.specs.View.{view};
+ghost use Rattle.mi_base.specs.Lines.{line_text, IsPlain};
 ghost use Rattle.mi_base.specs.Base.{list_data, id_data};
 
+use crate::line::line_of;
 use mi_value::Record;
 use serde_json::Value;
 use std::alloc::{AllocError, Global};
@@ -17,6 +19,15 @@ pub(crate) fn list_value(alloc: Global, ids: &[u64]) -> Result<Value, AllocError
         items.push(Value::from(*id))?;
     }
     Ok(Value::Array(items))
+}
+
+/// The line of ids, with its newline.
+pub(crate) fn list_line(alloc: Global, ids: &[u64]) -> Result<String, AllocError>
+    ensures text { IfOk result (λ line. string_bytes line ≡ line_text (list_data ids.now)) }
+    ensures plain { OnOk result (IsPlain (list_data ids.now)) }
+{
+    let value = list_value(alloc, ids)?;
+    line_of(alloc, &value)
 }
 
 /// The numbers that values are.

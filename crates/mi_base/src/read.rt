@@ -18,7 +18,7 @@ ghost use Rattle.mi_base.specs.Reader.{reader_of, digest_of, line_of, Takes};
 use crate::fault::BaseFault;
 use crate::heading::{Head, Heading};
 use crate::lines::BaseLines;
-use crate::lists::{ids_of, list_of, list_value, put, put_first};
+use crate::lists::{ids_of, list_line, list_of, list_value, put, put_first};
 use crate::rows::{row_of, row_value};
 use mi_catalog::{Catalog, Schema};
 use mi_container::TableImage;
@@ -106,13 +106,24 @@ fn take_list<R>(
     Ok(ids)
 }
 
-/// Reads a list of ids.
-fn read_list<R: BufRead>(alloc: Global, lines: &mut BaseLines<R>) -> Result<Vec<u64>, BaseFault>
+/// Reads a list of ids. It isn't parsed where it's that of ids whose line is known.
+fn read_list<R: BufRead>(
+    alloc: Global,
+    ids: &[u64],
+    known: &str,
+    lines: &mut BaseLines<R>,
+) -> Result<Vec<u64>, BaseFault>
+    requires known { known.now ≡ line_text (list_data ids.now) }
+    requires plain { IsPlain (list_data ids.now) }
     ensures ok { IfOk result (λ ids. Takes (R.remaining (reader_of lines.old)) (R.remaining (reader_of lines.new)) (digest_of lines.old) (digest_of lines.new) (list_data ids.items ∷ [])) }
     ensures exact { Reads (λ ids. line_text (list_data ids)) (λ ids. IsPlain (list_data ids)) (λ ids a. ids.items ≡ a)
         (R.remaining (reader_of lines.old)) (R.remaining (reader_of lines.new)) result }
 {
-    let value = lines.next_value(alloc)?;
+    lines.advance()?;
+    if lines.take_same(known) {
+        return Ok(Vec::from_slice(alloc, ids)?);
+    }
+    let value = lines.value(alloc)?;
     take_list(alloc, &value, lines)
 }
 
@@ -120,8 +131,12 @@ fn read_list<R: BufRead>(alloc: Global, lines: &mut BaseLines<R>) -> Result<Vec<
 fn read_lists<R: BufRead>(
     alloc: Global,
     count: usize,
+    ids: &[u64],
+    known: &str,
     lines: &mut BaseLines<R>,
 ) -> Result<Vec<Vec<u64>>, BaseFault>
+    requires known { known.now ≡ line_text (list_data ids.now) }
+    requires plain { IsPlain (list_data ids.now) }
     ensures ok { IfOk result (λ lists. Takes (R.remaining (reader_of lines.old)) (R.remaining (reader_of lines.new)) (digest_of lines.old) (digest_of lines.new)
         (map list_data (map (λ l. l.items) lists.items))) }
     ensures count { IfOk result (λ lists. length (map (λ l. l.items) lists.items) ≡ count) }
@@ -132,9 +147,29 @@ fn read_lists<R: BufRead>(
 {
     let mut lists = Vec::new(alloc);
     'lists: for _list in 0..count {
-        put(&mut lists, read_list(alloc, lines)?)?;
+        put(&mut lists, read_list(alloc, ids, known, lines)?)?;
     }
     Ok(lists)
+}
+
+/// Reads so many lists behind rows. Many are those of the rows' ids, whose line is made once.
+fn read_lists_of<R: BufRead>(
+    alloc: Global,
+    count: usize,
+    rows: &[(u64, Record)],
+    lines: &mut BaseLines<R>,
+) -> Result<Vec<Vec<u64>>, BaseFault>
+    ensures ok { IfOk result (λ lists. Takes (R.remaining (reader_of lines.old)) (R.remaining (reader_of lines.new)) (digest_of lines.old) (digest_of lines.new)
+        (map list_data (map (λ l. l.items) lists.items))) }
+    ensures count { IfOk result (λ lists. length (map (λ l. l.items) lists.items) ≡ count) }
+    ensures exact { Reads (λ ids. lines_text (map list_data ids))
+        (λ ids. (length ids ≡ count) × (AllByRecursion (λ _. Unit {0}) ids × AllByRecursion IsPlain (map list_data ids)))
+        (λ lists a. map (λ l. l.items) lists.items ≡ a)
+        (R.remaining (reader_of lines.old)) (R.remaining (reader_of lines.new)) result }
+{
+    let ids = ids_of(alloc, rows)?;
+    let known = list_line(alloc, ids.as_slice())?;
+    read_lists(alloc, count, ids.as_slice(), known.as_str(), lines)
 }
 
 /// The numbers in front of a table's rows that the line that was read last is, as JSON.
@@ -187,7 +222,7 @@ fn read_table<R: BufRead>(
     schema.keeps_rules();
     let head = read_head(alloc, schema.table_name(), lines)?;
     let rows = read_rows(alloc, schema, head.rows, lines)?;
-    let mut lists = read_lists(alloc, schema.index_count() - 1, lines)?;
+    let mut lists = read_lists_of(alloc, schema.index_count() - 1, rows.as_slice(), lines)?;
     put_first(&mut lists, ids_of(alloc, rows.as_slice())?)?;
     Ok(TableImage {
         rows,

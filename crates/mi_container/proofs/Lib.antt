@@ -17,5 +17,6 @@ pub mod ViewLemmas
 pub mod MadeLemmas
 pub mod RestampLemmas
 pub mod RestoreLemmas
+pub mod RaiseLemmas
 pub mod StepLemmas
 pub mod KeyLemmas

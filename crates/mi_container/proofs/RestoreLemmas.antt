@@ -24,7 +24,7 @@ use Rattle.mi_catalog.specs.Shape.{Shape}
 use Rattle.mi_value.specs.declared.value.Value.{Value}
 use Rattle.mi_model.specs.Table.{Table, ListsEach, Rise, times, has, list_of}
 use Rattle.mi_model.specs.View.{sorted}
-use Rattle.mi_model.specs.Change.{without, relocated}
+use Rattle.mi_model.specs.Change.{without, relocated, stand}
 use Rattle.mi_model.proofs.StampLaws.{Rises, rises_once, times_first}
 use Rattle.mi_model.proofs.TableLaws.{all_get}
 use Rattle.mi_model.proofs.ViewLaws.{Lacks}
@@ -34,22 +34,22 @@ use Rattle.mi_container.specs.Data.Order.{ById, ByKey, ByHash, Listed}
 use Rattle.mi_node.specs.Refs.{Ref}
 use Rattle.mi_container.specs.Changes.{in_order, relocated_in, new_node, inserted}
 use Rattle.mi_container.specs.Fits.{IsThere}
-use Rattle.mi_container.specs.Restore.{with_stamp, restamped_in, restamped_all, moved_all, High, Low, SameBut, InOrderTo, HasRows, next_after, IsRowsFault, IsListsFault, IsRestoreFault}
+use Rattle.mi_container.specs.Restore.{with_stamp, restamped_in, restamped_all, moved_all, High, Low, SameBut, InOrderTo, AreByIds, HasRows, next_after, IsRowsFault, IsListsFault, IsRestoreFault}
 use Rattle.mi_container.specs.declared.restore.RestoreFault.{RestoreFault}
 use Rattle.mi_container.specs.declared.restore.RestoreFault.TheVariants as fault
-use Rattle.mi_container.proofs.PairLemmas.{none_some, is_other, lookup_push, lookup_push_same}
-use Rattle.mi_container.proofs.StampLemmas.{new_at, stamps_with}
+use Rattle.mi_container.proofs.PairLemmas.{none_some, is_other}
+use Rattle.mi_container.proofs.TableLemmas.{table_inserted}
 use Rattle.mi_container.proofs.SequenceLemmas.{Once, drop_is, drop_isnt, without_lacks}
 use Rattle.mi_container.proofs.ContentLemmas.{node_with, node_beside}
-use Rattle.mi_container.proofs.InvariantLemmas.{there_has, has_there, each_there, each_once, stamp_there, stamp_early, stamps_long, no_next, rows_climb}
+use Rattle.mi_container.proofs.InvariantLemmas.{there_has, has_there, each_there, each_once, stamp_there, stamp_early, stamps_long, rows_climb}
 use Rattle.mi_container.proofs.ViewLemmas.{stamps_rise_in}
 use Rattle.mi_container.proofs.RestampLemmas.{rows_plain, there_still, there_was, stamp_beside, stamp_here, stamp_other, long_lists}
 
-all_map : {P Q : ℕ → Type 0} → ((b : ℕ) → P b → Q b) → (ids : List ℕ) → AllByRecursion P ids → AllByRecursion Q ids
+pub all_map : {P Q : ℕ → Type 0} → ((b : ℕ) → P b → Q b) → (ids : List ℕ) → AllByRecursion P ids → AllByRecursion Q ids
 all_map f [] all = tt
 all_map f (b ∷ ids) all = (f b all.0, all_map f ids all.1)
 
-less_is : (a b : ℕ) → a < b → nat_cmp a b ≡ Less
+pub less_is : (a b : ℕ) → a < b → nat_cmp a b ≡ Less
 less_is a b l = grind (arith, nat_tests)
 
 -- What is the same
@@ -92,7 +92,7 @@ pub there_by_rows : (d n : Data) → map plain_row n.rows ≡ map plain_row d.ro
 there_by_rows d n same b there = there_has d b (sym (has_by_rows d n same b) ∙ has_there n b there)
 
 -- the list of another index is the same
-listed_same : (y : ℕ) (rows other : List (ℕ × Node)) (o : Order) → ids_of other ≡ ids_of rows
+pub listed_same : (y : ℕ) (rows other : List (ℕ × Node)) (o : Order) → ids_of other ≡ ids_of rows
     → ((b : ℕ) → stamp_of other y b ≡ stamp_of rows y b) → listed y other o ≡ listed y rows o
 listed_same y rows other ById ids stamps = ids
 listed_same y rows other (ByKey ps) ids stamps = λ i. sorted (λ a b. nat_cmp (stamps a i) (stamps b i)) (ids i)
@@ -121,7 +121,7 @@ abbrev pub Long : ℕ → Data → Type 0
 Long x d = (b : ℕ) → IsThere d.rows b → x < length (content_of d.rows b).stamps
 
 -- each has the next number, from a on
-abbrev Numbered : (ℕ → ℕ) → ℕ → List ℕ → Type 0
+abbrev pub Numbered : (ℕ → ℕ) → ℕ → List ℕ → Type 0
 Numbered f a [] = Unit {0}
 Numbered f a (e ∷ ids) = (f e ≡ a) × Numbered f (suc a) ids
 
@@ -132,12 +132,12 @@ numbered_above f e a k (b ∷ ids) is l given = (
   numbered_above f e a (suc k) ids is (omega (arith, l)) given.1,
 )
 
-numbered_rise : (f : ℕ → ℕ) (a : ℕ) (ids : List ℕ) → Numbered f a ids → Rises (on f nat_cmp) ids
+pub numbered_rise : (f : ℕ → ℕ) (a : ℕ) (ids : List ℕ) → Numbered f a ids → Rises (on f nat_cmp) ids
 numbered_rise f a [] given = tt
 numbered_rise f a (e ∷ ids) given = (numbered_above f e a (suc a) ids given.0 (omega arith) given.1, numbered_rise f (suc a) ids given.1)
 
 module _ (x : ℕ) where
-  same_one : (e a : ℕ) (d : Data) → IsThere d.rows e → SameBut x d (restamped_in x e a d)
+  pub same_one : (e a : ℕ) (d : Data) → IsThere d.rows e → SameBut x d (restamped_in x e a d)
   same_one e a d there = record {
     rows = rows_plain x e a d;
     next = refl;
@@ -149,7 +149,7 @@ module _ (x : ℕ) where
     stamps = λ y b ne. stamp_other x e a d there y b ne;
   }
 
-  long_one : (e a : ℕ) (d : Data) → IsThere d.rows e → Long x d → Long x (restamped_in x e a d)
+  pub long_one : (e a : ℕ) (d : Data) → IsThere d.rows e → Long x d → Long x (restamped_in x e a d)
   long_one e a d there long b here =
       elim (eqb_tells b e) [
         | inl same ↦ subst (λ q. x < length (content_of (restamped_in x e a d).rows q).stamps) (sym same.1)
@@ -248,14 +248,25 @@ module _ (x : ℕ) where
 pub long_of : (s : Shape) (d : Data) → IsData s d → (x : ℕ) → x < length d.orders → Long x d
 long_of s d is x l b there = let long = stamps_long s d is b there in omega (arith, long, l)
 
-one_stamped : (o : Order) (x : ℕ) (rows : List (ℕ × Node)) → has_stamps o ≡ true → listed x rows o ≡ ids_by_stamp x rows
+pub one_stamped : (o : Order) (x : ℕ) (rows : List (ℕ × Node)) → has_stamps o ≡ true → listed x rows o ≡ ids_by_stamp x rows
 one_stamped ById x rows has_ = absurd (false≢true has_)
 one_stamped (ByKey ps) x rows has_ = refl
 one_stamped (ByHash ps) x rows has_ = refl
 one_stamped (Listed ids) x rows has_ = absurd (false≢true has_)
 
-each_by_rows : (d n : Data) → map plain_row n.rows ≡ map plain_row d.rows → (ids : List ℕ) → ListsEach (as_table d) ids → ListsEach (as_table n) ids
+pub each_by_rows : (d n : Data) → map plain_row n.rows ≡ map plain_row d.rows → (ids : List ℕ) → ListsEach (as_table d) ids → ListsEach (as_table n) ids
 each_by_rows d n same ids each e = each e ∙ ap (λ b. cond {A = ℕ} b 1 0) (sym (has_by_rows d n same e))
+
+-- an index whose stamps rise along a list stands in its order
+pub rising_list : (s : Shape) (x : ℕ) (ids : List ℕ) (n : Data) → IsData s n → x < length n.orders → has_stamps (order_at n.orders x) ≡ true
+    → ListsEach (as_table n) ids → Rises (on (stamp_of n.rows x) nat_cmp) ids → list_of (as_table n) x ≡ ids
+rising_list s x ids n after few has_now given up =
+    let list : list_of (as_table n) x ≡ ids_by_stamp x n.rows = list_is n x few ∙ one_stamped (order_at n.orders x) x n.rows has_now in
+    let whole : ListsEach (as_table n) (list_of (as_table n) x) =
+    all_get (ListsEach (as_table n)) (as_table n).lists x after.table.complete (let f = long_lists 0 n.rows n.orders in omega (arith, f, few)) in
+    let mine : ListsEach (as_table n) (ids_by_stamp x n.rows) = subst (ListsEach (as_table n)) list whole in
+    list ∙ rises_once (on (stamp_of n.rows x) nat_cmp) (on_total (stamp_of n.rows x) nat_cmp_total) (ids_by_stamp x n.rows) ids
+    (stamps_rise_in s n after x few has_now) up (λ e. mine e ∙ sym (given e))
 
 -- the index stands in the order of the list
 pub restamped_list : (s : Shape) (x : ℕ) (ids : List ℕ) (d : Data) → IsData s d → IsData s (restamped_all x ids 0 d) → x < length d.orders
@@ -265,16 +276,8 @@ restamped_list s x ids d is after l has_ each =
     let all = each_there d ids each in
     let same : SameBut x d n = same_all x ids 0 d all in
     let long = same.long in
-    let few : x < length n.orders = omega (arith, long, l) in
-    let has_now : has_stamps (order_at n.orders x) ≡ true = same.stamped ∙ has_ in
-    let list : list_of (as_table n) x ≡ ids_by_stamp x n.rows = list_is n x few ∙ one_stamped (order_at n.orders x) x n.rows has_now in
-    let whole : ListsEach (as_table n) (list_of (as_table n) x) =
-    all_get (ListsEach (as_table n)) (as_table n).lists x after.table.complete (let f = long_lists 0 n.rows n.orders in omega (arith, f, few)) in
-    let mine : ListsEach (as_table n) (ids_by_stamp x n.rows) = subst (ListsEach (as_table n)) list whole in
-    let given : ListsEach (as_table n) ids = each_by_rows d n same.rows ids each in
-    list ∙ rises_once (on (stamp_of n.rows x) nat_cmp) (on_total (stamp_of n.rows x) nat_cmp_total) (ids_by_stamp x n.rows) ids
-    (stamps_rise_in s n after x few has_now) (rises_all x ids 0 d (each_once (as_table d) ids each) all (long_of s d is x l))
-    (λ e. mine e ∙ sym (given e))
+    rising_list s x ids n after (omega (arith, long, l)) (same.stamped ∙ has_) (each_by_rows d n same.rows ids each)
+    (rises_all x ids 0 d (each_once (as_table d) ids each) all (long_of s d is x l))
 
 -- The list of a sequenced index
 
@@ -439,7 +442,7 @@ rise_more a n (r ∷ rows) l up = (let f = up.0 in omega (arith, f, l), up.1, ri
 
 -- As far as a loop over the ids has come
 
-all_at : (P : ℕ → Type 0) (k : ℕ) (ids : List ℕ) → k < length ids → AllByRecursion P ids → P (get_or ids k 0)
+pub all_at : (P : ℕ → Type 0) (k : ℕ) (ids : List ℕ) → k < length ids → AllByRecursion P ids → P (get_or ids k 0)
 all_at P k [] l all = absurd (omega arith)
 all_at P zero (e ∷ ids) l all = all.0
 all_at P (suc k) (e ∷ ids) l all = all_at P k ids (omega arith) all.1
@@ -551,10 +554,18 @@ module _ (i n : ℕ) (lists : List (List ℕ)) (d c : Data) (to : InOrderTo i n 
   pub ordered_ids : (ids : List ℕ) → (order_at d.orders i ≡ ById → ids ≡ ids_of d.rows) → order_at c.orders i ≡ ById → ids ≡ ids_of c.rows
   ordered_ids ids by here = by (sym (to.left i (omega arith)) ∙ here) ∙ sym (ids_by_rows d c to.rows)
 
-  pub ordered_high : (k : ℕ) → (has_stamps (order_at d.orders i) ≡ true → High i k d) → has_stamps (order_at c.orders i) ≡ true → High i k c
-  ordered_high k high has_ b there =
-      subst (λ q. k ≤ q) (sym (to.stamps i b (omega arith)))
-      (high (ap has_stamps (sym (to.left i (omega arith))) ∙ has_) b (there_by_rows d c to.rows b there))
+  -- which is still as it was
+  pub ordered_now : i < length d.orders → AreByIds d → list_of (as_table c) i ≡ ids_of c.rows
+  ordered_now few by =
+      let g = to.long in
+      list_is c i (omega (arith, g, few)) ∙ ap (listed i c.rows) (to.left i (omega arith))
+      ∙ listed_same i d.rows c.rows (order_at d.orders i) (ids_by_rows d c to.rows) (λ b. to.stamps i b (omega arith))
+      ∙ sym (list_is d i few) ∙ by i few ∙ sym (ids_by_rows d c to.rows)
+
+  pub ordered_early : (k : ℕ) → AllLow k d → has_stamps (order_at c.orders i) ≡ true → Low i k c
+  ordered_early k low has_ b there =
+      subst (λ q. q < k) (sym (to.stamps i b (omega arith)))
+      (low i (ap has_stamps (sym (to.left i (omega arith))) ∙ has_) b (there_by_rows d c to.rows b there))
 
 lists_alike : (xs ys : List (List ℕ)) → length xs ≡ length ys → ((y : ℕ) → y < length xs → get_or xs y [] ≡ get_or ys y []) → xs ≡ ys
 lists_alike [] [] long same = refl
@@ -582,7 +593,16 @@ module _ (i n : ℕ) (lists : List (List ℕ)) (d c : Data) (to : InOrderTo i n 
 
 -- A row comes in
 
-map_push : {A B : Type 0} (f : A → B) (xs : List A) (a : A) → map f (xs ++ a ∷ []) ≡ map f xs ++ f a ∷ []
+mapped_at : (f : List ℕ → List ℕ) (ls : List (List ℕ)) (x : ℕ) → x < length ls → get_or (map f ls) x [] ≡ f (get_or ls x [])
+mapped_at f [] x l = absurd (omega arith)
+mapped_at f (ids ∷ ls) zero l = refl
+mapped_at f (ids ∷ ls) (suc x) l = mapped_at f ls x (omega arith)
+
+pub length_map : {A B : Type 0} (f : A → B) (xs : List A) → length (map f xs) ≡ length xs
+length_map f [] = refl
+length_map f (a ∷ xs) = ap suc (length_map f xs)
+
+pub map_push : {A B : Type 0} (f : A → B) (xs : List A) (a : A) → map f (xs ++ a ∷ []) ≡ map f xs ++ f a ∷ []
 map_push f [] a = refl
 map_push f (b ∷ xs) a = ap (λ q. f b ∷ q) (map_push f xs a)
 
@@ -590,32 +610,25 @@ length_push : {A : Type 0} (xs : List A) (a : A) → length (xs ++ a ∷ []) ≡
 length_push [] a = refl
 length_push (b ∷ xs) a = let h = length_push xs a in omega (arith, h)
 
-module _ (s : Shape) (n : ℕ) (rows : List (ℕ × List Value)) (d o : Data) (e : ℕ) (r : List Value) (at : Ref) (has_rows : HasRows n rows d)
+module _ (s : Shape) (rows : List (ℕ × List Value)) (d o : Data) (e : ℕ) (r : List Value) (at : Ref) (has_rows : HasRows rows d)
     (is : IsData s (record d { next = e })) (o_is : o ≡ inserted None at r (record d { next = e })) where
   abbrev new : Node
   new = new_node at r (record d { next = e })
 
-  none : node_of d.rows e ≡ None
-  none = no_next s (record d { next = e }) is
+  -- the list of an index has the new id last
+  by_ids : AreByIds (inserted None at r (record d { next = e }))
+  by_ids x l =
+      let long : length (map (in_order (stand None e)) d.orders) ≡ length d.orders = length_map (in_order (stand None e)) d.orders in
+      let lists = long_lists 0 d.rows d.orders in
+      let few : x < length d.orders = omega (arith, long, l) in
+      ap (λ (t : Table). list_of t x) (table_inserted s None at r (record d { next = e }) is tt)
+      ∙ mapped_at (stand None e) (lists_from 0 d.rows d.orders) x (omega (arith, few, lists))
+      ∙ ap (stand None e) (has_rows.by_ids x few) ∙ sym (map_push (λ (q : ℕ × Node). q.0) d.rows (e, new))
 
-  high_there : (x : ℕ) → has_stamps (order_at d.orders x) ≡ true → (b : ℕ) → IsThere (d.rows ++ (e, new) ∷ []) b → n ≤ stamp_of (d.rows ++ (e, new) ∷ []) x b
-  high_there x has_ b there =
-      elim (eqb_tells b e) [
-        | inl same ↦
-            let own : stamp_of (d.rows ++ (e, new) ∷ []) x b ≡ d.arrivals =
-            ap (λ q. stamp_of (d.rows ++ (e, new) ∷ []) x q) same.1
-            ∙ ap (λ q. get_or (content_in q).stamps x 0) (lookup_push_same e new d.rows none) ∙ new_at d.arrivals d.orders x has_ in
-            let a = has_rows.arrivals in omega (arith, own, a)
-        | inr other ↦
-            let old = lookup_push b e new d.rows other.1 in
-            subst (λ q. n ≤ q) (sym (ap (λ q. get_or (content_in q).stamps x 0) old))
-            (has_rows.high x has_ b (there.0, sym old ∙ there.1))
-      ]
-
-  pub row_added : HasRows n (rows ++ (e, r) ∷ []) o
-  row_added = subst (HasRows n (rows ++ (e, r) ∷ [])) (sym o_is) (record {
+  pub row_added : HasRows (rows ++ (e, r) ∷ []) o
+  row_added = subst (HasRows (rows ++ (e, r) ∷ [])) (sym o_is) (record {
     rows_are = map_push plain_row d.rows (e, new) ∙ ap (λ q. q ++ (e, r) ∷ []) has_rows.rows_are;
-    high = λ x has_ b there. high_there x (sym (stamps_with None e d.orders x) ∙ has_) b there;
+    by_ids = by_ids;
     arrivals = let a = has_rows.arrivals in let l = length_push rows (e, r) in omega (arith, a, l);
     kept = has_rows.kept;
   })
@@ -626,8 +639,17 @@ next_data s d e is none_kept l =
     is_data_counted s d e d.arrivals is none_kept (rise_more d.next e (map plain_row d.rows) l is.table.ordered)
     (λ x has_ b there. stamp_early s d is x has_ b there)
 
-pub size_is : (n : ℕ) (rows : List (ℕ × List Value)) (d : Data) → HasRows n rows d → length (map plain_row d.rows) ≡ length rows
-size_is n rows d h = ap (λ (q : List (ℕ × List Value)). length q) h.rows_are
+-- other counters while indexes are put in order: every stamp is below how many rows there are
+pub rows_low : (s : Shape) (rows : List (ℕ × List Value)) (d : Data) → IsData s d → HasRows rows d → AllLow (length rows) d
+rows_low s rows d is h x has_ b there = let l = stamp_early s d is x has_ b there in let a = h.arrivals in omega (arith, l, a)
+
+pub rows_counted : (s : Shape) (rows : List (ℕ × List Value)) (d : Data) (n : ℕ) → IsData s d → HasRows rows d → length rows ≤ n
+    → IsData s (record d { arrivals = n })
+rows_counted s rows d n is h l =
+    is_data_counted s d d.next n is h.kept is.table.ordered (λ x has_ b there. let e = rows_low s rows d is h x has_ b there in omega (arith, e, l))
+
+pub size_is : (rows : List (ℕ × List Value)) (d : Data) → HasRows rows d → length (map plain_row d.rows) ≡ length rows
+size_is rows d h = ap (λ (q : List (ℕ × List Value)). length q) h.rows_are
 
 -- Rows that are left in reverse
 
@@ -673,7 +695,7 @@ ids_above : (a : ℕ) (rows : List (ℕ × Node)) → AllByRecursion (λ (q : �
 ids_above a [] all = tt
 ids_above a (q ∷ rows) all = (less_is a q.0 all.0, ids_above a rows all.1)
 
-ids_rise : (next : ℕ) (rows : List (ℕ × Node)) → Climbs next rows → Rises nat_cmp (ids_of rows)
+pub ids_rise : (next : ℕ) (rows : List (ℕ × Node)) → Climbs next rows → Rises nat_cmp (ids_of rows)
 ids_rise next [] up = tt
 ids_rise next (r ∷ rows) up = (ids_above r.0 rows up.1, ids_rise next rows up.2)
 
@@ -753,11 +775,20 @@ opened_counted s d n is none_ none_kept =
     is_data_counted s d 0 n is none_kept (subst (λ (q : List (ℕ × Node)). Rise 0 (map plain_row q)) (sym none_) tt)
     (λ x has_ b there. absurd (none_some (sym (ap (λ (q : List (ℕ × Node)). node_of q b) none_) ∙ there.1)))
 
-pub opened_rows : (d : Data) (n : ℕ) → d.rows ≡ [] → d.kept ≡ [] → HasRows n [] (record d { next = 0; arrivals = n })
-opened_rows d n none_ none_kept = record {
+nothing_listed : (ids : List ℕ) → ((b : ℕ) → times b ids ≡ 0) → ids ≡ []
+nothing_listed [] none = refl
+nothing_listed (a ∷ ids) none = absurd (let z = none a in let p = times_first a ids in omega (arith, z, p))
+
+pub opened_rows : (s : Shape) (d : Data) → IsData s d → d.rows ≡ [] → d.kept ≡ [] → HasRows [] (record d { next = 0; arrivals = 0 })
+opened_rows s d is none_ none_kept = record {
   rows_are = ap (map plain_row) none_;
-  high = λ x has_ b there. absurd (none_some (sym (ap (λ (q : List (ℕ × Node)). node_of q b) none_) ∙ there.1));
-  arrivals = omega arith;
+  by_ids = λ x l.
+      let each : ListsEach (as_table d) (list_of (as_table d) x) =
+      all_get (ListsEach (as_table d)) (as_table d).lists x is.table.complete (let f = long_lists 0 d.rows d.orders in omega (arith, f, l)) in
+      nothing_listed (list_of (as_table d) x)
+      (λ b. each b ∙ ap (λ (q : List (ℕ × Node)). cond {A = ℕ} (is_some (lookup (λ k. k == b) (map plain_row q))) 1 0) none_)
+      ∙ sym (ap (map (λ (q : ℕ × Node). q.0)) none_);
+  arrivals = refl;
   kept = none_kept;
 }
 
@@ -783,23 +814,19 @@ lists_fault s t u same (fault.Unique x a b) h = absurd h.2
 lists_fault s t u same fault.Memory h = tt
 
 -- the ids of rows that have come in
-pub ids_of_rows : (n : ℕ) (rows : List (ℕ × List Value)) (d : Data) (ids : List ℕ) → HasRows n rows d → ids ≡ map (λ r. r.0) rows → ids ≡ ids_of d.rows
-ids_of_rows n rows d ids h is = is ∙ ap (map (λ (r : ℕ × List Value). r.0)) (sym h.rows_are) ∙ plain_ids d.rows
+pub ids_of_rows : (rows : List (ℕ × List Value)) (d : Data) (ids : List ℕ) → HasRows rows d → ids ≡ map (λ r. r.0) rows → ids ≡ ids_of d.rows
+ids_of_rows rows d ids h is = is ∙ ap (map (λ (r : ℕ × List Value). r.0)) (sym h.rows_are) ∙ plain_ids d.rows
 
-length_map : {A B : Type 0} (f : A → B) (xs : List A) → length (map f xs) ≡ length xs
-length_map f [] = refl
-length_map f (a ∷ xs) = ap suc (length_map f xs)
-
-pub ids_long : (n : ℕ) (rows : List (ℕ × List Value)) (d : Data) → HasRows n rows d → length (ids_of d.rows) ≡ length rows
-ids_long n rows d h = length_map (λ (r : ℕ × Node). r.0) d.rows ∙ sym (length_map plain_row d.rows) ∙ ap (λ (q : List (ℕ × List Value)). length q) h.rows_are
+pub ids_long : (rows : List (ℕ × List Value)) (d : Data) → HasRows rows d → length (ids_of d.rows) ≡ length rows
+ids_long rows d h = length_map (λ (r : ℕ × Node). r.0) d.rows ∙ sym (length_map plain_row d.rows) ∙ ap (λ (q : List (ℕ × List Value)). length q) h.rows_are
 
 -- All in order, with the counters
 
 module _ (s : Shape) (n : ℕ) (rows : List (ℕ × List Value)) (lists : List (List ℕ)) (next arrivals : ℕ) (d c : Data)
-    (h : HasRows n rows d) (i : ℕ) (to : InOrderTo i n lists d c) (is : IsData s c) (all : length d.orders ≤ i) (long : length lists ≡ length d.orders)
+    (rows_were : map plain_row d.rows ≡ rows) (none_kept : d.kept ≡ []) (i : ℕ) (to : InOrderTo i n lists d c) (is : IsData s c) (all : length d.orders ≤ i) (long : length lists ≡ length d.orders)
     (below : d.next ≤ next) (enough : n ≤ arrivals) where
   pub filled_kept : c.kept ≡ []
-  filled_kept = to.kept ∙ h.kept
+  filled_kept = to.kept ∙ none_kept
 
   pub filled_data : IsData s (record c { next = next; arrivals = arrivals })
   filled_data =
@@ -810,6 +837,6 @@ module _ (s : Shape) (n : ℕ) (rows : List (ℕ × List Value)) (lists : List (
   pub filled_table : (o : Data) → o ≡ record c { next = next; arrivals = arrivals }
       → as_table o ≡ record { rows = rows; lists = lists; next = next; arrivals = arrivals }
   filled_table o o_is =
-      let rows_are = to.rows ∙ h.rows_are in
+      let rows_are = to.rows ∙ rows_were in
       let lists_are = ordered_lists i n lists d c to all long in
       ap as_table o_is ∙ (λ j. record { rows = rows_are j; lists = lists_are j; next = next; arrivals = arrivals })

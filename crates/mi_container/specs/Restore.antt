@@ -1,11 +1,13 @@
 -- A container that is restored from a table: its rows come in by their ids, and then each index is put in the order of its list.
 --     image_table      the table that an image is
---     restamped_in, restamped_all      rows get other stamps in one index
+--     restamped_in, restamped_all, raised_all      rows get other stamps in one index, the last one first or the first one first
+--     Rising      ids that rise
 --     moved_all      rows go to the end of the list of one index, one after another
 --     High, Low      no row has a stamp there that is below a count, or each has
 --     SameBut      only one index may have changed
 --     InOrderTo      the indexes below a number are in the order of their lists
---     HasRows      rows that have come in, with stamps from a count on
+--     AreByIds      each index has its rows in the order of their ids
+--     HasRows      rows that have come in, with stamps from 0 on
 --     IsRowFault, IsRowsFault      why a row, or one of many, doesn't come in
 --     IsListFault, IsListsFault      why a list, or one of many, is none of an index
 --     RowsFit      all rows fit the columns
@@ -22,7 +24,7 @@ use Rattle.mi_catalog.specs.Shape.{Shape, index_at}
 use Rattle.mi_catalog.specs.Key.{Row}
 use Rattle.mi_model.specs.Table.{Table, ListsEach, list_of, size, Rise}
 use Rattle.mi_model.specs.Conflict.{conflict_from}
-use Rattle.mi_container.specs.Data.{Content, Data, has_stamps, order_at, content_of, stamp_of, plain_row, as_table}
+use Rattle.mi_container.specs.Data.{Content, Data, has_stamps, order_at, content_of, stamp_of, ids_of, plain_row, as_table}
 use Rattle.mi_container.specs.Changes.{with_content, relocated_in}
 use Rattle.mi_container.specs.Fits.{IsThere}
 use Rattle.mi_container.specs.declared.restore.RestoreFault.{RestoreFault}
@@ -45,6 +47,16 @@ restamped_in x e a d = record d { rows = with_content e (with_stamp x a (content
 abbrev pub restamped_all : ℕ → List ℕ → ℕ → Data → Data
 restamped_all x [] a d = d
 restamped_all x (e ∷ ids) a d = restamped_in x e a (restamped_all x ids (suc a) d)
+
+-- the same, where the first one is the first to get its stamp
+abbrev pub raised_all : ℕ → List ℕ → ℕ → Data → Data
+raised_all x [] a d = d
+raised_all x (e ∷ ids) a d = raised_all x ids (suc a) (restamped_in x e a d)
+
+-- each id is below those behind it
+abbrev pub Rising : List ℕ → Type 0
+Rising [] = Unit {0}
+Rising (e ∷ ids) = AllByRecursion (λ b. e < b) ids × Rising ids
 
 -- each goes to the end
 abbrev pub moved_all : ℕ → List ℕ → Data → Data
@@ -83,11 +95,15 @@ pub record InOrderTo (i n : ℕ) (lists : List (List ℕ)) (d c : Data) : Type 0
   pub left : (y : ℕ) → i ≤ y → order_at c.orders y ≡ order_at d.orders y
   pub stamps : (y b : ℕ) → i ≤ y → stamp_of c.rows y b ≡ stamp_of d.rows y b
 
--- these rows have come in, with stamps from n on
-pub record HasRows (n : ℕ) (rows : List (ℕ × List Value)) (d : Data) : Type 0 where
+-- each index has its rows in the order of their ids
+abbrev pub AreByIds : Data → Type 0
+AreByIds d = (x : ℕ) → x < length d.orders → list_of (as_table d) x ≡ ids_of d.rows
+
+-- these rows have come in, with stamps from 0 on
+pub record HasRows (rows : List (ℕ × List Value)) (d : Data) : Type 0 where
   pub rows_are : map plain_row d.rows ≡ rows
-  pub high : (x : ℕ) → has_stamps (order_at d.orders x) ≡ true → High x n d
-  pub arrivals : d.arrivals ≡ n + length rows
+  pub by_ids : AreByIds d
+  pub arrivals : d.arrivals ≡ length rows
   pub kept : d.kept ≡ []
 
 -- why the row of e doesn't come in behind these: a unique index refuses it, or memory

@@ -1,9 +1,9 @@
 -- What the order of an index is, by its kind and its parts.
 -- Cited by `MultiIndex::check_list`, `MultiIndex::check_lists`, `MultiIndex::fill`, `MultiIndex::keeping`, `MultiIndex::list` and 5 more.
-use Rattle.std.proofs.Common.{◌≡◌, ℕ, ◌<◌, zero, suc, true, false, inl, inr, Vec, Global, List, [], ◌∷◌, map, length, get_or, set, replicate, refl, sym, ap, ◌∙◌, subst, arith}
+use Rattle.std.proofs.Common.{◌≡◌, ℕ, ◌<◌, zero, suc, true, false, inl, inr, Vec, Global, List, [], ◌∷◌, ◌-◌, map, take, drop, length, get_or, set, replicate, refl, sym, ap, ◌∙◌, subst, arith}
 use Rattle.std.specs.Prelude.{◌==◌}
 use Rattle.std.proofs.lemmas.Bool.Decides.{eqb_tells}
-use Rattle.std.proofs.lemmas.List.{get_or-set_same, get_or-set_other}
+use Rattle.std.proofs.lemmas.List.{get_or-set_same, get_or-set_other, length-drop}
 use Rattle.mi_value.specs.declared.value.Value.{Value}
 use Rattle.mi_catalog.specs.declared.index.Index.{Index}
 use Rattle.mi_catalog.specs.declared.index.IndexKind.{IndexKind}
@@ -122,3 +122,15 @@ ids_alone s os x k fit few h is = fits_ids (index_at s x) (order_at os x) (kinds
 pub ids_count : (rows : List (ℕ × List Value)) → length (map (λ (r : ℕ × List Value). r.0) rows) ≡ length rows
 ids_count [] = refl
 ids_count (r ∷ rows) = ap suc (ids_count rows)
+
+-- What is behind the first ids of a list
+
+take_whole : (ids : List ℕ) → take (length ids) ids ≡ ids
+take_whole [] = refl
+take_whole (e ∷ ids) = ap (λ q. e ∷ q) (take_whole ids)
+
+pub long_behind : (k : ℕ) (ids : List ℕ) → length (drop k ids) ≡ length ids - k
+long_behind k ids = length-drop k ids
+
+pub all_behind : (k : ℕ) (ids : List ℕ) → take (length ids - k) (drop k ids) ≡ drop k ids
+all_behind k ids = ap (λ n. take n (drop k ids)) (sym (long_behind k ids)) ∙ take_whole (drop k ids)

@@ -1,6 +1,6 @@
-//! A container that is restored from a table: its rows come in by their ids, and then each index is put in the order of its
-//! list. No stamp crosses the border, only order.
-ghost use Rattle.std.specs.Prelude.{◌≡◌, ◌≢◌, ◌+◌, ◌^◌, ◌<◌, ◌≤◌, ◌==◌, ℕ, true, false, List, [], ◌∷◌, ◌++◌, map, length, slice_index_or, IfOk, IfErr};
+//! A container that is restored from a table: its rows come in by their ids, with rising stamps. Then an index whose list is another one is
+//! put in its order: the rows behind those of the list that rise get new stamps. No stamp crosses the border, only order.
+ghost use Rattle.std.specs.Prelude.{◌≡◌, ◌≢◌, ◌+◌, ◌-◌, ◌^◌, ◌<◌, ◌≤◌, ◌==◌, ℕ, true, false, List, [], ◌∷◌, ◌++◌, map, take, drop, length, slice_index_or, IfOk, IfErr};
 ghost use Rattle.std.specs.List.{AllByRecursion};
 ghost use Rattle.mi_value.specs.declared.limits.TheConstants.{LAST_COUNT as last_count};
 ghost use Rattle.mi_model.specs.Table.{ListsEach, list_of, size as size_of};
@@ -14,7 +14,7 @@ ghost use Rattle.mi_container.specs.Data.Order.{ById};
 ghost use Rattle.mi_container.specs.Fits.{IsLive, IsThere, HasOwnList};
 ghost use Rattle.mi_container.specs.Backs.{row_seen};
 ghost use Rattle.mi_container.specs.Secrets.{opened_secrets};
-ghost use Rattle.mi_container.specs.Restore.{restamped_in, restamped_all, moved_all, High, Low, SameBut, InOrderTo, HasRows, RowsFit, IsFitFault, IsRowFault, IsRowsFault, IsListFault, IsListsFault, IsRestoreFault};
+ghost use Rattle.mi_container.specs.Restore.{restamped_in, restamped_all, raised_all, Rising, moved_all, High, Low, SameBut, AreByIds, InOrderTo, HasRows, RowsFit, IsFitFault, IsRowFault, IsRowsFault, IsListFault, IsListsFault, IsRestoreFault};
 ghost use Rattle.mi_multi.specs.Restoring.{keeping_of};
 
 use crate::multi::MultiIndex;
@@ -49,6 +49,29 @@ fn are_same(left: &[u64], right: &[u64]) -> bool
     ensures no { result ≡ false → left.now ≡ right.now → ⊥ }
 {
     left == right
+}
+
+/// The ids behind the first ones.
+fn behind(ids: &[u64], kept: usize) -> &[u64]
+    requires { kept ≤ length ids.now }
+    ensures { result.now ≡ drop kept ids.now }
+{
+    &ids[kept..]
+}
+
+/// How many of the first ids rise.
+fn first_rising(ids: &[u64]) -> usize
+    ensures within { result ≤ length ids.now }
+    ensures up { Rising (take result ids.now) }
+{
+    let mut last = 0;
+    'ids: for (place, id) in ids.iter().enumerate() {
+        if place > 0 && *id <= last {
+            return place;
+        }
+        last = *id;
+    }
+    ids.len()
 }
 
 /// A mark for each index that a table may have; that of one index is set.
@@ -113,6 +136,26 @@ impl MultiIndex {
         }
     }
 
+    /// Gives the rows of these ids rising stamps in an index that has stamps. No row has a stamp there yet that is as high: so each one goes
+    /// behind those of its key, where it is looked for at once. Takes no memory.
+    fn raise_rows(&mut self, index: usize, ids: &[u64], first: u64, marks: &[bool])
+        requires index { index < length self.old.plain.orders }
+        requires there { AllByRecursion (IsThere self.old.plain.rows) ids.now }
+        requires stamped { has_stamps (order_at self.old.plain.orders index) ≡ true }
+        requires low { Low index first self.old.plain }
+        requires early { first + length ids.now ≤ self.old.plain.arrivals }
+        requires few { first + length ids.now < 2 ^ 63 }
+        requires marks { (k : ℕ) → mark_at marks.now k ≡ (k == index) }
+        ensures plain { self.new.plain ≡ raised_all index ids.now first self.old.plain }
+        ensures shape { self.new.shape ≡ self.old.shape }
+        ensures secrets { self.new.secrets ≡ self.old.secrets }
+    {
+        self.keeps_rules();
+        for place in 0..ids.len() {
+            self.restamp_id(index, ids[place], first + place as u64, marks);
+        }
+    }
+
     /// The row of an id goes to the end of the list of a sequenced index. Takes no memory.
     fn move_last(&mut self, index: usize, id: u64)
         requires index { IsSequenced self.old.shape index }
@@ -153,24 +196,77 @@ impl MultiIndex {
         }
     }
 
-    /// An index that has stamps is put in the order of a list. Takes no memory.
-    fn put_by_stamps(&mut self, index: usize, ids: &[u64])
+    /// An index that has stamps is put in the order of a list: the rows behind the first ones, whose ids rise, get stamps above all others.
+    /// Takes no memory.
+    fn put_behind(&mut self, index: usize, list: &[u64], kept: usize, first: u64)
         requires index { index < length self.old.shape.indexes }
-        requires each { ListsEach (as_table self.old.plain) ids.now }
+        requires each { ListsEach (as_table self.old.plain) list.now }
         requires stamped { has_stamps (order_at self.old.plain.orders index) ≡ true }
-        requires high { High index (length ids.now) self.old.plain }
-        requires early { length ids.now ≤ self.old.plain.arrivals }
+        requires by_ids { list_of (as_table self.old.plain) index ≡ ids_of self.old.plain.rows }
+        requires within { kept ≤ length list.now }
+        requires up { Rising (take kept list.now) }
+        requires low { Low index first self.old.plain }
+        requires early { first + length list.now ≤ self.old.plain.arrivals }
+        requires few { first + length list.now < 2 ^ 63 }
         ensures same { SameBut index self.old.plain self.new.plain }
-        ensures list { list_of (as_table self.new.plain) index ≡ ids.now }
-        ensures low { Low index (length ids.now) self.new.plain }
+        ensures list { list_of (as_table self.new.plain) index ≡ list.now }
+        ensures low { Low index (first + (length list.now - kept)) self.new.plain }
         ensures shape { self.new.shape ≡ self.old.shape }
         ensures secrets { self.new.secrets ≡ self.old.secrets }
     {
         self.keeps_rules();
         self.schema.keeps_rules();
         let marks = only(index);
-        self.restamp_rows(index, ids, &marks);
+        self.raise_rows(index, behind(list, kept), first, &marks);
         self.keeps_rules();
+    }
+
+    /// An index that has stamps is put in the order of a list, with the lowest stamps there are: all get stamps above all others first. Takes no
+    /// memory.
+    fn put_all_anew(&mut self, index: usize, list: &[u64])
+        requires index { index < length self.old.shape.indexes }
+        requires each { ListsEach (as_table self.old.plain) list.now }
+        requires stamped { has_stamps (order_at self.old.plain.orders index) ≡ true }
+        requires low { Low index (length list.now) self.old.plain }
+        requires early { length list.now + length list.now ≤ self.old.plain.arrivals }
+        requires few { length list.now < 2 ^ 62 }
+        ensures same { SameBut index self.old.plain self.new.plain }
+        ensures list { list_of (as_table self.new.plain) index ≡ list.now }
+        ensures low { Low index (length list.now) self.new.plain }
+        ensures shape { self.new.shape ≡ self.old.shape }
+        ensures secrets { self.new.secrets ≡ self.old.secrets }
+    {
+        self.keeps_rules();
+        self.schema.keeps_rules();
+        let marks = only(index);
+        self.raise_rows(index, list, list.len() as u64, &marks);
+        self.keeps_rules();
+        self.restamp_rows(index, list, &marks);
+        self.keeps_rules();
+    }
+
+    /// An index that has stamps is put in the order of a list, with stamps below a number. Takes no memory.
+    fn put_by_stamps(&mut self, index: usize, list: &[u64], most: u64)
+        requires index { index < length self.old.shape.indexes }
+        requires each { ListsEach (as_table self.old.plain) list.now }
+        requires stamped { has_stamps (order_at self.old.plain.orders index) ≡ true }
+        requires by_ids { list_of (as_table self.old.plain) index ≡ ids_of self.old.plain.rows }
+        requires low { Low index (length list.now) self.old.plain }
+        requires early { length list.now + length list.now ≤ self.old.plain.arrivals }
+        requires few { length list.now < 2 ^ 62 }
+        requires most { length list.now ≤ most }
+        ensures same { SameBut index self.old.plain self.new.plain }
+        ensures list { list_of (as_table self.new.plain) index ≡ list.now }
+        ensures low { Low index most self.new.plain }
+        ensures shape { self.new.shape ≡ self.old.shape }
+        ensures secrets { self.new.secrets ≡ self.old.secrets }
+    {
+        let kept = first_rising(list);
+        if (list.len() - kept) as u64 <= most - list.len() as u64 {
+            self.put_behind(index, list, kept, list.len() as u64);
+        } else {
+            self.put_all_anew(index, list);
+        }
     }
 
     /// A sequenced index is put in the order of a list. Takes no memory.
@@ -188,44 +284,57 @@ impl MultiIndex {
         self.move_rows(index, ids);
     }
 
-    /// An index is put in the order of a list, which is that of the ids where the index goes by them alone. Takes no memory.
-    fn put_in_order(&mut self, index: usize, ids: &[u64])
+    /// An index whose rows stand by their ids is put in the order of a list, which is that of the ids where the index goes by them alone. Stamps
+    /// are then below a number. Takes no memory.
+    fn put_in_order(&mut self, index: usize, list: &[u64], ids: &[u64], most: u64)
         requires index { index < length self.old.shape.indexes }
-        requires each { ListsEach (as_table self.old.plain) ids.now }
-        requires by_id { order_at self.old.plain.orders index ≡ ById → ids.now ≡ ids_of self.old.plain.rows }
-        requires high { has_stamps (order_at self.old.plain.orders index) ≡ true → High index (length ids.now) self.old.plain }
-        requires early { length ids.now ≤ self.old.plain.arrivals }
+        requires ids { ids.now ≡ ids_of self.old.plain.rows }
+        requires by_ids { list_of (as_table self.old.plain) index ≡ ids_of self.old.plain.rows }
+        requires each { ListsEach (as_table self.old.plain) list.now }
+        requires long { length list.now ≡ length ids.now }
+        requires by_id { order_at self.old.plain.orders index ≡ ById → list.now ≡ ids_of self.old.plain.rows }
+        requires low { has_stamps (order_at self.old.plain.orders index) ≡ true → Low index (length ids.now) self.old.plain }
+        requires early { length ids.now + length ids.now ≤ self.old.plain.arrivals }
+        requires few { length ids.now < 2 ^ 62 }
+        requires most { length ids.now ≤ most }
         ensures same { SameBut index self.old.plain self.new.plain }
-        ensures list { list_of (as_table self.new.plain) index ≡ ids.now }
-        ensures low { has_stamps (order_at self.new.plain.orders index) ≡ true → Low index (length ids.now) self.new.plain }
+        ensures list { list_of (as_table self.new.plain) index ≡ list.now }
+        ensures low { has_stamps (order_at self.new.plain.orders index) ≡ true → Low index most self.new.plain }
         ensures shape { self.new.shape ≡ self.old.shape }
         ensures secrets { self.new.secrets ≡ self.old.secrets }
     {
+        if are_same(list, ids) {
+            return;
+        }
         self.keeps_rules();
         match self.keeping(index) {
             Keeping::Ids => {}
-            Keeping::Stamps => self.put_by_stamps(index, ids),
-            Keeping::List => self.put_by_list(index, ids),
+            Keeping::Stamps => self.put_by_stamps(index, list, most),
+            Keeping::List => self.put_by_list(index, list),
         }
     }
 
-    /// Each index is put in the order of its list. No row has a stamp yet that is below how many rows there are. Takes no memory.
-    fn put_all_in_order(&mut self, lists: &[Vec<u64>], count: u64)
+    /// Each index is put in the order of its list. Now all have their rows by their ids, with stamps below how many there are; then stamps
+    /// are below a number. Takes no memory.
+    fn put_all_in_order(&mut self, lists: &[Vec<u64>], ids: &[u64], most: u64)
         requires long { length lists.now ≡ length self.old.shape.indexes }
-        requires counts { AllByRecursion (λ l. length l ≡ count) (map (λ l. l.items) lists.now) }
+        requires ids { ids.now ≡ ids_of self.old.plain.rows }
+        requires by_ids { AreByIds self.old.plain }
+        requires counts { AllByRecursion (λ l. length l ≡ length ids.now) (map (λ l. l.items) lists.now) }
         requires each { AllByRecursion (ListsEach (as_table self.old.plain)) (map (λ l. l.items) lists.now) }
         requires by_id { (x : ℕ) → x < length self.old.shape.indexes → order_at self.old.plain.orders x ≡ ById
             → slice_index_or (map (λ l. l.items) lists.now) x [] ≡ ids_of self.old.plain.rows }
-        requires high { (x : ℕ) → has_stamps (order_at self.old.plain.orders x) ≡ true → High x count self.old.plain }
-        requires early { count ≤ self.old.plain.arrivals }
-        ensures ordered { InOrderTo (length lists.now) count (map (λ l. l.items) lists.now) self.old.plain self.new.plain }
+        requires low { (x : ℕ) → has_stamps (order_at self.old.plain.orders x) ≡ true → Low x (length ids.now) self.old.plain }
+        requires early { length ids.now + length ids.now ≤ self.old.plain.arrivals }
+        requires few { length ids.now < 2 ^ 62 }
+        requires most { length ids.now ≤ most }
+        ensures ordered { InOrderTo (length lists.now) most (map (λ l. l.items) lists.now) self.old.plain self.new.plain }
         ensures shape { self.new.shape ≡ self.old.shape }
         ensures secrets { self.new.secrets ≡ self.old.secrets }
     {
         self.keeps_rules();
-        let _ = count;
         for index in 0..lists.len() {
-            self.put_in_order(index, lists[index].as_slice());
+            self.put_in_order(index, lists[index].as_slice(), ids, most);
         }
     }
 
@@ -249,8 +358,8 @@ impl MultiIndex {
         requires arrivals { self.old.plain.arrivals < last_count }
         requires room { size_of (as_table self.old.plain) < self.old.shape.max_rows }
         requires kept { self.old.plain.kept ≡ [] }
-        ensures added { (n : ℕ) (rows : List (ℕ × List Value)) → HasRows n rows self.old.plain
-            → IfOk result (λ _. HasRows n (rows ++ (id, row) ∷ []) self.new.plain) }
+        ensures added { (rows : List (ℕ × List Value)) → HasRows rows self.old.plain
+            → IfOk result (λ _. HasRows (rows ++ (id, row) ∷ []) self.new.plain) }
         ensures next { IfOk result (λ _. self.new.plain.next ≡ id + 1) }
         ensures fault { IfErr result (λ e. IsRowFault self.old.shape (as_table self.old.plain).rows id row e) }
         ensures shape { self.new.shape ≡ self.old.shape }
@@ -280,11 +389,11 @@ impl MultiIndex {
         next: u64,
     ) -> Result<(), RestoreFault>
         requires first { self.old.plain.next ≡ 0 }
-        requires none { HasRows (length rows.items) [] self.old.plain }
+        requires none { HasRows [] self.old.plain }
         requires few { length rows.items ≤ self.old.shape.max_rows }
         requires most { length rows.items < 2 ^ 62 }
         requires next { next ≤ last_count }
-        ensures added { IfOk result (λ _. HasRows (length rows.items) rows.items self.new.plain) }
+        ensures added { IfOk result (λ _. HasRows rows.items self.new.plain) }
         ensures next { IfOk result (λ _. self.new.plain.next ≤ next) }
         ensures fault { IfErr result (λ e. IsRowsFault self.old.shape next rows.items e) }
         ensures shape { self.new.shape ≡ self.old.shape }
@@ -309,6 +418,9 @@ impl MultiIndex {
         ensures other { IfOk result (λ b. b ≡ false → ListsEach (as_table self.now.plain) list.now → ⊥) }
     {
         self.keeps_rules();
+        if are_same(list, ids) {
+            return Ok(true);
+        }
         let mut copy = Vec::from_slice(alloc, list)?;
         copy.sort()?;
         Ok(are_same(copy.as_slice(), ids))
@@ -385,16 +497,16 @@ impl MultiIndex {
         ensures shape { self.new.shape ≡ self.old.shape }
         ensures secrets { self.new.secrets ≡ self.old.secrets }
     {
-        let count = rows.len() as u64;
         let ids = row_ids(alloc, rows.as_slice())?;
         self.keeps_rules();
-        self.set_counters(0, count);
+        self.set_counters(0, 0);
         self.add_rows(alloc, rows, next)?;
         match self.check_lists(alloc, ids.as_slice(), lists) {
             Err(fault) => Err(fault),
             Ok(()) => {
                 self.keeps_rules();
-                self.put_all_in_order(lists, count);
+                self.set_counters(self.next, LAST_COUNT);
+                self.put_all_in_order(lists, ids.as_slice(), arrivals);
                 self.keeps_rules();
                 self.set_counters(next, arrivals);
                 Ok(())

@@ -26,12 +26,12 @@ pub returns-clause-image : goal.returns-clause-image
 returns-clause-image g c =
     table_is c.args.schema.now c.in_ok-rows.rows.items _ (map (λ x. x.items) c.in_ok-lists.lists.items) _ _ _ _
     (has_index c.args.schema.now c.keeps_rules.ensures) (ap (λ n. n - 1) c.index_count.ensures) c.in_ok-lists.ensures.count
-    (c.in_ok-ids_of.ensures ∙ ap (map (λ r. r.0)) c.as_slice.ensures.value) (lists_of _ _ _ c.in_ok-put_first.ensures) c.in_ok-rows.ensures.fits
+    (c.in_ok-ids_of.ensures ∙ ap (map (λ r. r.0)) c.as_slice-2.ensures.value) (lists_of _ _ _ c.in_ok-put_first.ensures) c.in_ok-rows.ensures.fits
 
 pub returns-clause-exact : goal.returns-clause-exact
 returns-clause-exact g c =
     table_reads c.args.schema.now _ _ c.in_ok-head.head c.in_ok-rows.rows.items _ (map (λ x. x.items) c.in_ok-lists.lists.items) _
     (has_index c.args.schema.now c.keeps_rules.ensures)
-    (c.in_ok-ids_of.ensures ∙ ap (map (λ r. r.0)) c.as_slice.ensures.value) (lists_of _ _ _ c.in_ok-put_first.ensures)
+    (c.in_ok-ids_of.ensures ∙ ap (map (λ r. r.0)) c.as_slice-2.ensures.value) (lists_of _ _ _ c.in_ok-put_first.ensures)
     (table_lists c.args.schema.now _ _ _ _ _ _ (ap (λ n. n - 1) c.index_count.ensures)
     (table_rows c.args.schema.now _ _ _ _ _ c.table_name.ensures c.in_ok-head.ensures.exact c.in_ok-rows.ensures.exact) c.in_ok-lists.ensures.exact)

@@ -14,12 +14,12 @@ set_counters-requires-clause-data c =
     (next_data c.args.self.now.shape d c.args.id c.keeps_rules.ensures c.requires.kept c.requires.id)
 
 pub returns-in-Ok-clause-added : goal.returns-in-Ok-clause-added
-returns-in-Ok-clause-added c n rows has_rows =
+returns-in-Ok-clause-added c rows has_rows =
     let d = c.args.self.now.plain in
     let made = c.in-Ok.ensures.made in
     let at : c.set_counters-2.new.self.plain ≡ record d { next = c.args.id } =
     c.set_counters-2.ensures.plain
     ∙ ap (λ a. record d { next = c.args.id; arrivals = a }) (ap (λ (w : Seen). w.plain.arrivals) c.set_counters.view_is) in
-    row_added c.args.self.now.shape n rows d c.insert_accepted.new.self.plain c.args.id c.args.row made.0 has_rows
+    row_added c.args.self.now.shape rows d c.insert_accepted.new.self.plain c.args.id c.args.row made.0 has_rows
     (next_data c.args.self.now.shape d c.args.id c.keeps_rules.ensures c.requires.kept c.requires.id)
     (made.1.changed_data ∙ ap (λ (q : Data). inserted None made.0 c.args.row q) at)

@@ -5,7 +5,7 @@ use Rattle.mi_container.specs.Restore.{HasRows, next_after}
 use Rattle.mi_multi.proofs.multi.MultiIndex.add_rows.Given as goal
 
 abbrev pub invariant-rows : goal.invariant-rows
-invariant-rows l = (done : List (ℕ × List Value)) × (done ++ reverse l.rest.items ≡ l.fn.rows.items) × HasRows (length l.fn.rows.items) done l.self.plain
+invariant-rows l = (done : List (ℕ × List Value)) × (done ++ reverse l.rest.items ≡ l.fn.rows.items) × HasRows done l.self.plain
     × (l.self.plain.next ≡ next_after 0 done) × (l.self.plain.next ≤ l.next) × (l.self.shape ≡ l.fn.self.shape) × (l.self.secrets ≡ l.fn.self.secrets)
 
 abbrev pub decreases-rows : goal.decreases-rows

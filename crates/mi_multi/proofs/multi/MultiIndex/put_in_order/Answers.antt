@@ -10,6 +10,9 @@ put_by_list-requires-clause-sequenced c =
     sequenced_of c.args.self.now.shape c.args.self.now.plain.orders c.args.index c.keeping.result
     c.keeps_rules.ensures.kinds c.requires.index c.keeping.ensures c.in-List.is
 
+pub returns-then-are_same-clause-list : goal.returns-then-are_same-clause-list
+returns-then-are_same-clause-list c = c.requires.by_ids ∙ sym c.requires.ids ∙ sym (c.are_same.ensures.yes c.if-are_same.true)
+
 pub returns-in-Ids-clause-list : goal.returns-in-Ids-clause-list
 returns-in-Ids-clause-list c =
     let d = c.args.self.now.plain in let s = c.args.self.now.shape in
