@@ -136,14 +136,15 @@ fn open<'a>(lexemes: &mut Lexemes<'a>, token: Start<'a>) -> Option<(Start<'a>, C
     Some((token, Context::Fresh))
 }
 
-/// True or false.
-#[inline(always)]
-fn flag<'a>(lexemes: &mut Lexemes<'a>) -> Option<(Start<'a>, Context)>
+/// True, false or null. It is called, so that what reads any value stays short enough to stand where it is asked.
+#[inline(never)]
+fn literal<'a>(lexemes: &mut Lexemes<'a>) -> Option<(Start<'a>, Context)>
     ensures { IfSome result (λ t. Begins lexemes.old (token_of t.0) t.1 lexemes.new) }
 {
     match lexemes.peek() {
         b't' => word(lexemes, b"true", Start::Bool(true)),
         b'f' => word(lexemes, b"false", Start::Bool(false)),
+        b'n' => word(lexemes, b"null", Start::Null),
         _ => None,
     }
 }
@@ -157,8 +158,7 @@ fn begin<'a>(lexemes: &mut Lexemes<'a>) -> Option<(Start<'a>, Context)>
         b'"' => string(lexemes),
         b'{' => open(lexemes, Start::Object),
         b'[' => open(lexemes, Start::Array),
-        b't' | b'f' => flag(lexemes),
-        b'n' => word(lexemes, b"null", Start::Null),
+        b't' | b'f' | b'n' => literal(lexemes),
         b'-' | b'0'..=b'9' => number(lexemes),
         _ => None,
     }
@@ -259,7 +259,7 @@ impl<'a> Tokens<'a> {
         if !self.context.may_begin() {
             return None;
         }
-        let (token, context) = flag(&mut self.lexemes)?;
+        let (token, context) = literal(&mut self.lexemes)?;
         self.context = context;
         match token {
             Start::Bool(b) => Some(b),
