@@ -41,8 +41,7 @@ fn is_name_byte(byte: u8) -> bool
 fn name_stops_16(bytes: u8x16) -> u64
     ensures { result ≡ mask_l (map short.stops_name bytes) }
 {
-    let between =
-        u8x16::splat(b'9').simd_lt(bytes) & bytes.simd_lt(u8x16::splat(b'_'));
+    let between = u8x16::splat(b'9').simd_lt(bytes) & bytes.simd_lt(u8x16::splat(b'_'));
     (bytes.simd_lt(u8x16::splat(b'0'))
         | between
         | bytes.simd_eq(u8x16::splat(b'`'))

@@ -1,5 +1,5 @@
 -- A front stands at the beginning just where the first bytes, as many, are the same.
-use Rattle.std.proofs.Common.{◌≡◌, ℕ, List, None, length, take, drop, option_map, ap, sym, ◌∙◌, true≢false, rules}
+use Rattle.std.proofs.Common.{◌≡◌, None, length, take, drop, option_map, ap, sym, ◌∙◌, true≢false, rules}
 use Rattle.mi_request.proofs.WordLemmas.{not_behind, is_behind, short_of}
 use Rattle.mi_request.proofs.words.behind.Goals as goal
 

@@ -9,8 +9,7 @@ pub returns-then-number_4 : goal.returns-then-number_4
 returns-then-number_4 c =
     let a : List ℕ = c.args.a.now in
     let b : List ℕ = c.args.b.now in
-    let first = sym c.number_4.ensures.bytes ∙ ap (to_le_bytes w32) c.if-number_4.true ∙ c.number_4-2.ensures.bytes in
-    (
+    let first = sym c.number_4.ensures.bytes ∙ ap (to_le_bytes w32) c.if-number_4.true ∙ c.number_4-2.ensures.bytes in (
       λ same.
           let last = sym c.number_4-then-number_4.ensures.bytes ∙ ap (to_le_bytes w32) (eqb-true _ _ same) ∙ c.number_4-then-number_4-2.ensures.bytes in
           same_ends 4 (length a) a b (omega arith) (omega (arith, c.requires.len)) c.requires.covers.0 c.requires.covers.1 first last,

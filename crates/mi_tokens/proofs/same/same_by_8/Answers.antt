@@ -9,8 +9,7 @@ pub returns-then-number_8 : goal.returns-then-number_8
 returns-then-number_8 c =
     let a : List ℕ = c.args.a.now in
     let b : List ℕ = c.args.b.now in
-    let first = sym c.number_8.ensures.bytes ∙ ap (to_le_bytes w64) c.if-number_8.true ∙ c.number_8-2.ensures.bytes in
-    (
+    let first = sym c.number_8.ensures.bytes ∙ ap (to_le_bytes w64) c.if-number_8.true ∙ c.number_8-2.ensures.bytes in (
       λ same.
           let last = sym c.number_8-then-number_8.ensures.bytes ∙ ap (to_le_bytes w64) (eqb-true _ _ same) ∙ c.number_8-then-number_8-2.ensures.bytes in
           same_ends 8 (length a) a b (omega arith) (omega (arith, c.requires.len)) c.requires.covers.0 c.requires.covers.1 first last,
