@@ -1,5 +1,5 @@
 -- What is written of a short line is read, and what is read was written.
--- Cited by `ShortRequest::of`, `short::commit`, `short::erase`, `short::get`, `short::nth` and 9 more.
+-- Cited by `ShortRequest::of`, `short::commit`, `short::erase`, `short::get`, `short::nth` and 10 more.
 use Rattle.std.proofs.Common.{◌≡◌, ℕ, suc, ◌+◌, ◌-◌, ◌^◌, ◌<◌, ◌≤◌, ◌==◌, List, [], ◌∷◌, ◌++◌, length, get_or, take, drop, Bool, true, false, cond, not, ◌&&◌}
 use Rattle.std.proofs.Common.{Option, Some, None, is_some, option_map, option_and_then, bytes_eq, decimal, codes, nat_lt, refl, sym, ap, ap₂, ◌∙◌, subst, arith, inl, inr}
 use Rattle.std.proofs.Common.{append_assoc, length-append, ltb-true, lt-ltb, true≢false, Bor}
