@@ -1,8 +1,8 @@
 -- What is written of a short line is read, and what is read was written.
--- Cited by `ShortRequest::of`, `short::commit`, `short::erase`, `short::get`, `short::nth` and 9 more.
+-- Cited by `ShortRequest::of`, `short::commit`, `short::erase`, `short::get`, `short::nth` and 10 more.
 use Rattle.std.proofs.Common.{◌≡◌, ℕ, suc, ◌+◌, ◌-◌, ◌^◌, ◌<◌, ◌≤◌, ◌==◌, List, [], ◌∷◌, ◌++◌, length, get_or, take, drop, Bool, true, false, cond, not, ◌&&◌}
 use Rattle.std.proofs.Common.{Option, Some, None, is_some, option_map, option_and_then, bytes_eq, decimal, codes, nat_lt, refl, sym, ap, ap₂, ◌∙◌, subst, arith, inl, inr}
-use Rattle.std.proofs.Common.{append_assoc, ltb-true, lt-ltb, true≢false, Bor}
+use Rattle.std.proofs.Common.{append_assoc, length-append, ltb-true, lt-ltb, true≢false, Bor}
 use Rattle.std.specs.Prelude.{IfSome}
 use Rattle.std.proofs.Common.{◌*◌, add-one, pow-suc}
 use Rattle.std.proofs.lemmas.Int.Digits.{digits_value_more}
@@ -10,6 +10,7 @@ use Rattle.std.proofs.lemmas.Str.{digit_value_digit}
 use Rattle.std.proofs.lemmas.Bool.{cases_lt, or_cases}
 use Rattle.std.proofs.Common.{nat_le, IsUtf8}
 use Rattle.std.proofs.lemmas.List.{take_rest}
+use Rattle.std.proofs.Math.Seq.{take-append_seam}
 use Rattle.json.proofs.Printed.Utf8.{are_ascii, IsUtf8-are_ascii}
 use Rattle.std.proofs.lemmas.Fmt.{decimal_nonempty}
 use Rattle.std.proofs.lemmas.List.{get_or-take}
@@ -22,10 +23,9 @@ use Rattle.std.proofs.lemmas.Slice.Eq.{bytes_eq-Decides}
 use Rattle.std.proofs.lemmas.Str.Parse.{IsNumeralModel, numerals_by_value, tells_all_ascii_digits}
 use Rattle.std.specs.Char.{is_ascii_digit}
 use Rattle.std.specs.List.{prefix_len, list_all}
-use Rattle.std.specs.Option.{MatchOption}
 use Rattle.std.specs.Str.{all_ascii_digits}
 use Rattle.std.specs.Str.Parse.{digits_value}
-use Rattle.mi_request.specs.Short.{Word, name, maybe_name, whole, maybe_whole, Member, is_name_byte, are_name_bytes, is_word, are_words}
+use Rattle.mi_request.specs.Short.{Word, name, maybe_name, whole, maybe_whole, Member, is_name_byte, stops_name, are_name_bytes, is_word, are_words}
 use Rattle.mi_request.specs.Short.{name_front, whole_front, member_text, members_text, command_front, line_text, written, words_of, short_line}
 use Rattle.mi_request.specs.ShortCode.{behind, name_at, natural_of, whole_at, needed_at, present_or, Kind, a_name, perhaps_name, a_whole, perhaps_whole, kind_of}
 use Rattle.mi_request.specs.ShortCode.{Template, template, made, read_member, read_members, read_line, IsRead}
@@ -58,13 +58,25 @@ none_or : (o : Option (List ℕ)) → ((rest : List ℕ) → o ≡ Some rest →
 none_or None never = refl
 none_or (Some rest) never = absurd (never rest refl)
 
--- what `strip_prefix` says, as a value
-pub stripped : (f t : List ℕ) (r : Option (Bor (List ℕ))) → MatchOption r ((rest : List ℕ) → t ≡ f ++ rest → ⊥) (λ x. t ≡ f ++ x.now)
-    → option_map (λ x. x.now) r ≡ behind f t
-stripped f t None h = sym (none_or (behind f t) (λ rest e. h rest (front-behind f t rest e)))
-stripped f t (Some x) h = sym (ap (behind f) h ∙ behind-front f x.now)
+-- where the first bytes aren't the front, nothing stands behind it
+pub not_behind : (f t : List ℕ) → (take (length f) t ≡ f → ⊥) → None ≡ behind f t
+not_behind f t other = sym (none_or (behind f t) (λ rest e. other (ap (take (length f)) (front-behind f t rest e) ∙ take-append_seam f rest)))
+
+pub short_of : (f t : List ℕ) → length t < length f → None ≡ behind f t
+short_of f t few = sym (none_or (behind f t) (λ rest e. omega (arith, few, ap length (front-behind f t rest e), length-append f rest)))
+
+pub is_behind : (f t rest : List ℕ) → take (length f) t ≡ f → rest ≡ drop (length f) t → Some rest ≡ behind f t
+is_behind f t rest first left =
+    sym (ap (behind f) (sym (take-append-drop (length f) t) ∙ ap₂ (λ a b. a ++ b) first (sym left)) ∙ behind-front f rest)
 
 -- ---- runs
+
+not_twice : (b : Bool) → b ≡ not (not b)
+not_twice true = refl
+not_twice false = refl
+
+pub not_stopped : (x : ℕ) → is_name_byte x ≡ not (stops_name x)
+not_stopped x = not_twice (is_name_byte x)
 
 -- a run ends in front of a byte that fails
 pub run_length : (p : ℕ → Bool) (s : List ℕ) (c : ℕ) (rest : List ℕ) → list_all p s ≡ true → p c ≡ false → prefix_len p (s ++ (c ∷ rest)) ≡ length s

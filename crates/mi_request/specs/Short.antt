@@ -1,6 +1,6 @@
 -- Lines whose members are names and whole numbers, as a compact writer writes them: `cmd` first, and then the members in the order of the
 -- table of commands. {"cmd":"rank","index":"balance","id":7} asks a rank.
-use Rattle.std.specs.Prelude.{ℕ, ◌^◌, List, [], ◌∷◌, ◌++◌, Bool, true, ◌&&◌, ◌||◌, ◌==◌, nat_lt, nat_le, if◌then◌else◌}
+use Rattle.std.specs.Prelude.{ℕ, ◌^◌, List, [], ◌∷◌, ◌++◌, Bool, true, not, ◌&&◌, ◌||◌, ◌==◌, nat_lt, nat_le, if◌then◌else◌}
 use Rattle.std.specs.Prelude.{Option, Some, None, option_map, option_and_then, codes, decimal}
 use Rattle.std.specs.List.{list_all}
 use Rattle.mi_request.specs.NullaryCommand.{nullary_of, nullary_name}
@@ -26,6 +26,10 @@ Member = List ℕ × Word
 -- a letter from a to z, a digit or _
 unfoldable pub is_name_byte : ℕ → Bool
 is_name_byte b = (nat_le 97 b && nat_le b 122) || ((nat_le 48 b && nat_le b 57) || (b == 95))
+
+-- any other byte
+abbrev pub stops_name : ℕ → Bool
+stops_name b = not (is_name_byte b)
 
 -- what a name may have in such a line
 abbrev pub are_name_bytes : List ℕ → Bool

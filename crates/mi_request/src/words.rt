@@ -1,13 +1,16 @@
 //! Words of a line, read where they stand: a name, a whole number, and a member that is one of them. It takes no memory and knows no
 //! command.
-ghost use Rattle.std.specs.Prelude.{◌≡◌, ◌<◌, ◌≤◌, length, take, IfSome, None, option_map, bytes_eq, ◌∷◌, []};
+ghost use Rattle.std.specs.Prelude.{◌≡◌, ◌+◌, ◌<◌, ◌≤◌, length, drop, map, take, IfSome, None, option_map, bytes_eq, ◌∷◌, []};
 ghost use Rattle.std.specs.Char.{is_ascii_digit};
 ghost use Rattle.std.specs.Str.Parse.{digits_value};
 ghost use Rattle.std.specs.List.{prefix_len};
+ghost use Rattle.std.specs.Simd.Lanes.{mask_l};
 ghost use Rattle.mi_request.specs.Short as short;
 ghost use Rattle.mi_request.specs.ShortCode as code;
 
 use crate::name::Name;
+use mi_tokens::are_same;
+use std::simd::prelude::*;
 
 /// Digits of a number, at most: so many always fit 64 bits.
 const MOST_DIGITS: usize = 19;
@@ -17,7 +20,12 @@ const MOST_DIGITS: usize = 19;
 pub(crate) fn behind<'a>(front: &[u8], line: &'a [u8]) -> Option<&'a [u8]>
     ensures { option_map (λ r. r.now) result ≡ code.behind front.now line.now }
 {
-    line.strip_prefix(front)
+    let (first, rest) = line.split_at_checked(front.len())?;
+    if are_same(first, front) {
+        Some(rest)
+    } else {
+        None
+    }
 }
 
 /// Whether a byte can stand in a name: a letter from a to z, a digit or _.
@@ -28,17 +36,47 @@ fn is_name_byte(byte: u8) -> bool
     byte.is_ascii_lowercase() || byte.is_ascii_digit() || byte == b'_'
 }
 
-/// Where the bytes of a name end.
+/// A bit for each of sixteen bytes that can't stand in a name.
+#[inline(always)]
+fn name_stops_16(bytes: u8x16) -> u64
+    ensures { result ≡ mask_l (map short.stops_name bytes) }
+{
+    let between = u8x16::splat(b'9').simd_lt(bytes) & bytes.simd_lt(u8x16::splat(b'_'));
+    (bytes.simd_lt(u8x16::splat(b'0'))
+        | between
+        | bytes.simd_eq(u8x16::splat(b'`'))
+        | u8x16::splat(b'z').simd_lt(bytes)).to_bitmask()
+}
+
+/// Where the bytes of a name end, one by one.
+#[inline(always)]
+fn last_name_end(text: &[u8], from: usize) -> usize
+    requires { from ≤ length text.now }
+    ensures value { result ≡ from + prefix_len short.is_name_byte (drop from text.now) }
+    ensures bound { result ≤ length text.now }
+{
+    let mut at = from;
+    'bytes: while at < text.len() && is_name_byte(text[at]) {
+        at += 1;
+    }
+    at
+}
+
+/// Where the bytes of a name end, sixteen at a time.
 #[inline(always)]
 fn name_end(text: &[u8]) -> usize
     ensures value { result ≡ prefix_len short.is_name_byte text.now }
     ensures bound { result ≤ length text.now }
 {
     let mut at = 0;
-    'bytes: while at < text.len() && is_name_byte(text[at]) {
-        at += 1;
+    'sixteens: while text.len() - at >= 16 {
+        let found = name_stops_16(u8x16::from_slice(&text[at..]));
+        if found != 0 {
+            return at + found.trailing_zeros() as usize;
+        }
+        at += 16;
     }
-    at
+    last_name_end(text, at)
 }
 
 /// The name up to a quotation mark, and what stands behind that.

@@ -1,13 +1,13 @@
 //! The values of a row, its id and its values, lent one beside another, so that they can be written in the order of their names. It takes no
 //! memory.
-ghost use Rattle.std.specs.Prelude.{◌≡◌, ◌<◌, ◌≤◌, length, map, pos, take, IfSome};
+ghost use Rattle.std.specs.Prelude.{◌≡◌, ◌∷◌, ◌<◌, ◌≤◌, length, map, pos, take, IfSome};
 ghost use Rattle.mi_value.specs.declared.value.Value.TheVariants.{Int};
 ghost use Rattle.std.specs.Bool.{OnTrue};
 ghost use Rattle.mi_value.specs.Lent.{lent};
 ghost use Rattle.mi_rows.specs.Labels.{row_values_of, held};
 
 use crate::shown::MAX_MEMBERS;
-use mi_value::{Record, ValueRef};
+use mi_value::{Record, ValueRef, Values};
 
 /// What a value holds. The two flags are two cases, so that they are told apart as numbers and texts are.
 #[derive(Clone, Copy)]
@@ -21,17 +21,19 @@ pub(crate) enum RowValue<'a> {
 /// Values of a row, before any is lent.
 pub(crate) const NO_ROW_VALUES: [RowValue<'static>; MAX_MEMBERS] = [RowValue::Int(0); MAX_MEMBERS];
 
-/// The value of a value.
+/// Lends the next value of a row, and answers whether there is one. Each kind is stored where it is told, so that no more is stored than it has.
 #[inline(always)]
-fn row_value_of<'a>(value: ValueRef<'a>) -> RowValue<'a>
-    ensures { held result ≡ lent value.entry }
+fn lend_next<'a>(values: &mut Values<'a>, row_value: &mut RowValue<'a>) -> bool
+    ensures { OnTrue result (values.old ≡ held row_value.new ∷ values.new) }
 {
-    match value {
-        ValueRef::Int(n) => RowValue::Int(n),
-        ValueRef::Text(text) => RowValue::Text(text),
-        ValueRef::Flag(false) => RowValue::False,
-        ValueRef::Flag(true) => RowValue::True,
+    match values.next() {
+        Some(ValueRef::Int(n)) => *row_value = RowValue::Int(n),
+        Some(ValueRef::Text(text)) => *row_value = RowValue::Text(text),
+        Some(ValueRef::Flag(false)) => *row_value = RowValue::False,
+        Some(ValueRef::Flag(true)) => *row_value = RowValue::True,
+        None => return false,
     }
+    true
 }
 
 /// The value of an id, if it is a signed number.
@@ -65,10 +67,9 @@ pub(crate) fn lend_values<'a>(
     let mut values = row.values();
     let mut done = 1;
     'row_values: while done < count {
-        let Some(value) = values.next() else {
+        if !lend_next(&mut values, &mut row_values[done]) {
             return false;
-        };
-        row_values[done] = row_value_of(value);
+        }
         done += 1;
     }
     values.next().is_none()

@@ -46,13 +46,13 @@ static ROW_FRONT: [u8; 17] = *b"{\"ok\":true,\"row\":";
 
 /// Puts the value of a value.
 #[inline(always)]
-fn put_value(buf: &mut [u8], at: usize, value: RowValue<'_>) -> usize
-    requires { at + 21 + text_room (held value) ≤ length buf.old }
-    ensures value { Placed buf.old buf.new at (compact_text (rows.value_data (held value.entry))) result }
-    ensures bound { result ≤ at + 21 + text_room (held value.entry) }
+fn put_value(buf: &mut [u8], at: usize, value: &RowValue<'_>) -> usize
+    requires { at + 21 + text_room (held value.now) ≤ length buf.old }
+    ensures value { Placed buf.old buf.new at (compact_text (rows.value_data (held value.now))) result }
+    ensures bound { result ≤ at + 21 + text_room (held value.now) }
 {
     match value {
-        RowValue::Int(n) => put_i64(buf, at, n),
+        RowValue::Int(n) => put_i64(buf, at, *n),
         RowValue::Text(text) => put_string(buf, at, text),
         RowValue::False => put_text(buf, at, b"false"),
         RowValue::True => put_text(buf, at, b"true"),
@@ -68,7 +68,7 @@ fn put_member(buf: &mut [u8], at: usize, row_values: &[RowValue<'_>], label: &La
     ensures bound { result ≤ at + 64 + first_room (drop label.now.place (map held row_values.now)) }
 {
     let begun = put_label(buf, at, &label.bytes, label.len);
-    put_value(buf, begun, row_values[label.place])
+    put_value(buf, begun, &row_values[label.place])
 }
 
 /// Puts a row behind a comma, if there is one before it.

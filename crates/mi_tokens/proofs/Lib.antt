@@ -1,6 +1,7 @@
 pub mod LexemeLemmas
 pub mod MeaningLemmas
 pub mod ReadingLemmas
-mod RunLemmas
+pub mod RunLemmas
+mod SameLemmas
 pub mod TokenLemmas
 pub mod WholeLemmas

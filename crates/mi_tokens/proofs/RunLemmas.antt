@@ -9,7 +9,7 @@ use Rattle.std.proofs.lemmas.List.Folds.{prefix_len-append}
 use Rattle.std.proofs.lemmas.List.Sums.{prefix_len-le-length}
 use Rattle.std.proofs.lemmas.Bool.{eq-eqb, ne_eqb, cases_order}
 use Rattle.std.specs.List.{prefix_len}
-use lib.Bits.{bit_or}
+use lib.Bits.{bit_and, bit_or}
 use lib.Lanes.{zip2, mask_l, top, Each1, chunk}
 use lib.Count.{count_trailing_zeros}
 
@@ -54,8 +54,15 @@ zip2-map : (f g : ℕ → ℕ) (xs : List ℕ) → zip2 bit_or (map f xs) (map g
 zip2-map f g [] = refl
 zip2-map f g (x ∷ xs) = ap (λ r. bit_or (f x) (g x) ∷ r) (zip2-map f g xs)
 
+and-map : (f g : ℕ → ℕ) (xs : List ℕ) → zip2 bit_and (map f xs) (map g xs) ≡ map (λ x. bit_and (f x) (g x)) xs
+and-map f g [] = refl
+and-map f g (x ∷ xs) = ap (λ r. bit_and (f x) (g x) ∷ r) (and-map f g xs)
+
 pub either : (f g : ℕ → ℕ) (v : List ℕ) {a b : List ℕ} → a ≡ map f v → b ≡ map g v → zip2 bit_or a b ≡ map (λ x. bit_or (f x) (g x)) v
 either f g v p q = ap₂ (zip2 bit_or) p q ∙ zip2-map f g v
+
+pub together : (f g : ℕ → ℕ) (v : List ℕ) {a b : List ℕ} → a ≡ map f v → b ≡ map g v → zip2 bit_and a b ≡ map (λ x. bit_and (f x) (g x)) v
+together f g v p q = ap₂ (zip2 bit_and) p q ∙ and-map f g v
 
 each_byte : (f : ℕ → ℕ) (p : ℕ → Bool) → T (upto (λ x. same (top 7 (f x)) (p x)) 256) → (v : List ℕ) → Each1 (Fits w8) v → map (top 7) (map f v) ≡ map p v
 each_byte f p all [] fits = refl

@@ -1,5 +1,5 @@
 -- How lexemes are punctuated where a value begins, at a key and where an array or an object ends.
--- Cited by `Tokens::is_done`, `Tokens::take_key`, `Tokens::take_text`, `Tokens::take_whole`, `pass::+pass` and 8 more.
+-- Cited by `Tokens::is_done`, `Tokens::take_array`, `Tokens::take_key`, `Tokens::take_object`, `Tokens::take_text` and 10 more.
 use Rattle.std.proofs.Common.{◌≡◌, ℕ, Bool, true, false, List, [], ◌∷◌, ◌++◌, Some, None, inl, inr, ◌⊎◌, refl, sym, ap, ap₂, ◌∙◌, true≢false}
 use Rattle.std.proofs.lemmas.Option.{none-some}
 use Rattle.json.specs.Token.{Token, begin_object, end_object, begin_array, end_array, key, string, number, boolean, null, bad}

@@ -13,6 +13,7 @@ ghost use Rattle.json.specs.Print.{escape};
 ghost use Rattle.mi_tokens.specs.Ends.{is_end, name_text};
 
 use crate::plain::plain_end;
+use crate::same::are_same;
 use std::marker::Model;
 
 /// Digits of a number, at most: so many always fit 64 bits.
@@ -222,7 +223,7 @@ impl<'a> Lexemes<'a> {
         let Some((first, _)) = rest.split_first_chunk::<N>() else {
             return false;
         };
-        if first != front {
+        if !are_same(first, front) {
             return false;
         }
         self.at += N;

@@ -5,9 +5,11 @@
 mod lexemes;
 mod pass;
 mod plain;
+mod same;
 mod tokens;
 mod value;
 
 pub use pass::{pass_object, pass_one, pass_text};
+pub use same::are_same;
 pub use tokens::Tokens;
 pub use value::Json;

@@ -136,6 +136,19 @@ fn open<'a>(lexemes: &mut Lexemes<'a>, token: Start<'a>) -> Option<(Start<'a>, C
     Some((token, Context::Fresh))
 }
 
+/// True, false or null. It is called, so that what reads any value stays short enough to stand where it is asked.
+#[inline(never)]
+fn literal<'a>(lexemes: &mut Lexemes<'a>) -> Option<(Start<'a>, Context)>
+    ensures { IfSome result (λ t. Begins lexemes.old (token_of t.0) t.1 lexemes.new) }
+{
+    match lexemes.peek() {
+        b't' => word(lexemes, b"true", Start::Bool(true)),
+        b'f' => word(lexemes, b"false", Start::Bool(false)),
+        b'n' => word(lexemes, b"null", Start::Null),
+        _ => None,
+    }
+}
+
 /// The token with which a value begins, and what may stand behind it.
 #[inline(always)]
 fn begin<'a>(lexemes: &mut Lexemes<'a>) -> Option<(Start<'a>, Context)>
@@ -145,9 +158,7 @@ fn begin<'a>(lexemes: &mut Lexemes<'a>) -> Option<(Start<'a>, Context)>
         b'"' => string(lexemes),
         b'{' => open(lexemes, Start::Object),
         b'[' => open(lexemes, Start::Array),
-        b't' => word(lexemes, b"true", Start::Bool(true)),
-        b'f' => word(lexemes, b"false", Start::Bool(false)),
-        b'n' => word(lexemes, b"null", Start::Null),
+        b't' | b'f' | b'n' => literal(lexemes),
         b'-' | b'0'..=b'9' => number(lexemes),
         _ => None,
     }
@@ -245,7 +256,12 @@ impl<'a> Tokens<'a> {
     pub fn take_bool(&mut self) -> Option<bool>
         ensures { IfSome result (λ b. self.old ≡ spec.boolean b ∷ self.new) }
     {
-        match self.next()? {
+        if !self.context.may_begin() {
+            return None;
+        }
+        let (token, context) = literal(&mut self.lexemes)?;
+        self.context = context;
+        match token {
             Start::Bool(b) => Some(b),
             _ => None,
         }
@@ -259,7 +275,9 @@ impl<'a> Tokens<'a> {
         if self.lexemes.peek() != b'[' || !self.context.may_begin() {
             return false;
         }
-        matches!(self.next(), Some(Start::Array))
+        self.lexemes.pass();
+        self.context = Context::Fresh;
+        true
     }
 
     /// Takes the brace with which an object begins, if it is next.
@@ -270,7 +288,9 @@ impl<'a> Tokens<'a> {
         if self.lexemes.peek() != b'{' || !self.context.may_begin() {
             return false;
         }
-        matches!(self.next(), Some(Start::Object))
+        self.lexemes.pass();
+        self.context = Context::Fresh;
+        true
     }
 
     /// Takes the brace that ends an object, if it is next.

@@ -5,4 +5,5 @@ mod bound;
 mod lines;
 mod random;
 mod replies;
+mod same;
 mod schemas;
