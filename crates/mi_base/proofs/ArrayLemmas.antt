@@ -1,5 +1,5 @@
 -- What an array of JSON values is, value by value.
--- Cited by `lists::list_of`, `lists::numbers_in` and `rows::row_of`.
+-- Cited by `lists::list_of`, `lists::numbers_in`, `rows::row_of` and `KnownLemmas`.
 use Rattle.std.proofs.Common.{◌≡◌, ℕ, zero, suc, ◌<◌, ◌+◌, List, [], ◌∷◌, ◌++◌, take, map, length, get_or, Option, Some, None, Result, Ok, Err, refl, sym, ap, ◌∙◌, arith}
 use Rattle.std.proofs.lemmas.List.{take_more}
 use Rattle.std.specs.Prelude.{IfOk, IfSome, IsSome, option_and_then}

@@ -1,5 +1,5 @@
 -- What a base is made of has no floats and is nested once.
--- Cited by `BaseLines::check_digest`, `read::take_head`, `read::take_heading`, `read::take_list`, `read::take_row` and 5 more.
+-- Cited by `BaseLines::check_digest`, `lists::list_line`, `read::take_head`, `read::take_heading`, `read::take_list` and 6 more.
 use Rattle.std.proofs.Common.{◌≡◌, ◌||◌, ℕ, List, [], ◌∷◌, map, false, refl, ap, ◌∙◌, arith, pos, negsuc}
 use Rattle.std.specs.Prelude.{max}
 use Rattle.serde_json.specs.Data.{depth, items_depth}

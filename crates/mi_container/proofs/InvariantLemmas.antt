@@ -1,5 +1,5 @@
 -- What the invariant of data gives: live ids, and lists that have each once.
--- Cited by `DataLemmas`, `InverseLemmas`, `RestampLemmas`, `RestoreLemmas`, `TableLemmas`, 1 more and `mi_multi`.
+-- Cited by `DataLemmas`, `InverseLemmas`, `RaiseLemmas`, `RestampLemmas`, `RestoreLemmas`, 2 more and `mi_multi`.
 use Rattle.std.proofs.Common.{◌≡◌, ℕ, ◌<◌, ◌≤◌, suc, true, false, cond, List, [], ◌∷◌, map, length, get_or, refl, ap, sym, ◌∙◌, subst, arith}
 use Rattle.std.specs.Prelude.{◌==◌}
 use Rattle.std.specs.List.{AllByRecursion}

@@ -1,5 +1,5 @@
 -- A row gets another stamp in one index: the data stay data, and all other stamps stay.
--- Cited by `RestoreLemmas` and `mi_multi`.
+-- Cited by `RaiseLemmas`, `RestoreLemmas` and `mi_multi`.
 use Rattle.std.proofs.Common.{◌≡◌, ◌≢◌, ℕ, ◌<◌, zero, suc, true, cond, ◌⊎◌, inl, inr, List}
 use Rattle.std.proofs.Common.{[], ◌∷◌, map, length, get_or, set, refl, ap, sym, ◌∙◌, subst, arith}
 use Rattle.std.specs.List.{AllByRecursion}

@@ -1,6 +1,6 @@
 -- Rows that get rising stamps in one index stand there in the order of their list, and rows that go to the end of a list one
 -- after another stand in it in their order. Nothing else changes.
--- Cited by `mi_multi`.
+-- Cited by `RaiseLemmas` and `mi_multi`.
 use Rattle.std.proofs.Common.{◌≡◌, ◌≢◌, ℕ, ◌+◌, ◌<◌, ◌≤◌, zero, suc, true, false, cond, ◌⊎◌, inl, inr, List}
 use Rattle.std.proofs.Common.{[], ◌∷◌, ◌++◌, map, length, get_or, take, drop, reverse, refl, ap, sym, ◌∙◌, subst, arith}
 use Rattle.std.specs.Prelude.{◌==◌}

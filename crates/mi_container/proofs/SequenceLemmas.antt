@@ -1,5 +1,5 @@
 -- The list of a sequenced index: an id that left it stands again before the neighbour that it remembers.
--- Cited by `GroupLemmas`, `InvariantLemmas`, `InverseLemmas`, `RestoreLemmas`, `StampedListLemmas`, 1 more, `mi_database` and `mi_multi`.
+-- Cited by `GroupLemmas`, `InvariantLemmas`, `InverseLemmas`, `RaiseLemmas`, `RestoreLemmas`, 2 more, `mi_database` and `mi_multi`.
 use Rattle.std.proofs.Common.{◌≡◌, ◌≢◌, ℕ, ◌+◌, ◌<◌, ◌≤◌, zero, suc, true, false, cond, not}
 use Rattle.std.proofs.Common.{List, [], ◌∷◌, ◌++◌, map, get_or, set, refl, ap, sym, ◌∙◌, subst, arith}
 use Rattle.std.specs.Prelude.{◌==◌}

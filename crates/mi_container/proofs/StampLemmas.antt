@@ -1,5 +1,5 @@
 -- The stamps of a node: as many as indexes, earlier than the next arrival, and 0 where an index has none.
--- Cited by `DataLemmas`, `InvariantLemmas`, `RestoreLemmas` and `TableLemmas`.
+-- Cited by `DataLemmas`, `InvariantLemmas` and `TableLemmas`.
 use Rattle.std.proofs.Common.{◌≡◌, ℕ, ◌+◌, ◌<◌, zero, suc, true, false, cond, List, [], ◌∷◌, map, length, get_or, set, refl, ap, arith}
 use Rattle.std.specs.Ordering.{is_eq}
 use Rattle.std.specs.declared.option.Option.{Option}

@@ -1,5 +1,5 @@
 -- The table of changed data is the changed table.
--- Cited by `DataLemmas`, `RunLemmas` and `mi_multi`.
+-- Cited by `DataLemmas`, `RestoreLemmas`, `RunLemmas` and `mi_multi`.
 use Rattle.std.proofs.Common.{◌≡◌, ℕ, ◌+◌, ◌<◌, zero, suc, true, false, cond, not, List, [], ◌∷◌}
 use Rattle.std.proofs.Common.{◌++◌, map, length, get_or, set, refl, ap, sym, ◌∙◌, subst, arith}
 use Rattle.std.specs.Prelude.{◌==◌}

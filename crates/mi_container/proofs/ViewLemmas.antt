@@ -1,5 +1,5 @@
 -- What a sorted or hashed index of data shows: the live ids, in the one order of keys and then stamps.
--- Cited by `laws::hashed_is_shown`, `laws::ids_are_shown`, `laws::sorted_is_shown`, `InverseLemmas`, `RestoreLemmas` and `mi_multi`.
+-- Cited by `laws::hashed_is_shown`, `laws::ids_are_shown`, `laws::sorted_is_shown`, `InverseLemmas`, `RaiseLemmas`, 1 more and `mi_multi`.
 use Rattle.std.proofs.Common.{◌≡◌, ◌≢◌, ℕ, ◌+◌, ◌<◌, zero, suc, true, false, List, [], ◌∷◌, length, get_or, cond, refl, ap, sym, ◌∙◌, subst, arith}
 use Rattle.std.specs.Prelude.{pos, nat_lt}
 use Rattle.std.specs.List.{AllByRecursion}

@@ -1,5 +1,5 @@
 -- What the order of an index is, by its kind and its parts.
--- Cited by `MultiIndex::check_list`, `MultiIndex::check_lists`, `MultiIndex::fill`, `MultiIndex::keeping`, `MultiIndex::list` and 5 more.
+-- Cited by `MultiIndex::check_list`, `MultiIndex::check_lists`, `MultiIndex::fill`, `MultiIndex::keeping`, `MultiIndex::list` and 7 more.
 use Rattle.std.proofs.Common.{◌≡◌, ℕ, ◌<◌, zero, suc, true, false, inl, inr, Vec, Global, List, [], ◌∷◌, ◌-◌, map, take, drop, length, get_or, set, replicate, refl, sym, ap, ◌∙◌, subst, arith}
 use Rattle.std.specs.Prelude.{◌==◌}
 use Rattle.std.proofs.lemmas.Bool.Decides.{eqb_tells}
