@@ -1,5 +1,6 @@
 -- The text of the built-in schema is read as that schema's catalog: a literal, of which reading is computed.
-use Rattle.std.proofs.Common.{◌≡◌, ◌∷◌, [], Ok, codes, refl}
+-- Cited by `text::built_in_text`.
+use Rattle.std.proofs.Common.{◌≡◌, ◌∷◌, [], Ok, refl}
 use Rattle.std.specs.Str.{is_utf8, chars}
 use lib.Utf8.{encode}
 use Rattle.toml.proofs.OnLiterals.{toml_on_literals}
