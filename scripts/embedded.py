@@ -4,8 +4,9 @@
     embedded.py [--program FILE] [--library FOLDER] [--lines N] [--seed N] [--memory]
 
 Each binding (C with the archive, C++ with the shared object, Rust, Python) answers the lines of the examples and N random ones, as
-`stress/fuzz.py` makes them, over the same schemas; then its own tests run. One whose compiler isn't there is skipped by its name. --memory runs
-the tests in C under AddressSanitizer and valgrind besides, and refuses each request for memory in turn. The library is that of `make lib`;
+`stress/fuzz.py` makes them, over the same schemas; then its own tests run. One whose compiler isn't there is skipped by its name. The text that
+the library tells of its built-in schema is given to the program, which must answer alike. --memory runs the tests in C and the examples under
+AddressSanitizer and valgrind besides, and refuses each request for memory in turn. The library is that of `make lib`;
 where none is built this ends with status 0 and says so. The last line is 'N passed, M failed'."""
 import argparse
 import glob
@@ -28,6 +29,7 @@ VALGRIND = ["valgrind", "-q", "--error-exitcode=9", "--leak-check=full", "--show
 # The tests in C that print `ok`, and what valgrind watches of each: it takes fifty times as long.
 C_TESTS = ("calls", "edges", "typed")
 CPP_TESTS = ("sessions", "tables")
+PYTHON_TESTS = ("test_embedded", "test_embedded_values", "test_embedded_cursors")
 # The examples, which print what is stored beside them; one in C++ stands in docs/COMING_FROM.md too.
 C_EXAMPLES, CPP_EXAMPLES, SHOWN = ("unwind", "ranges"), ("accounts", "container"), "container"
 WATCHED_COMMANDS = {"calls": [], "edges": [], "typed": ["2000"]}
@@ -113,10 +115,10 @@ class Bindings:
         self.run([compiler or self.cc, "-std=c99", *STRICT, "-O1", "-g", f"-I{self.made}", source, f"{self.made}/libweltiyo.a", "-o", to, *words])
         return to
 
-    def compiled_cpp(self, source, *words):
+    def compiled_cpp(self, source, *words, compiler=None):
         """A program of C++, linked with the shared object."""
-        to = f"{self.folder}/{os.path.basename(source)[:-4]}_cpp"
-        self.run([self.cxx, "-std=c++17", *STRICT, "-O1", f"-I{self.made}", f"-I{CLIENTS}/cpp", source, f"-L{self.made}", "-lweltiyo", f"-Wl,-rpath,{self.made}", "-o", to, *words])
+        to = f"{self.folder}/{os.path.basename(source)[:-4]}_cpp{len(os.listdir(self.folder))}"
+        self.run([compiler or self.cxx, "-std=c++17", *STRICT, "-O1", f"-I{self.made}", f"-I{CLIENTS}/cpp", source, f"-L{self.made}", "-lweltiyo", f"-Wl,-rpath,{self.made}", "-o", to, *words])
         return to
 
     def prints(self, wanted, *words):
@@ -144,8 +146,7 @@ class Bindings:
         for name in C_TESTS:
             self.check(f"clients/c/tests/{name}.c", self.prints, "ok\n", self.compiled(f"{CLIENTS}/c/tests/{name}.c"))
         for name in C_EXAMPLES:
-            with open(f"{CLIENTS}/c/{name}.out", encoding="utf-8") as file:
-                self.check(f"clients/c/{name}.c", self.prints, file.read(), self.compiled(f"{CLIENTS}/c/{name}.c", "-Wconversion"))
+            self.check(f"clients/c/{name}.c", self.prints, printed("c", name), self.compiled(f"{CLIENTS}/c/{name}.c", "-Wconversion"))
 
     def cpp(self, cases):
         if not self.has("clients/cpp", self.cxx):
@@ -158,8 +159,9 @@ class Bindings:
 
     def side_by_side(self, name):
         """A program that does what one of chainbase's does: it prints what is stored. The page shows one with what it prints."""
-        with open(f"{CLIENTS}/cpp/{name}.out", encoding="utf-8") as out, open(f"{CLIENTS}/cpp/{name}.cpp", encoding="utf-8") as source:
-            wanted, text = out.read(), source.read()
+        wanted = printed("cpp", name)
+        with open(f"{CLIENTS}/cpp/{name}.cpp", encoding="utf-8") as source:
+            text = source.read()
         self.prints(wanted, self.compiled_cpp(f"{CLIENTS}/cpp/{name}.cpp", "-Wconversion"))
         if name != SHOWN:
             return
@@ -177,8 +179,18 @@ class Bindings:
 
     def python(self, cases):
         self.answers("clients/python", [sys.executable, f"{CLIENTS}/python/tests/answers.py"], cases)
-        words = [sys.executable, "-m", "unittest", "test_embedded", "test_embedded_values"]
-        self.check("clients/python/tests/test_embedded.py and test_embedded_values.py", self.run, words, f"{CLIENTS}/python/tests")
+        words = [sys.executable, "-m", "unittest", *PYTHON_TESTS]
+        self.check(f"{', '.join(PYTHON_TESTS)} of clients/python/tests", self.run, words, f"{CLIENTS}/python/tests")
+
+    def schema_text(self, path):
+        """The program answers the lines of the built-in table alike over the text that the library tells of it."""
+        written = "import sys, mi_client; sys.stdout.write(mi_client.Embedded.open().schema_text())"
+        schema = f"{self.folder}/built_in.toml"
+        with open(schema, "w", encoding="utf-8") as file:
+            file.write(self.run([sys.executable, "-c", written]))
+        for case in example_cases():
+            if not case.schema:
+                self.check(f"the text of the built-in schema, {case.name}", self.compare, [path, "--schema", schema], case)
 
     # Memory
 
@@ -191,6 +203,17 @@ class Bindings:
             self.check(f"{name}.c under AddressSanitizer", self.prints, "ok\n", to)
         to = self.compiled(f"{CLIENTS}/c/tests/answers.c", *words, compiler="clang")
         self.answers("answers.c under AddressSanitizer", [to], cases)
+        for name in C_EXAMPLES:
+            to = self.compiled(f"{CLIENTS}/c/{name}.c", *words, compiler="clang")
+            self.check(f"clients/c/{name}.c under AddressSanitizer", self.prints, printed("c", name), to)
+        if not self.has("AddressSanitizer of C++", "clang++"):
+            return
+        for name in CPP_EXAMPLES:
+            to = self.compiled_cpp(f"{CLIENTS}/cpp/{name}.cpp", *words, compiler="clang++")
+            self.check(f"clients/cpp/{name}.cpp under AddressSanitizer", self.prints, printed("cpp", name), to)
+        for name in CPP_TESTS:
+            to = self.compiled_cpp(f"{CLIENTS}/cpp/tests/{name}.cpp", *words, compiler="clang++")
+            self.check(f"{name}.cpp under AddressSanitizer", self.prints, "ok\n", to)
 
     def watched(self, cases):
         if not self.has("valgrind", "valgrind", self.cc):
@@ -200,6 +223,16 @@ class Bindings:
             self.check(f"{name}.c under valgrind", self.prints, "ok\n", *VALGRIND, to, *WATCHED_COMMANDS[name])
         to = self.compiled(f"{CLIENTS}/c/tests/answers.c")
         self.answers("answers.c under valgrind", [*VALGRIND, to], cases)
+        for name in C_EXAMPLES:
+            self.check(f"clients/c/{name}.c under valgrind", self.prints, printed("c", name), *VALGRIND, self.compiled(f"{CLIENTS}/c/{name}.c"))
+        if not self.has("valgrind of C++", self.cxx):
+            return
+        for name in CPP_EXAMPLES:
+            to = self.compiled_cpp(f"{CLIENTS}/cpp/{name}.cpp")
+            self.check(f"clients/cpp/{name}.cpp under valgrind", self.prints, printed("cpp", name), *VALGRIND, to)
+        for name in CPP_TESTS:
+            to = self.compiled_cpp(f"{CLIENTS}/cpp/tests/{name}.cpp")
+            self.check(f"{name}.cpp under valgrind", self.prints, "ok\n", *VALGRIND, to)
 
     def refused(self):
         if not self.has("requests for memory refused", self.cc):
@@ -211,6 +244,12 @@ class Bindings:
     @staticmethod
     def refuses(to, lines):
         print(f"  {answered([to], lines).decode()}", end="", flush=True)
+
+
+def printed(language, name):
+    """What is stored beside an example: what it prints."""
+    with open(f"{CLIENTS}/{language}/{name}.out", encoding="utf-8") as file:
+        return file.read()
 
 
 def refused_lines():
@@ -259,6 +298,7 @@ def main():
         parts = Bindings(f"{folder}/made", made)
         for part in (parts.c, parts.cpp, parts.rust, parts.python):
             part(cases)
+        parts.schema_text(path)
         if options.memory:
             parts.sanitized(cases)
             parts.watched(cases[:5])

@@ -119,6 +119,10 @@ weltiyo_told weltiyo_column(weltiyo_db *handle, size_t table, const void *name, 
    `number` is how many bytes it has; WELTIYO_REFUSED_TABLE or WELTIYO_REFUSED_INDEX where there is none. */
 weltiyo_told weltiyo_index_name(weltiyo_db *handle, size_t table, size_t index, void *out, size_t room);
 
+/* The text of the schema is copied in the same way: byte for byte the one that was opened, and of the built-in table one that describes it. A
+   `weltiyo_open` with this text, or `mi_server --schema` with a file of it, has the same tables, with nothing in them. */
+weltiyo_told weltiyo_schema(weltiyo_db *handle, void *out, size_t room);
+
 /* A key is values too, one for each part of the index in its order; the index of ids has one part, a whole number. Where it says so the first
    values of a key will do: they stand for every key that begins with them. */
 

@@ -646,6 +646,14 @@ public:
     std::size_t index(std::size_t table, std::string_view name) { return well(weltiyo_index(handle(), table, some(name), name.size())); }
     std::size_t column(std::size_t table, std::string_view name) { return well(weltiyo_column(handle(), table, some(name), name.size())); }
 
+    // The text of the schema: the one that was opened, and of the built-in table one that describes it.
+    std::string schema() {
+        char none;
+        std::string text(weltiyo_schema(handle(), &none, 0).number, '\0');
+        well(weltiyo_schema(handle(), text.data(), text.size()));
+        return text;
+    }
+
     // How many rows a table has.
     std::uint64_t size(std::size_t table) { return well(weltiyo_size(handle(), table)); }
 

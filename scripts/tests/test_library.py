@@ -59,7 +59,7 @@ def prototypes():
 
 class Agree(unittest.TestCase):
     def test_the_header_has_the_exports(self):
-        self.assertEqual(len(exports()), 43)
+        self.assertEqual(len(exports()), 44)
         self.assertEqual(prototypes(), exports())
 
     def test_the_map_has_the_exports(self):

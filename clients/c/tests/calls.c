@@ -122,11 +122,49 @@ static void handles(void) {
     weltiyo_close(two);
 }
 
+static void has_schema(weltiyo_db *db, const char *wanted, size_t length) {
+    static char text[4096];
+    weltiyo_told told = weltiyo_schema(db, text, 0);
+    EXPECT(told.status == (length ? WELTIYO_NO_ROOM : 0) && told.number == length);
+    memset(text, '#', sizeof text);
+    told = weltiyo_schema(db, text, length - 1);
+    EXPECT(told.status == WELTIYO_NO_ROOM && told.number == length && text[0] == '#');
+    told = weltiyo_schema(db, text, sizeof text);
+    EXPECT(told.status == 0 && told.number == length && !memcmp(text, wanted, length) && text[length] == '#');
+}
+
+/* The text is the one that was opened, whatever was done since. That of the built-in table opens it, with the same index of each number. */
+static void schema_texts(void) {
+    const char own[] = "# with a remark\r\ntable = \"t\"\ncolumn = [{name = \"a\", type = \"int\"}]\n";
+    char text[4096];
+    weltiyo_db *db = opened(own, 5), *again = NULL;
+    has_schema(db, own, strlen(own));
+    ASKED(db, 1, START, "{\"ok\":true,\"revision\":1}");
+    ASKED(db, 1, "{\"cmd\":\"insert\",\"row\":{\"a\":7}}", "{\"id\":0,\"ok\":true}");
+    weltiyo_release(db, 1);
+    has_schema(db, own, strlen(own));
+    weltiyo_close(db);
+    db = opened("", 6);
+    const weltiyo_told told = weltiyo_schema(db, text, sizeof text);
+    EXPECT(told.status == 0 && told.number > 0);
+    EXPECT(weltiyo_open(text, told.number, 7, &again) == WELTIYO_OK);
+    has_schema(again, text, told.number);
+    ASKED(again, 1, ANN, "{\"id\":0,\"ok\":true}");
+    static const char *const names[] = {"id", "by_owner", "by_balance", "by_vip", "by_class", "line"};
+    for (size_t n = 0; n < 6; n++) {
+        const weltiyo_told index = weltiyo_index(again, 0, names[n], strlen(names[n]));
+        EXPECT(index.status == 0 && index.number == n);
+    }
+    weltiyo_close(db);
+    weltiyo_close(again);
+}
+
 int main(void) {
     connections();
     copies();
     odd_lines();
     schemas();
+    schema_texts();
     handles();
     puts("ok");
     return 0;

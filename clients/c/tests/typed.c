@@ -1,6 +1,7 @@
-/* The calls with values beside lines, and cursors beside both: one database is asked by calls, another by the lines of the same commands, by the same connections, over
-   random catalogs. What a call tells must be what the line's reply says, byte for byte; without room it must tell what it wants, and with just
-   that room it must answer as with more. It prints `ok`, or what differs: typed [COMMANDS [SEED]]. */
+/* The calls with values beside lines, and cursors beside both: one database is asked by calls, another by the lines of the same commands, by the
+   same connections, over random catalogs. What a call tells must be what the line's reply says, byte for byte; without room it must tell what it
+   wants, and with just that room it must answer as with more. Behind each command a look-up is answered by cursors too. It prints `ok`, or what
+   differs: typed [COMMANDS [SEED]]. */
 #include "made.h"
 
 enum { CONNECTIONS = 3, OF_A_CATALOG = 400, MOST_ROWS = 1000, KEYED = 1 << ORDERED | 1 << RANKED | 1 << HASHED, SORTED = 1 << ORDERED | 1 << RANKED };
@@ -365,7 +366,7 @@ static weltiyo_cursor at_end(const query *it, uint32_t kind, const weltiyo_value
 }
 
 /* The rows from one cursor up to another, or to the end where that isn't met and is no row. Answers how many, or -1 where it is a row that
-   stands before the first. Steps back lead back. */
+   stands before the first. Steps back lead back, from the end too. */
 static long walked(weltiyo_cursor from, weltiyo_cursor to, weltiyo_cursor *rows, long most) {
     long count = 0;
     for (; from.status == 0 && !weltiyo_is_same(from, to) && count < most; from = weltiyo_step(called, from, 0)) {
@@ -373,6 +374,8 @@ static long walked(weltiyo_cursor from, weltiyo_cursor to, weltiyo_cursor *rows,
             return -2;
         rows[count++] = from;
     }
+    if (count && from.status == WELTIYO_END && !weltiyo_is_same(weltiyo_step(called, from, 1), rows[count - 1]))
+        return -2;
     return weltiyo_is_same(from, to) || count == most ? count : -1;
 }
 
@@ -525,11 +528,36 @@ static int one_of(uint64_t conn) {
     }
 }
 
+/* A look-up, which is answered by a call, by cursors and by a line. */
+static int look(uint64_t conn) {
+    uint64_t which = below(7);
+    return which < 3 ? row(conn) : which < 6 ? range(conn) : list(conn);
+}
+
+/* Whether the database tells its schema as it was opened, and each index by its name and its number. */
+static int are_named(void) {
+    static char text[LONGEST];
+    char wanted[24], name[24];
+    const weltiyo_told schema = weltiyo_schema(called, text, sizeof text);
+    int well = schema.status == 0 && schema.number == strlen(catalog.text) && !memcmp(text, catalog.text, schema.number);
+    for (size_t t = 0; t < catalog.tables; t++) {
+        snprintf(name, sizeof name, "t%zu", t);
+        well &= weltiyo_table(called, name, strlen(name)).number == t;
+        for (size_t i = 0; i < catalog.table[t].indexes; i++) {
+            size_t length = (size_t)snprintf(wanted, sizeof wanted, i ? "i%zu" : "id", i);
+            const weltiyo_told told = weltiyo_index_name(called, t, i, name, sizeof name);
+            well &= told.status == 0 && told.number == length && !memcmp(name, wanted, length) && weltiyo_index(called, t, wanted, length).number == i;
+        }
+    }
+    return well;
+}
+
 static int open_both(void) {
     make_catalog(&catalog);
-    if (!weltiyo_open(catalog.text, strlen(catalog.text), below(UINT64_MAX), &called) && !weltiyo_open(catalog.text, strlen(catalog.text), 1, &asked))
+    if (!weltiyo_open(catalog.text, strlen(catalog.text), below(UINT64_MAX), &called) &&
+        !weltiyo_open(catalog.text, strlen(catalog.text), 1, &asked) && are_named())
         return 1;
-    printf("not opened:\n%s", catalog.text);
+    printf("not opened, or not told:\n%s", catalog.text);
     return 0;
 }
 
@@ -542,7 +570,7 @@ static void close_both(void) {
 static int are_well(long from, long count) {
     for (long n = from; n < from + count; n++) {
         uint64_t conn = below(8) ? 1 : below(CONNECTIONS);
-        if (one_of(conn)) {
+        if (one_of(conn) || look(conn)) {
             printf("command %ld over\n%s", n, catalog.text);
             return 0;
         }

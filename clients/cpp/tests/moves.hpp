@@ -196,6 +196,8 @@ inline void names() {
     EXPECT(accounts == 0 && db.index(accounts, "id") == 0 && db.index(accounts, "by_owner") == 1 && db.column(accounts, "vip") == 2);
     EXPECT(refused([&] { db.table(""); }) == "table" && refused([&] { db.index(1, "id"); }) == "table");
     EXPECT(refused([&] { db.index(accounts, "owner"); }) == "index" && refused([&] { db.column(accounts, "id"); }) == "row");
+    const std::string text = db.schema();
+    EXPECT(Database(text, 1).schema() == text);
 }
 
 inline void all() {

@@ -30,7 +30,7 @@ struct weltiyo_db {
     Table table;
     uint64_t next = 0;
     std::vector<Saved> sessions;
-    std::string reply;
+    std::string reply, schema;
 };
 
 static thread_local std::set<weltiyo_db *> opened; // (a handle stays on its thread)
@@ -108,9 +108,10 @@ static std::string answer(weltiyo_db *handle, uint64_t connection, const std::st
 
 extern "C" {
 
-uint32_t weltiyo_open(const void *schema, size_t, uint64_t, weltiyo_db **handle) {
+uint32_t weltiyo_open(const void *schema, size_t length, uint64_t, weltiyo_db **handle) {
     NOT_NULL(schema);
     *handle = new weltiyo_db;
+    (*handle)->schema.assign(static_cast<const char *>(schema), length);
     opened.insert(*handle);
     return WELTIYO_OK;
 }
@@ -365,6 +366,12 @@ weltiyo_told weltiyo_index_name(weltiyo_db *handle, size_t, size_t index, void *
     OPEN(handle);
     NOT_NULL(out);
     return index < 2 ? put(index == 0 ? "id" : "by_owner", out, room) : refused(WELTIYO_REFUSED_INDEX);
+}
+
+weltiyo_told weltiyo_schema(weltiyo_db *handle, void *out, size_t room) {
+    OPEN(handle);
+    NOT_NULL(out);
+    return put(handle->schema, out, room);
 }
 
 // (a page of a stand-in has no rows)

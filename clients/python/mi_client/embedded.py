@@ -17,10 +17,11 @@ import threading
 import warnings
 from typing import Any, Callable, Deque, Dict, Iterator, List, Optional, Set, Tuple, Union
 
-from mi_client import calls, embedded_values
+from mi_client import calls, embedded_cursors, embedded_values
 from mi_client.calls import LONGEST_LINE, Key, Request, Row
 from mi_client.channel import Channel
 from mi_client.database import Database
+from mi_client.embedded_cursors import Cursors
 from mi_client.embedded_values import ABSENT, Values
 from mi_client.errors import Ended
 from mi_client.schema import Schema
@@ -56,11 +57,14 @@ def library(path: Optional[Path] = None) -> Any:
     found.weltiyo_release.restype = None
     found.weltiyo_close.argtypes = (handle,)
     found.weltiyo_close.restype = None
+    found.weltiyo_schema.argtypes = (handle, handle, size)
+    found.weltiyo_schema.restype = embedded_values.Told
     embedded_values.prepare(found)
+    embedded_cursors.prepare(found)
     return found
 
 
-class Embedded(Database):
+class Embedded(Cursors):
     """A connection to a database of this process. Close it, or use it in a `with`: what it holds is then undone. A reply is there
     once the library's call has returned, so `answer_within` does nothing."""
 
@@ -96,6 +100,14 @@ class Embedded(Database):
             if self._closed_for:
                 raise Ended(self._closed_for)
             return type(self)(_Lines(self._lines.engine), self.schema)
+
+    def schema_text(self) -> str:
+        """The text of the schema: the one that was opened, and of the built-in table one that describes it. Raises Ended where this
+        connection is closed."""
+        with self._lock:
+            if self._closed_for:
+                raise Ended(self._closed_for)
+            return self._lines.engine.schema_text().decode()
 
     # Calls with values: each answers what its line does. (Those of `Calls` are made of functions, whose parameters mypy takes for nameless.)
 
@@ -225,6 +237,12 @@ class _Engine:
         rest = ctypes.create_string_buffer(length - USUAL)
         self._calls.weltiyo_reply(self._handle, USUAL, rest, len(rest))
         return front + rest.raw
+
+    def schema_text(self) -> bytes:
+        """The text of the schema."""
+        room = ctypes.create_string_buffer(LONGEST_SCHEMA)
+        told = self._calls.weltiyo_schema(self._handle, room, len(room))
+        return room.raw[:told.number]
 
     def forget(self, number: int) -> None:
         """A connection is gone, on whatever thread and in the middle of whatever call: it is released ahead of the next one."""

@@ -114,6 +114,7 @@ class Rows:
         self.layout = Layout([it.type for it in table.columns])
         self.columns = {it.name: (n, Layout([it.type], EDIT)) for n, it in enumerate(table.columns)}
         self.keys: Dict[Tuple[str, int], Tuple[ctypes.c_size_t, Layout]] = {}
+        self.indexes = {it.name: ctypes.c_size_t(n) for n, it in enumerate(table.indexes)}
         for n, index in enumerate(table.indexes):
             types = [table.type_of(it) for it in index.columns]
             for count in range(1, len(types) + 1):
@@ -160,7 +161,7 @@ class Values:
 
     def __init__(self, schema: Schema, connection: int) -> None:
         self._connection, self._id, self._length = ctypes.c_uint64(connection), ctypes.c_uint64(), ctypes.c_size_t()
-        self._given = ctypes.create_string_buffer(max(VALUE_SIZE * ROW_VALUES, EDIT_SIZE * MOST_EDITS))
+        self.given = ctypes.create_string_buffer(max(VALUE_SIZE * ROW_VALUES, EDIT_SIZE * MOST_EDITS, ROW_TEXTS))
         values, texts = ctypes.create_string_buffer(VALUE_SIZE * ROW_VALUES), bytearray(ROW_TEXTS)
         self._room = values, ctypes.c_size_t(ROW_VALUES), (ctypes.c_char * ROW_TEXTS).from_buffer(texts), ctypes.c_size_t(ROW_TEXTS)
         self._rows: Dict[Optional[str], Rows] = {it.name: Rows(n, it, values, texts) for n, it in enumerate(schema.tables)}
@@ -186,11 +187,11 @@ class Values:
         try:
             count = len(key)
             number, layout = rows.keys[index, count]
-            texts = layout.lay_one(key[0], self._given, 0, 0) if count == 1 else layout.lay(key, self._given)
+            texts = layout.lay_one(key[0], self.given, 0, 0) if count == 1 else layout.lay(key, self.given)
         except UNFIT:
             return None
         self._length.value = len(texts)
-        told = library.weltiyo_find(handle, rows.number, number, self._given, layout.count, texts, self._length, *self._room)
+        told = library.weltiyo_find(handle, rows.number, number, self.given, layout.count, texts, self._length, *self._room)
         status: int = told.status
         if status:
             return ABSENT if status == ABSENT else None
@@ -201,11 +202,11 @@ class Values:
         if type(row) is not dict or len(row) != len(rows.names):
             return None
         try:
-            texts = rows.layout.lay(rows.pick(row), self._given)
+            texts = rows.layout.lay(rows.pick(row), self.given)
         except UNFIT:
             return None
         self._length.value = len(texts)
-        told = library.weltiyo_insert(handle, self._connection, rows.number, self._given, rows.layout.count, texts, self._length)
+        told = library.weltiyo_insert(handle, self._connection, rows.number, self.given, rows.layout.count, texts, self._length)
         return None if told.status else told.number
 
     def modify(self, library: Any, handle: Any, rows: Rows, id: int, put: Optional[Row], added: Optional[Row]) -> Optional[bool]:
@@ -218,7 +219,7 @@ class Values:
             return None
         self._id.value, self._count.value, self._length.value = id, count, len(texts)
         status = library.weltiyo_modify(
-            handle, self._connection, rows.number, self._id, self._given, self._count, texts, self._length, self._rollback
+            handle, self._connection, rows.number, self._id, self.given, self._count, texts, self._length, self._rollback
         )
         return None if status else True
 
@@ -232,7 +233,7 @@ class Values:
                 raise ValueError
             for name, value in given.items():
                 column, layout = rows.columns[name]
-                texts += layout.lay_one(value, self._given, EDIT_SIZE * count, len(texts), kind, column)
+                texts += layout.lay_one(value, self.given, EDIT_SIZE * count, len(texts), kind, column)
                 count += 1
         if not count or len(texts) > LONGEST_TEXTS:
             raise ValueError

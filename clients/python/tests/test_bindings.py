@@ -32,8 +32,9 @@ class C(Binding):
 
 class Cpp(Binding):
     def test_it_compiles(self):
-        # (but for the two that are compiled below)
-        sources = set(glob.glob(f"{CLIENTS}/cpp/**/*.cpp", recursive=True)) - {f"{CLIENTS}/cpp/tests/{it}.cpp" for it in ("moves", "stand_in")}
+        # (but for those that are compiled below)
+        others = {f"{CLIENTS}/cpp/tests/{it}.cpp" for it in ("moves", "stand_in", "chainbase_accounts")}
+        sources = set(glob.glob(f"{CLIENTS}/cpp/**/*.cpp", recursive=True)) - others
         self.assertTrue(sources)
         self.ran(kit.compiler("CXX", "c++"), "-std=c++20", *STRICT, "-fsyntax-only", *HEADERS, *sources)
 
@@ -42,6 +43,19 @@ class Cpp(Binding):
         words = [kit.compiler("CXX", "c++"), "-std=c++17", *STRICT, *HEADERS, f"{CLIENTS}/cpp/tests/moves.cpp"]
         self.ran(*words, f"-L{library}", "-lweltiyo", f"-Wl,-rpath,{library}", "-o", made)
         self.assertEqual(self.ran(made), "ok\n")
+
+    def test_the_program_of_chainbase(self):
+        """The page that has it beside ours shows this program. It runs over Boost's containers and a stand-in for chainbase."""
+        path, compiler = f"{CLIENTS}/cpp/tests/chainbase_accounts", kit.compiler("CXX", "c++")
+        with open(f"{path}.cpp", encoding="utf-8") as source, open(f"{kit.TOP}/docs/COMING_FROM.md", encoding="utf-8") as page:
+            self.assertIn(f"```cpp\n{source.read()}```", page.read())
+        words = [compiler, "-std=c++17", "-fsyntax-only", "-include", "boost/multi_index_container.hpp", "-xc++", "/dev/null"]
+        if subprocess.run(words, capture_output=True).returncode:
+            self.skipTest("Boost's containers aren't there: `apt-get install libboost-dev` brings them")
+        made = f"{kit.folder(self)}/accounts"
+        self.ran(compiler, "-std=c++17", *STRICT, f"-I{CLIENTS}/cpp/tests", f"{path}.cpp", "-o", made)
+        with open(f"{path}.out", encoding="utf-8") as out:
+            self.assertEqual(self.ran(made), out.read())
 
 
 @unittest.skipUnless(shutil.which("cargo") and shutil.which("rustc"), "cargo and rustc aren't there")
@@ -62,6 +76,10 @@ class Rust(Binding):
 
     def test_it_compiles(self):
         self.cargo("check", "--all-targets", WELTIYO_LIBRARY_DIR=self.library)
+
+    @unittest.skipUnless(shutil.which("cargo-clippy"), "clippy isn't there")
+    def test_it_is_well_with_clippy(self):
+        self.cargo("clippy", "--all-targets", "--", "-D", "warnings", WELTIYO_LIBRARY_DIR=self.library)
 
     def test_moves(self):
         self.cargo("test", "--test", "moves", WELTIYO_LIBRARY_DIR=self.library)

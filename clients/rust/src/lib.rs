@@ -432,6 +432,17 @@ impl Database {
         number_of(unsafe { raw::weltiyo_column(self.handle.as_ptr(), table, name.as_ptr(), name.len()) }).map(|it| it as usize)
     }
 
+    /// The text of the schema: the one that was opened, and of the built-in table one that describes it.
+    pub fn schema(&mut self) -> Result<String, Error> {
+        let handle = self.handle.as_ptr();
+        // SAFETY: as in `answer`; nothing is written where there is no room.
+        let wanted = unsafe { raw::weltiyo_schema(handle, NonNull::dangling().as_ptr(), 0) };
+        let mut text = vec![0; wanted.number as usize];
+        // SAFETY: as in `answer`.
+        number_of(unsafe { raw::weltiyo_schema(handle, text.as_mut_ptr(), text.len()) })?;
+        Ok(String::from_utf8_lossy(&text).into_owned())
+    }
+
     /// How many rows a table has.
     pub fn size(&mut self, table: usize) -> Result<u64, Error> {
         // SAFETY: as in `answer`.

@@ -115,6 +115,7 @@ extern "C" {
     pub(crate) fn weltiyo_table(handle: *mut Handle, name: *const u8, length: usize) -> Told;
     pub(crate) fn weltiyo_index(handle: *mut Handle, table: usize, name: *const u8, length: usize) -> Told;
     pub(crate) fn weltiyo_column(handle: *mut Handle, table: usize, name: *const u8, length: usize) -> Told;
+    pub(crate) fn weltiyo_schema(handle: *mut Handle, out: *mut u8, room: usize) -> Told;
     pub(crate) fn weltiyo_size(handle: *mut Handle, table: usize) -> Told;
     pub(crate) fn weltiyo_find(
         handle: *mut Handle, table: usize, index: usize, key: *const Cell, key_count: usize, key_texts: *const u8, key_length: usize,

@@ -5,6 +5,8 @@ use weltiyo::{Database, Error, Page, Value};
 
 const LINE: usize = 5;
 
+type Step = fn(&mut Database) -> Result<(), Error>;
+
 fn row(owner: &str) -> Vec<Value> {
     vec![owner.into(), 1.into(), true.into()]
 }
@@ -67,8 +69,7 @@ fn only_its_own() -> Result<(), Error> {
     let mut db = opened();
     db.session()?.push();
     db.insert(0, &row("kept"))?;
-    let steps: [fn(&mut Database) -> Result<(), Error>; 3] =
-        [Database::undo, Database::squash, |db| db.ask(r#"{"cmd":"undo"}"#).map(drop)];
+    let steps: [Step; 3] = [Database::undo, Database::squash, |db| db.ask(r#"{"cmd":"undo"}"#).map(drop)];
     for step in steps {
         let mut session = db.session()?;
         step(&mut session)?;
@@ -130,4 +131,12 @@ fn errors_of_a_caller() {
         assert_eq!((made.word(), made.index(), made.is_lost()), (word, None, false), "{text}");
     }
     assert_eq!((Error::Schema("twice").word(), Error::Schema("twice").id()), ("twice", None));
+}
+
+/// The text of a schema opens the same tables.
+#[test]
+fn text_of_a_schema() -> Result<(), Error> {
+    let text = opened().schema()?;
+    assert_eq!(Database::open_with(&text, 1)?.schema()?, text);
+    Ok(())
 }

@@ -47,7 +47,7 @@ fn rows_from_both_sides() {
 #[test]
 fn columns() {
     let mut db = filled();
-    let long = "x".repeat(5000);
+    let long = "x".repeat(1024);
     let id = db.insert(0, &[Value::Text(long.clone()), (-1).into(), true.into()]).unwrap();
     let balance = db.column(0, "balance").unwrap();
     let row = db.seen(0, id).unwrap().unwrap();

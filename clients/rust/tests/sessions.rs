@@ -1,5 +1,8 @@
 //! Sessions of blocks, what is refused, and who frees what.
-use weltiyo::{Database, Error, OWN};
+use weltiyo::{Database, Error, Session, OWN};
+
+/// What a block does with its database.
+type Step<'a> = &'a dyn Fn(&mut Database) -> Result<(), Error>;
 
 fn insert(owner: &str) -> String {
     format!(r#"{{"cmd":"insert","row":{{"owner":"{owner}","balance":1,"vip":false}}}}"#)
@@ -44,16 +47,22 @@ fn sessions_nest() -> Result<(), Error> {
 #[test]
 fn ended_beside_its_guard() -> Result<(), Error> {
     let line = |text: &'static str| move |db: &mut Database| db.ask(text).map(drop);
-    let steps: [(&dyn Fn(&mut Database) -> Result<(), Error>, u64); 9] = [
+    let steps: [(Step<'_>, u64); 9] = [
         (&|db| db.commit(9).map(drop), 0),
         (&|db| db.undo_all().map(drop), 0),
         (&|db| db.push().map(drop), 2),
-        (&|db| Ok(db.release(OWN)), 1),
+        (
+            &|db| {
+                db.release(OWN);
+                Ok(())
+            },
+            1,
+        ),
         (&line(r#"{"cmd":"squash"}"#), 1),
         (&line(r#"{"cmd":"commit","revision":9}"#), 0),
         (&line(r#"{"cmd":"undo_all"}"#), 0),
         (&line(r#"{"cmd":"push"}"#), 2),
-        (&|db| db.undo().and_then(|()| Ok(db.session()?.push())), 2),
+        (&|db| db.undo().and_then(|()| db.session().map(Session::push)), 2),
     ];
     for (n, (step, left)) in steps.iter().enumerate() {
         let mut db = Database::open("")?;

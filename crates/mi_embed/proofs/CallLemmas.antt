@@ -30,12 +30,12 @@ by_asked conn k s t n (Err e) said may is (inl p) =
 
 pub tells : (conn : ℕ) (k : Call) (n : ℕ) (r : Result Change Refusal) (told : CallResult) (old new : EngineState) → takes_none k ≡ false
     → IsAnswer (of_table command.Change n r) (asked old.held conn k) → TellsChange n r told old new → Tells conn k told old new
-tells conn k n r told old new may is t = (t.0, by_asked conn k old.held new.held n r t.0 may is t.1, t.2, t.3)
+tells conn k n r told old new may is t = (t.0, by_asked conn k old.held new.held n r t.0 may is t.1, t.2, t.3, t.4)
 
 -- a refusal is told, and nothing changes
 pub tells_refusal : (n : ℕ) (r : Result Change Refusal) (e : Refusal) (told : CallResult) (s : EngineState) → r ≡ Err e → told ≡ refused e
     → TellsChange n r told s s
-tells_refusal n r e told s is told_is = subst (λ q. TellsChange n q told s s) (sym is) (say.refused 0 e, inl (refl, refl), told_is, refl)
+tells_refusal n r e told s is told_is = subst (λ q. TellsChange n q told s s) (sym is) (say.refused 0 e, inl (refl, refl), told_is, refl, refl)
 
 pub tells_busy : (conn : ℕ) (x : SessionCommand) (told : CallResult) (s : EngineState) → is_busy s.held.holder conn ≡ true → told ≡ refused Busy
     → TellsStep conn x told s s
@@ -46,5 +46,6 @@ tells_busy conn x told s busy is = (
     sym (ap (λ b. (command_answer s.held conn (cond b (Err Busy) (Ok (command.Session x)))).1) busy),
   ),
   is,
+  refl,
   refl,
 )

@@ -179,24 +179,25 @@ takes_none other = false
 abbrev pub MayAnswer : ℕ → HeldDatabase → Call → Said → HeldDatabase → Type 0
 MayAnswer conn s k said t = ToldOrMemory (takes_none k ≡ false) (call_answer s conn k) s said t
 
--- From old a call of a connection may be told so, and new is left. The reply to the last line stays.
+-- From old a call of a connection may be told so, and new is left. The reply to the last line stays,
+-- and the text of the schema.
 abbrev pub Tells : ℕ → Call → CallResult → EngineState → EngineState → Type 0
-Tells conn k told old new = (said : Said) × MayAnswer conn old.held k said new.held × (told ≡ told_of said) × (new.reply ≡ old.reply)
+Tells conn k told old new = (said : Said) × MayAnswer conn old.held k said new.held × (told ≡ told_of said) × (new.reply ≡ old.reply) × (new.schema ≡ old.schema)
 
 -- what is told of the change that is asked of table n, whatever call asks it; or of why it is refused
 abbrev pub TellsChange : ℕ → Result Change Refusal → CallResult → EngineState → EngineState → Type 0
 TellsChange n asked told old new =
     (said : Said) × ToldOrMemory (Unit {0}) (command_answer old.held 0 (of_table command.Change n asked)) old.held said new.held
-    × (told ≡ told_of said) × (new.reply ≡ old.reply)
+    × (told ≡ told_of said) × (new.reply ≡ old.reply) × (new.schema ≡ old.schema)
 
 -- what is told of a command over sessions
 abbrev pub TellsDone : ℕ → SessionCommand → CallResult → EngineState → EngineState → Type 0
 TellsDone conn x told old new =
-    (said : Said) × ToldOrMemory (session_needs_none x ≡ false) (performed old.held conn (command.Session x)) old.held said new.held × (told ≡ told_of said) × (new.reply ≡ old.reply)
+    (said : Said) × ToldOrMemory (session_needs_none x ≡ false) (performed old.held conn (command.Session x)) old.held said new.held × (told ≡ told_of said) × (new.reply ≡ old.reply) × (new.schema ≡ old.schema)
 
 -- the same, unless it is kept out
 abbrev pub TellsStep : ℕ → SessionCommand → CallResult → EngineState → EngineState → Type 0
 TellsStep conn x told old new =
     let c = command.Session x in
     (said : Said) × ToldOrMemory (session_needs_none x ≡ false) (command_answer old.held conn (unless_busy old.held conn (Ok c))) old.held said new.held
-    × (told ≡ told_of said) × (new.reply ≡ old.reply)
+    × (told ≡ told_of said) × (new.reply ≡ old.reply) × (new.schema ≡ old.schema)

@@ -27,13 +27,20 @@ abbrev pub IsDescribed : List ℕ → Result CatalogShape OpenFault → Type 0
 IsDescribed text (Ok catalog) = Describes text catalog
 IsDescribed text (Err fault) = IsRefused text fault
 
--- the engine over a catalog that nothing was asked of
-abbrev pub fresh : CatalogShape → EngineState
-fresh catalog = record { held = record { database = opened_database catalog; holder = None }; reply = [] }
+-- The text that is kept: the schema's, as it was given; where none was given, one that describes the built-in table.
+abbrev pub IsKept : List ℕ → List ℕ → Type 0
+IsKept [] kept = catalog_read kept ≡ Ok (record { tables = accounts ∷ []; first_revision = 0 })
+IsKept (b ∷ bytes) kept = kept ≡ b ∷ bytes
 
--- what a text opens, or why it opens nothing
+-- the engine over a catalog that nothing was asked of
+abbrev pub fresh : CatalogShape → List ℕ → EngineState
+fresh catalog schema = record { held = record { database = opened_database catalog; holder = None }; reply = []; schema = schema }
+
+-- what a text opens, or why it opens nothing; the text that is kept describes the very catalog
 abbrev pub IsOpened : List ℕ → Result EngineState OpenFault → Type 0
-IsOpened text (Ok engine) = (catalog : CatalogShape) × Describes text catalog × (engine ≡ fresh catalog)
+IsOpened text (Ok engine) =
+    (catalog : CatalogShape) × Describes text catalog × IsKept text engine.schema × (catalog_read engine.schema ≡ Ok catalog)
+    × (engine ≡ fresh catalog engine.schema)
 IsOpened text (Err fault) = IsRefused text fault
 
 -- the number of a fault

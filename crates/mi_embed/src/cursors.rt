@@ -317,7 +317,7 @@ fn index_name(catalog: &Catalog, table: usize, index: usize) -> Result<&str, Ref
 }
 
 /// Copies a text to the front of bytes where there is room for all of it, and tells its length or what is wanted.
-fn copied(text: &[u8], bytes: &mut [u8]) -> CallResult
+pub(crate) fn copied(text: &[u8], bytes: &mut [u8]) -> CallResult
     ensures { IsCopiedIf (nat_le (length text.now) (length bytes.old)) text.now result bytes.old bytes.new }
 {
     if text.len() > bytes.len() {

@@ -1,25 +1,25 @@
-//! The database that a caller holds, and the reply to the last line that it asked.
-ghost use Rattle.std.specs.Prelude.{◌≡◌, ℕ, length};
-ghost use Rattle.mi_commands.specs.Answer.{MayGive};
+//! The database that a caller holds, the reply to the last line that it asked, and the text of the schema.
+ghost use Rattle.std.specs.Prelude.{◌≡◌, ℕ, length, IfOk};
 ghost use Rattle.mi_commands.specs.Holder.{released};
-ghost use Rattle.mi_embed.specs.Opening.{IsDescribed, IsOpened};
-ghost use Rattle.mi_embed.specs.State.{line_of, IsCopied};
+ghost use Rattle.mi_embed.specs.Opening.{IsDescribed, IsKept, IsOpened};
+ghost use Rattle.mi_embed.specs.State.{Answers, IsCopied};
 
 use crate::fault::OpenFault;
 use mi_commands::{Executor, Line};
 use mi_database::Linked;
 use mi_multi::MultiIndex;
 use mi_protocol::Output;
-use mi_schema::{Catalog, built_in, read_catalog};
+use mi_schema::{Catalog, built_in, built_in_text, read_catalog};
 use mi_value::limits::{MAX_LINE, MAX_SCHEMA_FILE};
-use std::alloc::Global;
+use std::alloc::{AllocError, Global};
 use std::marker::Model;
 
-/// A database and the reply to the last line.
+/// A database, the reply to the last line, and the text of the schema.
 #[derive(Drop)]
 pub struct Engine {
     pub(crate) executor: Executor<Linked<MultiIndex>>,
     reply: Output,
+    schema: Vec<u8>,
     pub(crate) alloc: Global,
 }
 
@@ -28,7 +28,7 @@ impl Model for Engine {
 
     ghost Value = { EngineState };
 
-    ghost view = { λ e. record { held = e.executor; reply = e.reply } };
+    ghost view = { λ e. record { held = e.executor; reply = e.reply; schema = e.schema.items } };
 }
 
 /// The catalog of a schema's text; of no text, that of the built-in table.
@@ -44,6 +44,18 @@ fn described(alloc: Global, schema: &[u8]) -> Result<Catalog, OpenFault>
     Ok(read_catalog(alloc, schema)?)
 }
 
+/// A copy of a schema's text; of no text, that of the built-in schema.
+fn kept_text(alloc: Global, schema: &[u8]) -> Result<Vec<u8>, AllocError>
+    ensures { IfOk result (λ text. IsKept schema.now text.items) }
+{
+    let text = if schema.is_empty() {
+        built_in_text().as_bytes()
+    } else {
+        schema
+    };
+    Vec::from_slice(alloc, text)
+}
+
 impl Engine {
     /// Opens the tables that a schema's text describes; no text stands for the built-in table. The secret is mixed into hashes
     /// of keys; no answer depends on it.
@@ -54,12 +66,14 @@ impl Engine {
         ensures { IsOpened schema.now result }
     {
         let catalog = described(alloc, schema)?;
+        let text = kept_text(alloc, schema)?;
         let database = Linked::<MultiIndex>::new(alloc, catalog, secret)?;
         let mut executor = Executor::new(alloc, database);
         executor.make_labels();
         Ok(Engine {
             executor,
             reply: Output::new(alloc),
+            schema: text,
             alloc,
         })
     }
@@ -67,7 +81,7 @@ impl Engine {
     /// Answers a line of a connection, given whole and without its newline, and says how many bytes its reply has. The reply
     /// stays until the next line. A line of more than 65,536 bytes is answered as over-long.
     pub fn execute(&mut self, conn: u64, line: &[u8]) -> usize
-        ensures is { MayGive conn self.old.held (line_of line.now) self.new.reply self.new.held }
+        ensures is { Answers conn self.old line.now self.new }
         ensures long { result ≡ length self.new.reply }
     {
         let asked = if line.len() > MAX_LINE {
@@ -84,6 +98,13 @@ impl Engine {
         ensures { result.now ≡ self.now.reply }
     {
         self.reply.as_slice()
+    }
+
+    /// The text of the schema: the one that was opened, byte for byte, or that of the built-in schema. It describes the engine's catalog.
+    pub fn schema(&self) -> &[u8]
+        ensures { result.now ≡ self.now.schema }
+    {
+        self.schema.as_slice()
     }
 
     /// Copies the reply to the last line from this byte on to the front of a buffer, as much as there is room for, and says how
@@ -106,7 +127,7 @@ impl Engine {
     /// Answers a line of a connection as `execute` does, and copies as much of its reply as there is room for to the front of a
     /// buffer. Says how many bytes the whole reply has; `copy_reply` gives those that had no room.
     pub fn ask(&mut self, conn: u64, line: &[u8], out: &mut [u8]) -> usize
-        ensures is { MayGive conn self.old.held (line_of line.now) self.new.reply self.new.held }
+        ensures is { Answers conn self.old line.now self.new }
         ensures long { result ≡ length self.new.reply }
         ensures copied { (count : ℕ) × IsCopied self.new.reply 0 out.old out.new count }
     {
@@ -117,7 +138,7 @@ impl Engine {
 
     /// A connection goes away: the sessions that it holds are undone. It takes no memory.
     pub fn release(&mut self, conn: u64)
-        ensures { self.new ≡ record { held = released conn self.old.held; reply = self.old.reply } }
+        ensures { self.new ≡ record { held = released conn self.old.held; reply = self.old.reply; schema = self.old.schema } }
     {
         self.executor.release(conn);
     }

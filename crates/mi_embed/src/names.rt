@@ -1,12 +1,16 @@
-//! Tables, indexes and columns by their names: the numbers that calls name them by. It changes nothing and takes no memory.
-ghost use Rattle.std.specs.Prelude.{◌≡◌, MatchOption};
+//! Tables, indexes and columns by their names: the numbers that calls name them by; and the text that names them all. It changes nothing and
+//! takes no memory.
+ghost use Rattle.std.specs.Prelude.{◌≡◌, MatchOption, Ok};
 ghost use Rattle.std.specs.Option.{ok_or};
 ghost use Rattle.std.specs.Str.{IsUtf8};
 ghost use Rattle.mi_catalog.specs.Shape as shape;
 ghost use Rattle.mi_embed.specs.Named as meaning;
 ghost use Rattle.mi_embed.specs.Named.{by_name};
+ghost use Rattle.mi_embed.specs.Cursors.{TellsText};
 
 use crate::arguments::schema_of;
+use crate::call_result::CallResult;
+use crate::cursors::copied;
 use crate::engine::Engine;
 use mi_catalog::{Catalog, Schema};
 use mi_sessions::Sessions;
@@ -87,5 +91,13 @@ impl Engine {
     {
         let schema = schema_of(self.executor.database().catalog(), table)?;
         number(column_in(schema, name), Refusal::Row)
+    }
+
+    /// Copies the text of the schema to the front of bytes where there is room for all of it, and tells its length. Without room it tells what is
+    /// wanted, and the bytes stay.
+    pub fn copy_schema(&self, bytes: &mut [u8]) -> CallResult
+        ensures { TellsText (Ok self.now.schema) result bytes.old bytes.new }
+    {
+        copied(self.schema(), bytes)
     }
 }

@@ -1,3 +1,4 @@
 pub mod ListLaws
 pub mod DocumentLaws
 pub mod CheckLaws
+pub mod TextLaws

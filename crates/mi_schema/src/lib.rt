@@ -8,7 +8,9 @@ mod document;
 mod draft;
 mod fault;
 mod read;
+mod text;
 
 pub use fault::SchemaFault;
 pub use mi_catalog::{Catalog, Column, Index, IndexKind, Parts, Schema, built_in};
 pub use read::{read_catalog, read_schema};
+pub use text::built_in_text;

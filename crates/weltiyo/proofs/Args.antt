@@ -1,5 +1,5 @@
 -- The arguments of an export that it hands on to its safe function: what type each has in either, and that it is the same. Assumes `Logic`.
--- Cited by `cursors::weltiyo_at_rank_id`, `cursors::weltiyo_field_of`, `cursors::weltiyo_find_id`, `cursors::weltiyo_first_id` and 38 more.
+-- Cited by `cursors::weltiyo_at_rank_id`, `cursors::weltiyo_field_of`, `cursors::weltiyo_find_id`, `cursors::weltiyo_first_id` and 39 more.
 use Rattle.std.proofs.Common.{◌≡◌, ℕ, suc, List, [], ◌∷◌, ◌++◌, refl, ap, ap₂}
 use seplogic.Ra.Ura.{Ura}
 use base.Fml.{fsep}

@@ -1,5 +1,5 @@
 -- What every export that lends the engine does: the engine that lies at the pointer is lent to a safe function for the call, with the arguments as they came, and lies there again after it. Assumes `Logic`.
--- Cited by `cursors::weltiyo_at_rank_id`, `cursors::weltiyo_field_of`, `cursors::weltiyo_find_id`, `cursors::weltiyo_first_id` and 38 more.
+-- Cited by `cursors::weltiyo_at_rank_id`, `cursors::weltiyo_field_of`, `cursors::weltiyo_find_id`, `cursors::weltiyo_first_id` and 39 more.
 use Rattle.std.proofs.Common.{◌≡◌, ℕ, suc, List, [], ◌∷◌, ◌++◌, refl, sym, ap, ◌∙◌, MutBor}
 use Rattle.std.proofs.raw_atomic.Walks.{proved}
 use lib.Dec.{T}

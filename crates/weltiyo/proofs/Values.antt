@@ -82,7 +82,7 @@ module _ {M : Type 1} {𝓤 : Ura M} {𝓛 : Logic 𝓤} {K : Type 0} {Γ : List
 
 -- an engine that nobody has: what an `Opened` without one names
 abbrev pub nobody : EngineState
-nobody = fresh (record { tables = []; first_revision = 0 })
+nobody = fresh (record { tables = []; first_revision = 0 }) []
 
 -- no engine is owned where the status isn't 0
 pub nowhere : (n : ℕ) (x : EngineState) → 0 < n → feq Ptr null_ptr null_ptr ≡ engine_where n null_ptr x

@@ -5,10 +5,9 @@
 ghost use Rattle.std.specs.Prelude.{◌≡◌, ℕ, Ok, Err, MatchResult, length};
 ghost use types.Logic.{sem};
 ghost use base.Fml.{fex};
-ghost use Rattle.mi_commands.specs.Answer.{MayGive};
 ghost use Rattle.mi_commands.specs.Holder.{released};
 ghost use Rattle.mi_embed.specs.Opening.{IsOpened};
-ghost use Rattle.mi_embed.specs.State.{EngineState, line_of, IsCopied};
+ghost use Rattle.mi_embed.specs.State.{EngineState, Answers, IsCopied};
 ghost use Rattle.weltiyo.specs.Handle.{engine_at, engine_where, TellsOpening};
 
 mod cursors;
@@ -55,7 +54,7 @@ pub extern "C" fn weltiyo_open(alloc: Global, schema: &[u8], secret: u64, out: &
 
 /// Answers a line, and says how long its reply is.
 fn answered(engine: &mut Engine, conn: u64, line: &[u8]) -> usize
-    ensures is { MayGive conn engine.old.held (line_of line.now) engine.new.reply engine.new.held }
+    ensures is { Answers conn engine.old line.now engine.new }
     ensures long { result ≡ length engine.new.reply }
 {
     engine.execute(conn, line)
@@ -66,7 +65,7 @@ fn answered(engine: &mut Engine, conn: u64, line: &[u8]) -> usize
 pub unsafe extern "C" fn weltiyo_execute(at: *mut u8, conn: u64, line: &[u8]) -> usize
     ghost engine: { EngineState }
     requires* { sem 𝓛 (engine_at at engine) }
-    ensures* { sem 𝓛 (fex EngineState (λ new. fex ((MayGive conn engine.held (line_of line.now) new.reply new.held) × (result ≡ length new.reply))
+    ensures* { sem 𝓛 (fex EngineState (λ new. fex ((Answers conn engine line.now new) × (result ≡ length new.reply))
         (λ _. engine_at at new))) }
 {
     answered(&mut *(at as *mut Engine), conn, line)
@@ -92,7 +91,7 @@ pub unsafe extern "C" fn weltiyo_reply(at: *mut u8, from: usize, out: &mut [u8])
 
 /// Answers a line, copies as much of its reply as there is room for, and says how long the whole reply is.
 fn asked(engine: &mut Engine, conn: u64, line: &[u8], out: &mut [u8]) -> usize
-    ensures is { MayGive conn engine.old.held (line_of line.now) engine.new.reply engine.new.held }
+    ensures is { Answers conn engine.old line.now engine.new }
     ensures long { result ≡ length engine.new.reply }
     ensures copied { (count : ℕ) × IsCopied engine.new.reply 0 out.old out.new count }
 {
@@ -104,7 +103,7 @@ fn asked(engine: &mut Engine, conn: u64, line: &[u8], out: &mut [u8]) -> usize
 pub unsafe extern "C" fn weltiyo_ask(at: *mut u8, conn: u64, line: &[u8], out: &mut [u8]) -> usize
     ghost engine: { EngineState }
     requires* { sem 𝓛 (engine_at at engine) }
-    ensures* { sem 𝓛 (fex EngineState (λ new. fex ((MayGive conn engine.held (line_of line.now) new.reply new.held) × (result ≡ length new.reply)
+    ensures* { sem 𝓛 (fex EngineState (λ new. fex ((Answers conn engine line.now new) × (result ≡ length new.reply)
         × ((count : ℕ) × IsCopied new.reply 0 out.old out.new count))
         (λ _. engine_at at new))) }
 {
@@ -113,7 +112,7 @@ pub unsafe extern "C" fn weltiyo_ask(at: *mut u8, conn: u64, line: &[u8], out: &
 
 /// Lets go of a connection.
 fn let_go(engine: &mut Engine, conn: u64)
-    ensures { engine.new ≡ record { held = released conn engine.old.held; reply = engine.old.reply } }
+    ensures { engine.new ≡ record { held = released conn engine.old.held; reply = engine.old.reply; schema = engine.old.schema } }
 {
     engine.release(conn);
 }
@@ -123,7 +122,7 @@ fn let_go(engine: &mut Engine, conn: u64)
 pub unsafe extern "C" fn weltiyo_release(at: *mut u8, conn: u64)
     ghost engine: { EngineState }
     requires* { sem 𝓛 (engine_at at engine) }
-    ensures* { sem 𝓛 (engine_at at (record { held = released conn engine.held; reply = engine.reply })) }
+    ensures* { sem 𝓛 (engine_at at (record { held = released conn engine.held; reply = engine.reply; schema = engine.schema })) }
 {
     let_go(&mut *(at as *mut Engine), conn);
 }
