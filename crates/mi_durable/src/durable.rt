@@ -19,6 +19,7 @@ use mi_hub::{Hub, HubFault};
 use mi_log::Log;
 use mi_sessions::Sessions;
 use std::alloc::Global;
+use std::mem;
 
 /// What is told to a line that waits for room.
 const NO_ROOM: &[u8] = b"{\"error\":\"journal\",\"ok\":false}\n";
@@ -89,6 +90,17 @@ impl<D: Sessions + Drop, L: Log + Drop> Durable<D, L> {
         ensures { result.now ≡ log_of self.now }
     {
         &self.log
+    }
+
+    /// The journal goes on in another log, and the one before is answered. Nothing counts as synced in the new one.
+    pub fn renew_log(&mut self, log: L) -> L
+        ensures log { log_of self.new ≡ log }
+        ensures before { result ≡ log_of self.old }
+        ensures hub { hub_of self.new ≡ hub_of self.old }
+        ensures settled { IsSettled L.appended L.synced self.new }
+    {
+        self.unsynced = true;
+        mem::replace(&mut self.log, log)
     }
 
     /// Whether a connection holds open sessions.

@@ -12,7 +12,7 @@ pub const SHORT_UNDO: usize = 64;
 
 /// Bytes of room that a change asks for, whatever its length: as many as the longest line has with its newline, and as undoing the most sessions
 /// takes behind it, each by a short line. So whether a log lacks room doesn't hang on which line asked last.
-pub(crate) const CHANGE_ROOM: u64 = (MAX_LINE + 1 + SHORT_UNDO * MAX_SESSIONS) as u64;
+pub const CHANGE_ROOM: u64 = (MAX_LINE + 1 + SHORT_UNDO * MAX_SESSIONS) as u64;
 
 /// Whether a request undoes sessions, where so many are open.
 fn undoes_some(request: &Request<'_>, depth: u64) -> bool

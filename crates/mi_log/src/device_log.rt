@@ -1,5 +1,5 @@
 //! A log over a device, which it doesn't touch again once a write or a sync has failed.
-ghost use Rattle.std.specs.Prelude.{◌≡◌, ◌≤◌, ◌+◌, None, false, not, is_ok, is_some, length, option_map, OnOk, OnErr};
+ghost use Rattle.std.specs.Prelude.{◌≡◌, ◌≤◌, ◌+◌, None, true, false, not, is_ok, is_some, length, option_map, OnOk, OnErr};
 ghost use Rattle.std.specs.Io.KnownBytes.{Appends, Keeps};
 ghost use Rattle.mi_log.specs.Kept.{AppendsFront};
 
@@ -30,6 +30,26 @@ impl<D> DeviceLog<D> {
             segment,
             error: None,
         }
+    }
+
+    /// A log over a device of which a call has failed, as by this error. It isn't used again.
+    pub fn failed(device: D, error: io::Error) -> DeviceLog<D>
+        ensures device { device_of result ≡ device }
+        ensures segment { segment_of result ≡ None }
+        ensures broken { is_broken result ≡ true }
+    {
+        DeviceLog {
+            device,
+            segment: None,
+            error: Some(error),
+        }
+    }
+
+    /// What it was written to.
+    pub fn into_device(self) -> D
+        ensures { result ≡ device_of self }
+    {
+        self.device
     }
 
     /// What it is written to.

@@ -8,7 +8,7 @@ ghost use Rattle.mi_recovery.specs.Segments.{IsNext};
 ghost use Rattle.mi_base.specs.declared.heading.Heading.{Heading};
 ghost use Rattle.mi_rebase.specs.Rebase.{IsHeadingAt, IsWithin, base_place, IsRebased, IsWritten};
 
-use crate::closing::{closed, place_behind};
+use crate::closing::closed;
 use crate::images::Imaged;
 use crate::settling::check_there;
 use crate::writing::{discard_new, keep_names, put_in_place, write_at};
@@ -17,7 +17,7 @@ use mi_hub::Hub;
 use mi_log::DeviceLog;
 use mi_recovery::{
     JournalDevice, JournalFailure, JournalFault, JournalFile, JournalFiles, JournalSchema, Place,
-    Position, next_segment, segment_path,
+    Position, next_segment, place_behind, segment_path,
 };
 use mi_sessions::Sessions;
 use std::alloc::Global;

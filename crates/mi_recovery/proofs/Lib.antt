@@ -1,3 +1,4 @@
 pub mod OpeningLemmas
 pub mod SegmentLemmas
+mod RollingLemmas
 mod HashLemmas

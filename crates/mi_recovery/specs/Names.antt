@@ -16,3 +16,7 @@ base_name path = path ++ codes ".base"
 -- the path of a base that isn't whole yet
 abbrev pub new_base_name : List ℕ → List ℕ
 new_base_name path = path ++ codes ".base.new"
+
+-- the path of a segment that isn't begun yet
+abbrev pub next_name : List ℕ → List ℕ
+next_name path = path ++ codes ".next"

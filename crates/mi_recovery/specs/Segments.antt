@@ -1,5 +1,5 @@
 -- A journal in segments, asked again from some position on: behind segment 1 stands segment 2, whose header has the sum of segment 1's text.
-use Rattle.std.specs.Prelude.{◌≡◌, ◌+◌, ℕ, List, [], ◌∷◌, ◌++◌, length, Option, Some, None, IfSome, codes, decimal}
+use Rattle.std.specs.Prelude.{◌≡◌, ◌≤◌, ◌+◌, ℕ, List, [], ◌∷◌, ◌++◌, length, Option, Some, None, IfSome, codes, decimal}
 use Rattle.std.specs.String.{string_bytes}
 use Rattle.sha2.specs.Sha256.{sha256}
 use Rattle.hex.specs.Hex.{encode_lower}
@@ -17,7 +17,7 @@ use Rattle.mi_recovery.specs.declared.place.Position.{Position}
 use Rattle.mi_recovery.specs.declared.place.Place.{Place}
 use Rattle.mi_recovery.specs.JournalFile.{text_of}
 use Rattle.mi_recovery.specs.Names.{segment_name}
-use Rattle.mi_recovery.specs.Recovery.{IsBeginning, IsReplayed, IsUndone, kept_bytes, told_by}
+use Rattle.mi_recovery.specs.Recovery.{IsBeginning, IsReplayed, IsUndone, Has, kept_bytes, told_by}
 
 -- the SHA-256 of a text, as 64 hexadecimal digits
 abbrev pub hash_of : List ℕ → List ℕ
@@ -47,6 +47,23 @@ IsAsked header skip text (Journal torn) old new =
 abbrev pub IsNext : JournalSchema → Place → List ℕ → Place → Type 0
 IsNext schema place text next = (next.number ≡ place.number + 1) × (next.skip ≡ 0)
     × (string_bytes next.header ≡ segment_header_of (hash_of text) schema.revision (string_bytes schema.hash) next.number)
+
+-- A segment is begun with this header and has no line: this process alone had its file. What is told of it is said where the file tells.
+abbrev pub IsBegunWith : {F : Type 0} → (F → Type 0) → (F → Option (List ℕ)) → Keeping → List ℕ → Option (List ℕ) → Type 0
+IsBegunWith {F} is_locked contents keeping header told =
+    (file : F) × is_locked file × IfSome (contents file) (λ _. Has keeping (header ++ 10 ∷ []) told)
+
+-- A journal goes on in its next segment. The one before, of which this is told, has so many bytes at least; the next one has the sum of its text.
+pub record IsRolled {F : Type 0} (is_locked : F → Type 0) (contents : F → Option (List ℕ)) (schema : JournalSchema) (keeping : Keeping) (most : ℕ)
+    (old : Option ℕ) (closed : Option (List ℕ)) (new : Option ℕ) (begun : Option (List ℕ)) : Type 0 where
+  pub next : Place
+  pub number : ℕ
+  pub was : old ≡ Some number
+  pub is : new ≡ Some (number + 1)
+  pub long : IfSome closed (λ bytes. most ≤ length bytes)
+  pub sum : IfSome closed (λ bytes. string_bytes next.header
+      ≡ segment_header_of (hash_of (text_of bytes)) schema.revision (string_bytes schema.hash) (number + 1))
+  pub begins : IsBegunWith is_locked contents keeping (string_bytes next.header) begun
 
 -- From old the segments from start on to this place are asked, and new is left. These are their files, the last one first. Each was seen under its
 -- path, and has whole lines alone.

@@ -4,8 +4,9 @@ ghost use Rattle.std.specs.String.{string_bytes};
 ghost use Rattle.std.specs.Io.KnownBytes.{Keeps};
 ghost use Rattle.mi_log.specs.DeviceLog.{device_of, segment_of};
 ghost use Rattle.mi_recovery.specs.declared.device.Keeping.TheVariants as kept;
-ghost use Rattle.mi_recovery.specs.Device.{told_of, is_staying};
+ghost use Rattle.mi_recovery.specs.Device.{told_of, is_staying, is_synced};
 ghost use Rattle.mi_recovery.specs.Recovery.{Has};
+ghost use Rattle.mi_recovery.specs.Segments.{IsBegunWith};
 
 use crate::claim::lock;
 use crate::device::{JournalDevice, Keeping};
@@ -50,6 +51,25 @@ pub fn sync<D: Device>(log: &mut DeviceLog<D>) -> Result<(), JournalFault>
     }
 }
 
+/// The log of a segment that is made at a path, with the header that a place has and no line. What it has stays, where it is synced.
+pub(crate) fn begun_at<P: JournalFiles>(
+    files: &P,
+    path: &str,
+    next: &Place,
+    keeping: Keeping,
+) -> Result<DeviceLog<JournalDevice<P::File>>, JournalFault>
+    ensures has { IfOk result (λ log. IsBegunWith (λ file. P.File.is_locked file ≡ true) P.File.contents keeping (string_bytes next.now.header)
+        (told_of P.File.contents (device_of log))) }
+    ensures settled { IfOk result (λ log. Keeps (told_of P.File.contents (device_of log)) (told_of P.File.stays (device_of log))) }
+    ensures stays { IfOk result (λ log. is_staying (device_of log) ≡ is_synced keeping) }
+    ensures segment { IfOk result (λ log. segment_of log ≡ Some next.now.number) }
+{
+    let file = made(files, path)?;
+    let mut log = begun(file, keeping, next.number, next.header.as_bytes())?;
+    sync(&mut log)?;
+    Ok(log)
+}
+
 /// Makes the segment that stands at a place, with its header and no line, and answers its log. This process alone has it; what it has stays, its
 /// name too.
 ///
@@ -70,9 +90,7 @@ pub fn next_segment<P: JournalFiles>(
     let Ok(name) = segment_path(alloc, path, next.number) else {
         return Err(JournalFault::from(JournalFailure::Memory));
     };
-    let file = made(files, name.as_str())?;
-    let mut log = begun(file, Keeping::Synced, next.number, next.header.as_bytes())?;
-    sync(&mut log)?;
+    let log = begun_at(files, name.as_str(), next, Keeping::Synced)?;
     named(files, name.as_str(), Keeping::Synced)?;
     Ok(log)
 }

@@ -31,6 +31,14 @@ impl<F> JournalDevice<F> {
         JournalDevice { file, keeping }
     }
 
+    /// Its file, where it has one, which it lets go of.
+    pub fn into_file(self) -> Option<F>
+        ensures { result ≡ file_of self }
+    {
+        let JournalDevice { file, .. } = self;
+        file
+    }
+
     /// Its file, where it has one.
     pub fn file(&self) -> Option<&F>
         ensures { option_map (λ file. file.now) result ≡ file_of self.now }

@@ -1,7 +1,7 @@
 //! The paths of a journal's files: its segments, its base, and a base that isn't whole yet. It opens none.
 ghost use Rattle.std.specs.Prelude.{◌≡◌, ◌-◌, length, replicate, IfOk, IfSome};
 ghost use Rattle.std.specs.String.{string_bytes};
-ghost use Rattle.mi_recovery.specs.Names.{segment_name, base_name, new_base_name};
+ghost use Rattle.mi_recovery.specs.Names.{segment_name, base_name, new_base_name, next_name};
 
 use std::alloc::{AllocError, Global};
 
@@ -51,6 +51,15 @@ pub fn new_base_path(alloc: Global, path: &str) -> Result<String, AllocError>
 {
     let mut name = String::from_str(alloc, path)?;
     name.push_str(".base.new")?;
+    Ok(name)
+}
+
+/// The path of a segment that isn't begun yet: it is renamed once it is.
+pub fn next_path(alloc: Global, path: &str) -> Result<String, AllocError>
+    ensures { IfOk result (λ name. string_bytes name ≡ next_name path.now) }
+{
+    let mut name = String::from_str(alloc, path)?;
+    name.push_str(".next")?;
     Ok(name)
 }
 
