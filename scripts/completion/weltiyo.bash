@@ -38,7 +38,7 @@ _weltiyo() {
     esac
     case ${1##*/} in
         mi_server) options='--schema --check --listen --clients --help' ;;
-        mi_service) options='--schema --listen --unix --journal --sync --hold-seconds --idle-seconds --rebase --rebase-to --new-schema --help' ;;
+        mi_service) options='--schema --listen --unix --journal --sync --segment-bytes --hold-seconds --idle-seconds --rebase --rebase-to --new-schema --help' ;;
         weltiyo-lint)
             options='--program --help'
             [[ $word == -* ]] || { _weltiyo_files "$word" .toml; return; } ;;

@@ -24,6 +24,9 @@ started again has the tables of `reference.py` that was asked the journal, with 
     rebase-forgets  what a disk may have that forgets what wasn't synced, names too, behind a stop at each change that these two make
     rebase-full     a rebase under limits of files, on disks of few pages, and with each of its calls refused
              What these three leave starts with the same tables, is rebased, and starts with them again (two of them need a C compiler)
+    segments   rounds with kills of a service that begins a segment every 4,096 bytes: each closed one is whole, and the next has its sum
+    segments-killed, -refused, -forgets   a life that goes through several is killed in front of each of its calls, has one refused, or is stopped at each
+             change on a disk that forgets (these need a C compiler)
     bases    a base that is torn at each byte, or breaks a rule; segments that are missing, twice, damaged or another journal's: status 3 and the
              word for that of a start and of a rebase, and all files stay as they are
     tools    `mi_server` (--server) that is asked a journal as its input has the same tables; so has the service behind `journal.py compact`
@@ -41,7 +44,7 @@ import sys
 import tempfile
 import time
 
-from stress import base_damage, based, ledgers, parts, rebase_stops
+from stress import base_damage, based, ledgers, parts, rebase_stops, segment_stops
 import program
 from stress import service
 from stress.callers import TABLES, Load
@@ -469,7 +472,8 @@ OTHER = "journal: schema"
 """What is said of a journal of another schema or format."""
 PARTS = {"rounds": rounds, "power": power, "synced": synced, "torn": torn, "deep": deep, "full": full, "damaged": damaged, "moved": moved,
          "rebase": based.rebase, "rebase-ledger": ledgers.rebase_ledger, "rebase-killed": rebase_stops.rebase_killed, "rebase-forgets": rebase_stops.rebase_forgets,
-         "rebase-full": rebase_stops.rebase_full, "bases": base_damage.damaged, "tools": tools}
+         "rebase-full": rebase_stops.rebase_full, "segments": segment_stops.segments, "segments-killed": segment_stops.segments_killed,
+         "segments-refused": segment_stops.segments_refused, "segments-forgets": segment_stops.segments_forget, "bases": base_damage.damaged, "tools": tools}
 
 
 def main(given=None):

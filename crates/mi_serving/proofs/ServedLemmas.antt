@@ -1,5 +1,5 @@
 -- What began with the tables of the options was served, or rebased.
--- Cited by `program::durable_of`, `program::perform`, `program::rebase` and `start::standing`.
+-- Cited by `program::durable_of`, `program::perform`, `program::rebase`, `program::serve_hub` and `start::standing`.
 use Rattle.std.proofs.Common.{◌≡◌, ℕ, List, Bool, Option, Some, Result, Ok, Err, subst, sym}
 use Rattle.std.specs.Prelude.{IfOk, IfSome}
 use Rattle.std.specs.String.{string_bytes}
@@ -14,6 +14,7 @@ use Rattle.mi_rebase.specs.Rebase.{IsRebased}
 use Rattle.mi_serving.specs.declared.failure.Fault.{Fault}
 use Rattle.mi_serving.specs.declared.words.JournalWords.{JournalWords}
 use Rattle.mi_serving.specs.Words.{keeping_by}
+use Rattle.mi_serving.specs.Turns.{GoesOver}
 use Rattle.mi_serving.specs.Served.{Begins, HasServed, HasRebased, IsSchemaOf, Serves, StandsAt, path_of}
 
 -- what holds of something that is there
@@ -32,6 +33,14 @@ module _ {F G : Type 0} (remaining : G → Option (List ℕ)) (is_locked : F →
       subst (λ n. Begins is_locked is_seen is_newest contents schema position start n hub told segment) (sym is)
       (subst (λ k. IsOpenedBehind is_locked is_seen (is_newest file) contents file schema position k start hub told segment) by
       (subst (λ p. IsOpenedBehind is_locked is_seen (is_newest p) contents p schema position keeping start hub told segment) of opened))
+
+  -- what went on by these of a journal went on by those that are the same
+  pub over_by : {A : Type 0} (s t : JournalSchema) (k l : Keeping) (m n : ℕ) (start end : HubState) (before after : Option (List ℕ)) → s ≡ t → k ≡ l → m ≡ n
+      → (A → GoesOver is_locked contents s k m start end before after) → A → GoesOver is_locked contents t l n start end before after
+  over_by s t k l m n start end before after p q r goes a =
+      subst (λ u. GoesOver is_locked contents u l n start end before after) p
+      (subst (λ u. GoesOver is_locked contents s u n start end before after) q
+      (subst (λ u. GoesOver is_locked contents s k u start end before after) r (goes a)))
 
   pub performed : (r : Result Fault Fault) (named same : Bool) (catalog : CatalogShape) (schema : JournalSchema) (position place : Option Position)
       (hub : HubState) (words given : Option JournalWords) → named ≡ same → place ≡ position → words ≡ given → IsCatalog remaining named (Ok catalog)

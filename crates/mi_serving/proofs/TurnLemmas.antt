@@ -1,9 +1,10 @@
 -- Turns one behind another.
 -- Cited by `service::accept_one`, `service::serve`, `service::take_turn` and `service::turn`.
-use Rattle.std.proofs.Common.{◌≡◌, inl, inr, ◌≤◌, ◌<◌, ℕ, ℤ, List, [], ◌∷◌, ◌++◌, length, map, Option, Some, None, false, cond, nat_eq, arith, refl, sym, ap, subst, ◌∙◌}
+use Rattle.std.proofs.Common.{◌≡◌, ◌⊎◌, inl, inr, ◌≤◌, ◌<◌, ℕ, ℤ, List, [], ◌∷◌, ◌++◌, length, map, Option, Some, None, false, cond, nat_eq, arith, refl, sym, ap, subst, ◌∙◌}
 use Rattle.std.specs.Prelude.{IsSome}
 use Rattle.std.proofs.lemmas.List.{length-map}
 use Rattle.std.specs.Io.KnownBytes.{Keeps}
+use Rattle.std.proofs.KnownBytes.{Keeps-refl}
 use Rattle.mi_hub.specs.Run.{HubState, AttachRefused}
 use Rattle.mi_hub.specs.Lines.{Rest}
 use Rattle.mi_clients.proofs.StepLemmas.{makes_none, makes_then}
@@ -18,13 +19,40 @@ use Rattle.mi_clients.specs.declared.clients.ConnectOutcome.{ConnectOutcome}
 use Rattle.mi_clients.specs.declared.clients.ConnectOutcome.TheVariants.{Connected, Refused}
 use Rattle.mi_clients.proofs.StreamLemmas.{streams_none, streams_comes}
 use Rattle.mi_clients.proofs.ServedLemmas.{IsIn, in_from, in_to, in_join, zip_from}
-use Rattle.mi_serving.specs.Turns.{Goes, AllUpTo}
+use Rattle.mi_recovery.specs.declared.device.Keeping.{Keeping}
+use Rattle.mi_recovery.specs.declared.place.JournalSchema.{JournalSchema}
+use Rattle.mi_recovery.specs.Segments.{IsRolled}
+use Rattle.mi_serving.specs.Turns.{Goes, GoesBy, GoesOver, Seam, AllUpTo}
 
 pub goes_none : (s : HubState) (a b : Option (List ℕ)) → Keeps a b → Goes s s a b
 goes_none s a b kept = ([], makes_none s a b kept)
 
 pub goes_then : (old mid new : HubState) (a b c : Option (List ℕ)) → Goes old mid a b → Goes mid new b c → Goes old new a c
 goes_then old mid new a b c p q = (p.0 ++ q.0, makes_then p.0 q.0 old mid new a b c p.1 q.1)
+
+-- ---- further segments
+
+module _ {F : Type 0} (is_locked : F → Type 0) (contents : F → Option (List ℕ)) (schema : JournalSchema) (keeping : Keeping) (most : ℕ) where
+  by_then : (seams : List Seam) (old mid new : HubState) (a b c : Option (List ℕ)) → GoesBy is_locked contents schema keeping most seams old mid a b
+      → Goes mid new b c → GoesBy is_locked contents schema keeping most seams old new a c
+  by_then [] old mid new a b c p q = goes_then old mid new a b c p q
+  by_then (seam ∷ seams) old mid new a b c p q = (p.0, p.1, goes_then seam.hub mid new seam.begun b c p.2 q)
+
+  pub over_then : (old mid new : HubState) (a b c : Option (List ℕ)) → GoesOver is_locked contents schema keeping most old mid a b → Goes mid new b c
+      → GoesOver is_locked contents schema keeping most old new a c
+  over_then old mid new a b c p q = (p.0, by_then p.0 old mid new a b c p.1 q)
+
+  -- nothing is changed, or the journal goes on in its next segment
+  pub over_rolled : {S : Type 0} (hub : S → HubState) (told : S → Option (List ℕ)) (number : S → Option ℕ) (d e : S) (old : HubState) (a : Option (List ℕ))
+      → GoesOver is_locked contents schema keeping most old (hub d) a (told d) → hub e ≡ hub d
+      → (e ≡ d) ⊎ IsRolled is_locked contents schema keeping most (number d) (told d) (number e) (told e)
+      → GoesOver is_locked contents schema keeping most old (hub e) a (told e)
+  over_rolled hub told number d e old a p same (inl is) = subst (λ s. GoesOver is_locked contents schema keeping most old (hub s) a (told s)) (sym is) p
+  over_rolled hub told number d e old a p same (inr rolled) =
+      subst (λ h. GoesOver is_locked contents schema keeping most old h a (told e)) (sym same) (
+        record { hub = hub d; before = number d; closed = told d; next = number e; begun = told e } ∷ p.0,
+        (p.1, rolled, goes_none (hub d) (told e) (told e) (Keeps-refl (told e))),
+      )
 
 -- ---- the numbers of a list
 

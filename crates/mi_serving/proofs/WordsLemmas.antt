@@ -1,5 +1,5 @@
 -- The numbers and the journal that the words name.
--- Cited by `move_words::move_words`, `words::port`, `words::seconds` and `words::values`.
+-- Cited by `move_words::move_words`, `words::port`, `words::seconds`, `words::segment_bytes` and `words::values`.
 use Rattle.std.proofs.Common.{◌≡◌, ◌≤◌, ℕ, List, false, Option, Some, None, refl, sym, subst, ◌∙◌}
 use Rattle.mi_serving.specs.declared.words.JournalWords.{JournalWords}
 use Rattle.mi_serving.specs.declared.move_words.MoveWords.{MoveWords}

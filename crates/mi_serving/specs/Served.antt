@@ -18,8 +18,8 @@ use Rattle.mi_rebase.specs.Rebase.{IsRebased}
 use Rattle.mi_serving.specs.declared.failure.Failure.{Failure}
 use Rattle.mi_serving.specs.declared.failure.Failure.TheVariants.{Poll, Turns}
 use Rattle.mi_serving.specs.declared.words.JournalWords.{JournalWords}
-use Rattle.mi_serving.specs.Words.{keeping_by}
-use Rattle.mi_serving.specs.Turns.{Goes, ends_serving}
+use Rattle.mi_serving.specs.Words.{keeping_by, keeping_of, segment_bytes_of}
+use Rattle.mi_serving.specs.Turns.{GoesOver, ends_serving}
 
 -- a database of which nobody asks
 abbrev pub hub_over : Database → HubState
@@ -66,13 +66,15 @@ Begins is_locked is_seen is_newest contents schema position start None hub told 
 Begins is_locked is_seen is_newest contents schema position start (Some words) hub told segment = IsOpenedBehind is_locked is_seen
     (is_newest (string_bytes words.file)) contents (string_bytes words.file) schema position (keeping_by words.sync) start hub told segment
 
--- so it began, and was served until this failure; where the poll or the turns ended it, what its steps left is told
+-- So it began, and was served until this failure. Where the poll or the turns ended it, what its steps left is told; the journal went on in segments of
+-- as many bytes as the words say.
 abbrev pub Serves : {F : Type 0} → (F → Type 0) → (List ℕ → F → Type 0) → (List ℕ → ℕ → Type 0) → (F → Option (List ℕ)) → JournalSchema
     → Option Position → HubState → Option JournalWords → Failure → Type 0
 Serves is_locked is_seen is_newest contents schema position old words failure =
     (start : HubState) × (end : HubState) × (before : Option (List ℕ)) × (after : Option (List ℕ)) × (segment : Option ℕ)
     × Begins is_locked is_seen is_newest contents schema position old words start before segment
-    × ((failure ≡ Turns) ⊎ (failure ≡ Poll) → Goes start end before after) × (ends_serving failure ≡ true)
+    × ((failure ≡ Turns) ⊎ (failure ≡ Poll)
+    → GoesOver is_locked contents schema (keeping_of words) (segment_bytes_of words) start end before after) × (ends_serving failure ≡ true)
 
 -- A service of a catalog began with what its journal's base has, or with empty tables, and served.
 pub record HasServed {F : Type 0} (is_locked : F → Type 0) (is_seen : List ℕ → F → Type 0) (is_newest : List ℕ → ℕ → Type 0)

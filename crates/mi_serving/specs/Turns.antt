@@ -1,5 +1,5 @@
 -- What the turns of a service do, one behind another: connection 2 comes and asks in one turn, and goes away in the next.
-use Rattle.std.specs.Prelude.{◌≤◌, ℕ, List, Bool, true, false, Option, None}
+use Rattle.std.specs.Prelude.{◌≤◌, ℕ, List, [], ◌∷◌, Bool, true, false, Option, None}
 use Rattle.std.specs.List.{Contains}
 use Rattle.mi_clients.specs.declared.client.Client.{Client}
 use Rattle.mi_hub.specs.Run.{HubState}
@@ -7,6 +7,9 @@ use Rattle.mi_clients.specs.Steps.{Step, Makes, GivesNone, AsksNone}
 use Rattle.mi_clients.specs.Clients.{ids, Joins, Serves, AllOnlyAsk, StayersOnlyAsk, TellsWhatIs}
 use Rattle.mi_clients.specs.Status.{IsStatus}
 use Rattle.mi_clients.specs.Beside.{Attended, InPlace}
+use Rattle.mi_recovery.specs.declared.device.Keeping.{Keeping}
+use Rattle.mi_recovery.specs.declared.place.JournalSchema.{JournalSchema as OfSchema}
+use Rattle.mi_recovery.specs.Segments.{IsRolled}
 use Rattle.mi_serving.specs.declared.link.Link.{Link}
 use Rattle.mi_serving.specs.declared.overflow.Overflow.{Overflow}
 use Rattle.mi_serving.specs.Overflow.{IsPlaced}
@@ -37,6 +40,27 @@ use Rattle.mi_serving.specs.declared.failure.Failure.TheVariants.{
 -- From old, some steps are made, and new is left.
 abbrev pub Goes : HubState → HubState → Option (List ℕ) → Option (List ℕ) → Type 0
 Goes old new before after = (steps : List Step) × Makes steps old new before after
+
+-- Where a journal went on in its next segment: the hub then, and what is told of the segment before and of the next one.
+pub record Seam : Type 0 where
+  pub hub : HubState
+  pub before : Option ℕ
+  pub closed : Option (List ℕ)
+  pub next : Option ℕ
+  pub begun : Option (List ℕ)
+
+-- From old some steps are made, and new is left; in between the journal went on in further segments, the last of which is named first.
+abbrev pub GoesBy : {F : Type 0} → (F → Type 0) → (F → Option (List ℕ)) → OfSchema → Keeping → ℕ → List Seam → HubState → HubState
+    → Option (List ℕ) → Option (List ℕ) → Type 0
+GoesBy is_locked contents schema keeping most [] old new told after = Goes old new told after
+GoesBy is_locked contents schema keeping most (seam ∷ seams) old new told after =
+    GoesBy is_locked contents schema keeping most seams old seam.hub told seam.closed
+    × IsRolled is_locked contents schema keeping most seam.before seam.closed seam.next seam.begun × Goes seam.hub new seam.begun after
+
+abbrev pub GoesOver : {F : Type 0} → (F → Type 0) → (F → Option (List ℕ)) → OfSchema → Keeping → ℕ → HubState → HubState
+    → Option (List ℕ) → Option (List ℕ) → Type 0
+GoesOver is_locked contents schema keeping most old new told after =
+    (seams : List Seam) × GoesBy is_locked contents schema keeping most seams old new told after
 
 -- no connection of a list has a number above this one
 abbrev pub AllUpTo : {S : Type 0} → ℕ → List (Client S) → Type 0

@@ -13,7 +13,7 @@ use Rattle.mi_serving.specs.declared.words.Options.{Options}
 use Rattle.mi_serving.specs.declared.words.Addresses.{Addresses}
 use Rattle.mi_serving.specs.declared.words.JournalWords.{JournalWords}
 use Rattle.mi_serving.specs.declared.words.SyncMode.{SyncMode}
-use Rattle.mi_serving.specs.declared.words.TheConstants.{MOST_SECONDS}
+use Rattle.mi_serving.specs.declared.words.TheConstants.{MOST_SECONDS, SEGMENT_BYTES, LEAST_SEGMENT, MOST_SEGMENT}
 use Rattle.mi_serving.specs.declared.words.SyncMode.TheVariants.{Always, Turn, Never}
 
 -- what is done of a sync of a journal
@@ -21,6 +21,16 @@ abbrev pub keeping_by : SyncMode → Keeping
 keeping_by Always = Synced
 keeping_by Turn = Synced
 keeping_by Never = Unsynced
+
+-- what is done of a sync of the journal that the words name, where they name one
+abbrev pub keeping_of : Option JournalWords → Keeping
+keeping_of None = Unsynced
+keeping_of (Some words) = keeping_by words.sync
+
+-- how many bytes of text a segment of that has before the next one is begun
+abbrev pub segment_bytes_of : Option JournalWords → ℕ
+segment_bytes_of None = 18446744073709551615
+segment_bytes_of (Some words) = words.segment_bytes
 
 -- whether each line is to be synced by itself
 abbrev pub syncs_each : SyncMode → Bool
@@ -41,6 +51,15 @@ port_parser = vp.Signed (pos 0) (pos 65535)
 abbrev pub seconds_parser : ValueParser
 seconds_parser = vp.Unsigned 1 MOST_SECONDS
 
+-- bytes of a segment are 4,096 to 2^40
+abbrev pub segment_parser : ValueParser
+segment_parser = vp.Unsigned LEAST_SEGMENT MOST_SEGMENT
+
+-- options, and those of the journal that is kept
+abbrev pub with_journal : App → App
+with_journal app =
+    with_rule (with_rule (with_rule app (option_rule (codes "journal"))) (option_rule (codes "sync"))) (number_rule (codes "segment-bytes") segment_parser)
+
 -- options, and those that limit how long connections may be silent
 abbrev pub with_limits : App → App
 with_limits app = with_rule (with_rule app (number_rule (codes "hold-seconds") seconds_parser)) (number_rule (codes "idle-seconds") seconds_parser)
@@ -56,8 +75,8 @@ with_moving app = with_rule (with_rule app (option_rule (codes "rebase-to"))) (o
 -- the options that the service knows
 abbrev pub service_options : App
 service_options =
-    with_limits (with_moving (with_rule (with_rule (with_rule (with_places (with_rule (new_app (codes "mi_service")) (option_rule (codes "schema"))))
-    (option_rule (codes "journal"))) (option_rule (codes "sync"))) (flag_rule (codes "rebase"))))
+    with_limits (with_moving (with_rule (with_journal (with_places (with_rule (new_app (codes "mi_service")) (option_rule (codes "schema")))))
+    (flag_rule (codes "rebase"))))
 
 -- when lines are made to stay by this word: with no word once a turn
 abbrev pub sync_of : List ℕ → Option SyncMode
@@ -74,6 +93,20 @@ IsJournal None None journal = journal ≡ None
 IsJournal None (Some word) journal = ⊥
 IsJournal (Some file) word None = ⊥
 IsJournal (Some file) word (Some journal) = (string_bytes journal.file ≡ file) × (sync_by word ≡ Some journal.sync)
+
+-- the bytes of a segment that a word says, or none without a word
+abbrev pub IsSegmentBytes : Option (List ℕ) → Option ℕ → Type 0
+IsSegmentBytes word bytes = IsNumber LEAST_SEGMENT MOST_SEGMENT word bytes
+
+-- so many bytes, or 64 MiB where none are said
+abbrev pub bytes_or_default : Option ℕ → ℕ
+bytes_or_default None = SEGMENT_BYTES
+bytes_or_default (Some bytes) = bytes
+
+-- a journal's segments have so many bytes; without a journal none are said
+abbrev pub HasBytes : Option ℕ → Option JournalWords → Type 0
+HasBytes bytes None = bytes ≡ None
+HasBytes bytes (Some journal) = journal.segment_bytes ≡ bytes_or_default bytes
 
 -- where these words of `--rebase-to` and `--new-schema` put a journal, or none
 abbrev pub IsMove : Option (List ℕ) → Option (List ℕ) → Option MoveWords → Type 0
@@ -114,6 +147,7 @@ pub record AreValues (options : Options) (rows : List Row) : Type 0 where
   pub schema : option_map string_bytes options.schema ≡ first_of (codes "schema") rows
   pub addresses : AreAddresses rows options.addresses
   pub journal : IsJournal (first_of (codes "journal") rows) (first_of (codes "sync") rows) options.journal
+  pub segments : (bytes : Option ℕ) × IsSegmentBytes (one_of (codes "segment-bytes") rows) bytes × HasBytes bytes options.journal
   pub limits : AreLimits rows options.limits
   pub rebase : options.rebase ≡ is_set (one_of (codes "rebase") rows)
   pub moving : IsMove (first_of (codes "rebase-to") rows) (first_of (codes "new-schema") rows) options.moving

@@ -26,8 +26,8 @@ use mi_clients::SchemaLine;
 use mi_hub::Hub;
 use mi_rebase::rebased;
 use mi_recovery::{
-    JournalDurable, JournalFiles, JournalSchema, Keeping, Position, SystemFiles, log_error,
-    opened_behind, without,
+    JournalDurable, JournalFiles, JournalSchema, Keeping, Position, Rolling, SystemFiles,
+    log_error, opened_behind, without,
 };
 use mi_sessions::Sessions;
 use std::alloc::Global;
@@ -115,6 +115,28 @@ fn syncs_each(journal: Option<&JournalWords>) -> bool
     }
 }
 
+/// When the journal that the words name goes on in its next segment. Without a journal none does.
+fn rolling_of<'a>(journal: Option<&'a JournalWords>, schema: &'a JournalSchema) -> Rolling<'a>
+    ensures schema { result.schema.now ≡ schema.entry.now }
+    ensures keeping { result.keeping ≡ spec.keeping_of (option_map (λ words. words.now) journal.entry) }
+    ensures most { result.most ≡ spec.segment_bytes_of (option_map (λ words. words.now) journal.entry) }
+{
+    match journal {
+        Some(words) => Rolling {
+            path: words.file.as_str(),
+            schema,
+            keeping: keeping_by(words.sync),
+            most: words.segment_bytes,
+        },
+        None => Rolling {
+            path: "",
+            schema,
+            keeping: Keeping::Unsynced,
+            most: u64::MAX,
+        },
+    }
+}
+
 /// Serves a hub, with what the journal has, until something fails, which is the answer. It says where it listens once it is ready. An
 /// error comes before the first connection.
 fn serve_hub<P: JournalFiles, D: Sessions + Drop, C: Clock, W: Write>(
@@ -137,13 +159,16 @@ fn serve_hub<P: JournalFiles, D: Sessions + Drop, C: Clock, W: Write>(
     let port = acceptor.port()?;
     let mut durable = durable_of(alloc, files, hub, schema, position, journal)?;
     announce(output, port, path)?;
+    let rolling = rolling_of(journal, schema);
     let failure = serve(
         alloc,
+        files,
         &mut durable,
         acceptor,
         patience,
         syncs_each(journal),
         line,
+        &rolling,
     );
     Ok(Fault {
         failure,

@@ -130,7 +130,7 @@ pub(crate) fn refuse<E: Write>(fault: &WordsFault, errors: &mut E) -> u8
         WordsFault::Rules => {
             let _ = writeln!(
                 errors,
-                "usage: --listen or --unix; or --rebase, or --rebase-to with --new-schema; rebases and --sync need --journal; --sync is always, turn or never"
+                "usage: --listen or --unix; or --rebase, or --rebase-to with --new-schema; rebases, --sync and --segment-bytes need --journal; --sync is always, turn or never"
             );
             2
         }

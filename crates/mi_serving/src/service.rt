@@ -3,12 +3,14 @@ ghost use Rattle.std.specs.Prelude.{◌≡◌, ◌+◌, ◌^◌, ◌<◌, ◌≤
 ghost use Rattle.mi_value.specs.declared.limits.TheConstants.{MAX_CONNECTIONS as most_connections};
 ghost use Rattle.mi_hub.specs.declared.fault.HubFault.{HubFault};
 ghost use Rattle.mi_replay.specs.Replayed.{replayer};
+ghost use Rattle.mi_log.specs.DeviceLog.{device_of, is_broken};
 ghost use Rattle.mi_durable.specs.Durable.{hub_of, log_of, IsSettled};
+ghost use Rattle.mi_recovery.specs.Device.{told_of};
 ghost use Rattle.mi_clients.specs.Steps.{Step, Makes, GivesNone, AsksNone};
 ghost use Rattle.mi_clients.specs.Clients.{ids, Attends, Joins, NoneIsOver, NoneIsWhole, SameStreams, Serves, AllOnlyAsk, StayersOnlyAsk, EachWoken, TellsWhatIs};
 ghost use Rattle.mi_clients.specs.ServiceLines.{line_of};
 ghost use Rattle.mi_serving.specs.Overflow.{WaitsUpTo};
-ghost use Rattle.mi_serving.specs.Turns.{Goes, AllUpTo, IsTurn, ends_serving};
+ghost use Rattle.mi_serving.specs.Turns.{AllUpTo, GoesOver, IsTurn, ends_serving};
 
 use crate::acceptor::Acceptor;
 use crate::failure::Failure;
@@ -20,6 +22,7 @@ use mi_clients::{
 };
 use mi_durable::{Durable, DurableFault, REPLAYER};
 use mi_log::Log;
+use mi_recovery::{JournalDurable, JournalFile, JournalFiles, Rolling, roll};
 use mi_sessions::Sessions;
 use mi_value::limits::MAX_CONNECTIONS;
 use std::alloc::Global;
@@ -242,20 +245,23 @@ fn give_up<D: Sessions + Drop, L: Log + Drop, C: Clock>(
 /// Serves connections that an acceptor accepts until something fails, and says what: `Poll`, `Memory`, `Journal` or `Turns`. With `each` a
 /// line's reply waits for a sync of its own, else for one that all lines of a turn have together. Who is silent for longer than the patience
 /// lasts, or was asked to end, is let go. `schema` is told to whoever asks for it. Where all places are taken one more is served lines of the service
-/// alone.
-pub fn serve<D: Sessions + Drop, L: Log + Drop, C: Clock>(
+/// alone. Behind a turn the journal goes on in its next segment, where `rolling` wants that.
+pub fn serve<P: JournalFiles, D: Sessions + Drop, C: Clock>(
     alloc: Global,
-    durable: &mut Durable<D, L>,
+    files: &P,
+    durable: &mut JournalDurable<P::File, D>,
     acceptor: &mut Acceptor,
     patience: &mut Patience<'_, C>,
     each: bool,
     schema: &SchemaLine,
+    rolling: &Rolling<'_>,
 ) -> Failure
     requires none { (hub_of durable.old).attached ≡ [] }
-    requires settled { IsSettled L.appended L.synced durable.old }
+    requires settled { IsSettled (λ l. told_of P.File.contents (device_of l)) (λ l. told_of P.File.stays (device_of l)) durable.old }
     ensures turns { (result ≡ Failure.Turns) ⊎ (result ≡ Failure.Poll)
-        → Goes (hub_of durable.old) (hub_of durable.new) (L.appended (log_of durable.old)) (L.appended (log_of durable.new)) }
-    ensures failed { result ≡ Failure.Journal → L.has_failed (log_of durable.new) ≡ true }
+        → GoesOver (λ file. P.File.is_locked file ≡ true) P.File.contents rolling.now.schema.now rolling.now.keeping rolling.now.most (hub_of durable.old)
+        (hub_of durable.new) (told_of P.File.contents (device_of (log_of durable.old))) (told_of P.File.contents (device_of (log_of durable.new))) }
+    ensures failed { result ≡ Failure.Journal → is_broken (log_of durable.new) ≡ true }
     ensures ends { ends_serving result ≡ true }
 {
     let Ok(mut clients) = Vec::with_capacity(alloc, MAX_CONNECTIONS) else {
@@ -264,6 +270,7 @@ pub fn serve<D: Sessions + Drop, L: Log + Drop, C: Clock>(
     let mut buffer = [0u8; READ];
     let mut overflow = Overflow::new();
     let mut last = REPLAYER;
+    let mut bytes = 0;
     'turns: for _turn in 0..MAX_TURNS {
         let longest = patience.longest_wait(!overflow.is_free());
         if let Err(failure) = wait(acceptor, &mut clients, &mut overflow, longest) {
@@ -285,6 +292,9 @@ pub fn serve<D: Sessions + Drop, L: Log + Drop, C: Clock>(
             return Failure::of_durable(fault);
         }
         overflow.judge(patience.second());
+        if let Err(fault) = roll(alloc, files, rolling, &mut bytes, durable) {
+            return Failure::of_durable(fault);
+        }
     }
     Failure::Turns
 }

@@ -5,7 +5,7 @@ ghost use Rattle.clap.specs.Words.{App, app_of, rule_of, rows_of, found_of, matc
 ghost use Rattle.clap.specs.Built.{IsPlainArg};
 ghost use Rattle.mi_program.specs.Words.{option_rule, flag_rule, number_rule, is_set, HasOptions};
 ghost use Rattle.mi_serving.specs.Words as spec;
-ghost use Rattle.mi_serving.specs.Words.{service_options, with_limits, with_places, sync_by, listens, is_task, IsJournal, IsPort, IsSeconds, AreLimits, AreAddresses, AreValues};
+ghost use Rattle.mi_serving.specs.Words.{service_options, with_journal, with_limits, with_places, sync_by, listens, is_task, IsJournal, HasBytes, IsSegmentBytes, IsPort, IsSeconds, AreLimits, AreAddresses, AreValues};
 
 use crate::move_words::{MoveWords, movable, move_words};
 use clap::builder::ValueParser;
@@ -18,6 +18,15 @@ use std::convert::AsStr;
 
 /// Seconds that a connection may be allowed to be silent, at most.
 pub const MOST_SECONDS: u64 = 1_000_000;
+
+/// Bytes of text that a journal's segment has before the next one is begun, where no word says more: 64 MiB.
+pub const SEGMENT_BYTES: u64 = 67_108_864;
+
+/// The fewest that may be asked for.
+pub const LEAST_SEGMENT: u64 = 4_096;
+
+/// The most that may be asked for, 1 TiB.
+pub const MOST_SEGMENT: u64 = 1_099_511_627_776;
 
 /// When the lines of a journal are made to stay.
 #[derive(Clone, Copy, Drop)]
@@ -37,6 +46,8 @@ pub struct JournalWords {
     pub file: String,
     /// When its lines are made to stay.
     pub sync: SyncMode,
+    /// How many bytes of text a segment has at least before the next one is begun.
+    pub segment_bytes: u64,
 }
 
 /// Where the service listens: on a port, at a path, or both; a rebase listens nowhere.
@@ -128,6 +139,39 @@ fn seconds_parser<'a>() -> ValueParser<'a>
     clap::value_parser!(u64).range(1..=1_000_000)
 }
 
+/// Bytes of a segment are 4,096 to 2^40.
+fn segment_parser<'a>() -> ValueParser<'a>
+    ensures { result ≡ spec.segment_parser }
+{
+    clap::value_parser!(u64).range(4_096..=1_099_511_627_776)
+}
+
+/// A command, and the options of the journal that is kept.
+fn kept<'a>(alloc: Global, command: Command<'a>) -> Result<Command<'a>, AllocError>
+    ensures { IfOk result (λ c. (app : App) → HasOptions command.entry app → HasOptions c (with_journal app)) }
+{
+    let with_journal = command.arg(option(
+        alloc,
+        "journal",
+        "FILE",
+        "Keeps what is changed in this file, and begins with what it has",
+    ))?;
+    let with_sync = with_journal.arg(option(
+        alloc,
+        "sync",
+        "WHEN",
+        "Makes the journal stay before replies go out: always (line by line), turn (the default), never",
+    ))?;
+    let with_bytes = with_sync.arg(number(
+        alloc,
+        "segment-bytes",
+        "N",
+        segment_parser(),
+        "Goes on in the journal's next file, FILE.000002 and so on, once the newest has N bytes: 4096 to 2^40, 67108864 if absent",
+    ))?;
+    Ok(with_bytes)
+}
+
 /// A command, and the options that limit how long connections may be silent.
 fn limited<'a>(alloc: Global, command: Command<'a>) -> Result<Command<'a>, AllocError>
     ensures { IfOk result (λ c. (app : App) → HasOptions command.entry app → HasOptions c (with_limits app)) }
@@ -180,19 +224,8 @@ fn command<'a>(alloc: Global) -> Result<Command<'a>, AllocError>
         "Reads the schema from this TOML file; without it the table `accounts` is served",
     ))?;
     let with_places = placed(alloc, with_schema)?;
-    let with_journal = with_places.arg(option(
-        alloc,
-        "journal",
-        "FILE",
-        "Keeps what is changed in this file, and begins with what it has",
-    ))?;
-    let with_sync = with_journal.arg(option(
-        alloc,
-        "sync",
-        "WHEN",
-        "Makes the journal stay before replies go out: always (line by line), turn (the default), never",
-    ))?;
-    let with_rebase = with_sync.arg(flag(
+    let with_journal = kept(alloc, with_places)?;
+    let with_rebase = with_journal.arg(flag(
         alloc,
         "rebase",
         "Writes the tables of the journal to its base, FILE.base, begins a new segment, and ends; nobody may serve it meanwhile",
@@ -259,24 +292,48 @@ fn sync_mode(word: Option<&str>) -> Option<SyncMode>
     }
 }
 
-/// The journal that is kept, where one is; `Rules` where its way has no name, or it has a way and no file.
+/// The bytes of a segment that are asked for, or 64 MiB.
+fn bytes_or_default(bytes: Option<u64>) -> u64
+    ensures { result ≡ spec.bytes_or_default bytes }
+{
+    match bytes {
+        Some(bytes) => bytes,
+        None => SEGMENT_BYTES,
+    }
+}
+
+/// The journal that is kept, where one is. `Rules` where its way has no name, or it has a way or its segments' bytes and no file.
 fn journal_words(
     alloc: Global,
     file: Option<&str>,
     sync: Option<&str>,
+    bytes: Option<u64>,
 ) -> Result<Option<JournalWords>, WordsFault>
-    ensures { IfOk result (λ journal. IsJournal (option_map (λ t. t.now) file.entry) (option_map (λ w. w.now) sync.entry) journal) }
+    ensures journal { IfOk result (λ journal. IsJournal (option_map (λ t. t.now) file.entry) (option_map (λ w. w.now) sync.entry) journal) }
+    ensures bytes { IfOk result (λ journal. HasBytes bytes journal) }
 {
-    match (file, sync) {
-        (None, None) => Ok(None),
-        (None, Some(_word)) => Err(WordsFault::Rules),
-        (Some(file), sync) => match sync_mode(sync) {
+    match (file, sync, bytes) {
+        (None, None, None) => Ok(None),
+        (None, _, _) => Err(WordsFault::Rules),
+        (Some(file), sync, bytes) => match sync_mode(sync) {
             Some(sync) => Ok(Some(JournalWords {
                 file: String::from_str(alloc, file)?,
                 sync,
+                segment_bytes: bytes_or_default(bytes),
             })),
             None => Err(WordsFault::Rules),
         },
+    }
+}
+
+/// The bytes of a segment, where `--segment-bytes` stands in the words. The fault is `Rules`.
+fn segment_bytes(matches: &ArgMatches<'_>) -> Result<Option<u64>, WordsFault>
+    ensures { IfOk result (IsSegmentBytes (one_of (codes "segment-bytes") (rows_of (found_of matches.now)))) }
+{
+    match matches.get_one::<u64>("segment-bytes") {
+        Some(count) if count >= LEAST_SEGMENT && count <= MOST_SEGMENT => Ok(Some(count)),
+        None if !matches.contains_id("segment-bytes") => Ok(None),
+        _other => Err(WordsFault::Rules),
     }
 }
 
@@ -348,7 +405,13 @@ fn values(alloc: Global, matches: &ArgMatches<'_>) -> Result<Options, WordsFault
 {
     let schema = owned(alloc, matches.get_str("schema"))?;
     let addresses = addresses_of(alloc, matches)?;
-    let journal = journal_words(alloc, matches.get_str("journal"), matches.get_str("sync"))?;
+    let bytes = segment_bytes(matches)?;
+    let journal = journal_words(
+        alloc,
+        matches.get_str("journal"),
+        matches.get_str("sync"),
+        bytes,
+    )?;
     let limits = limits(matches)?;
     let rebase = matches.get_one::<bool>("rebase").unwrap_or(false);
     let moving = move_words(alloc, matches)?;
@@ -366,8 +429,8 @@ fn values(alloc: Global, matches: &ArgMatches<'_>) -> Result<Options, WordsFault
 /// The options that words say, the first of which is the program's name.
 ///
 /// `Parse` where they are refused or ask for help, `Memory` where a growth was refused. `Rules` where both `--listen` and `--unix` are missing, or one
-/// of them stands with `--rebase` or `--rebase-to`. `Rules` too where `--sync`, `--rebase` or `--rebase-to` stands without `--journal`, or both rebases
-/// stand. So it is where one of `--rebase-to` and `--new-schema` is missing, and where `--sync` names no way.
+/// of them stands with `--rebase` or `--rebase-to`. `Rules` too where `--sync`, `--segment-bytes`, `--rebase` or `--rebase-to` stands without
+/// `--journal`, or both rebases stand. So it is where one of `--rebase-to` and `--new-schema` is missing, and where `--sync` names no way.
 pub fn read_words<S: AsStr>(alloc: Global, words: &[S]) -> Result<Options, WordsFault>
     ensures { IfOk result (λ options. AreValues options (matches_of service_options (map S.text words.now))) }
 {

@@ -1,9 +1,11 @@
 -- A turn more.
-use Rattle.std.proofs.Common.{sym, ◌∙◌, subst, arith}
+use Rattle.std.proofs.Common.{◌≡◌, [], true, sym, ◌∙◌, subst, arith}
 use Rattle.std.proofs.KnownBytes.{Keeps-refl}
-use Rattle.mi_durable.specs.Durable.{hub_of}
+use Rattle.mi_log.specs.DeviceLog.{device_of, segment_of}
+use Rattle.mi_durable.specs.Durable.{hub_of, log_of}
+use Rattle.mi_recovery.specs.Device.{told_of}
 use Rattle.mi_clients.specs.Clients.{ids, Attends}
-use Rattle.mi_serving.proofs.TurnLemmas.{goes_none, goes_then, up_to_none, up_to_woken, up_to_ids}
+use Rattle.mi_serving.proofs.TurnLemmas.{goes_none, over_then, over_rolled, up_to_none, up_to_woken, up_to_ids}
 use Rattle.mi_serving.proofs.OverflowLemmas.{waits_none, goes_turn}
 use Rattle.mi_serving.specs.Overflow.{WaitsUpTo}
 use Rattle.mi_serving.specs.Turns.{AllUpTo}
@@ -17,17 +19,23 @@ turns-init g c = record {
   own = omega arith;
   waits = waits_none _ _ c.new-overflow.ensures.0;
   settled = c.requires.settled;
-  goes = goes_none _ _ _ (Keeps-refl _);
+  goes = ([], goes_none _ _ _ (Keeps-refl _));
 }
 
 pub turns-preserved : goal.turns-preserved
 turns-preserved g c = record {
-  attends = c.in_default-turn.ensures.attends;
+  attends = subst (λ h. Attends (ids c.turn.new.clients.items) h.attached) (sym c.in_default-roll.ensures.hub) c.in_default-turn.ensures.attends;
   known = c.in_default-turn.ensures.known;
   own = omega (arith, c.turns.invariant.own, c.in_default-turn.ensures.rises);
   waits = subst (WaitsUpTo c.turn.new.last) (sym c.judge.ensures.comer) c.in_default-turn.ensures.waits;
-  settled = c.in_default-turn.ensures.settled;
-  goes = goes_then _ (hub_of c.turns.durable) _ _ _ _ c.turns.invariant.goes (goes_turn _ _ _ _ _ _ _ _ _ _ _ _ _ _ c.in_default-turn.ensures.turns);
+  settled = c.in_default-roll.ensures.settled c.in_default-turn.ensures.settled;
+  goes =
+      let contents = g.P.File.Device.contents in
+      let rolling = c.args.rolling.now in
+      over_rolled (λ file. g.P.File.JournalFile.is_locked file ≡ true) contents rolling.schema.now rolling.keeping rolling.most hub_of (λ d. told_of contents (device_of (log_of d)))
+      (λ d. segment_of (log_of d)) c.turn.new.durable c.roll.new.durable _ _
+      (over_then (λ file. g.P.File.JournalFile.is_locked file ≡ true) contents rolling.schema.now rolling.keeping rolling.most _ (hub_of c.turns.durable) _ _ _ _ c.turns.invariant.goes
+      (goes_turn _ _ _ _ _ _ _ _ _ _ _ _ _ _ c.in_default-turn.ensures.turns)) c.in_default-roll.ensures.hub c.in_default-roll.ensures.rolled;
 }
 
 pub turn-requires-clause-known : goal.turn-requires-clause-known

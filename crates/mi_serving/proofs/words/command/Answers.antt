@@ -11,8 +11,6 @@ use Rattle.mi_serving.proofs.words.command.Goals as goal
 pub returns : goal.returns
 returns c =
     let schema_is : rule_of c.option.result ≡ option_rule (codes "schema") = search rules in
-    let journal_is : rule_of c.option-2.result ≡ option_rule (codes "journal") = search rules in
-    let sync_is : rule_of c.option-3.result ≡ option_rule (codes "sync") = search rules in
     let rebase_is : rule_of c.flag.result ≡ flag_rule (codes "rebase") = search rules in
     let start : HasOptions c.new.result (new_app (codes "mi_service")) = record {
       is = c.new.ensures.app;
@@ -22,10 +20,7 @@ returns c =
     c.in_ok-with_limits.ensures _
     (c.in_ok-with_moving.ensures _
     (stands_more _ _ _ _ _ c.in_ok-with_rebase.ensures
-    (stands_more _ _ _ _ _ c.in_ok-with_sync.ensures
-    (stands_more _ _ _ _ _ c.in_ok-with_journal.ensures
+    (c.in_ok-with_journal.ensures _
     (c.in_ok-with_places.ensures _
-    (stands_more _ _ _ _ _ c.in_ok-with_schema.ensures start schema_is c.option.ensures.plain c.option.ensures.local))
-    journal_is c.option-2.ensures.plain c.option-2.ensures.local)
-    sync_is c.option-3.ensures.plain c.option-3.ensures.local)
+    (stands_more _ _ _ _ _ c.in_ok-with_schema.ensures start schema_is c.option.ensures.plain c.option.ensures.local)))
     rebase_is c.flag.ensures.plain c.flag.ensures.local))

@@ -17,7 +17,8 @@ returns c =
       schema = c.in_ok-schema.ensures ∙ c.get_str.ensures ∙ first_value-rows m (codes "schema");
       addresses = c.in_ok-addresses.ensures;
       journal = named_by _ _ _ _ c.in_ok-journal.journal (c.get_str-2.ensures ∙ first_value-rows m (codes "journal"))
-          (c.get_str-3.ensures ∙ first_value-rows m (codes "sync")) c.in_ok-journal.ensures;
+          (c.get_str-3.ensures ∙ first_value-rows m (codes "sync")) c.in_ok-journal.ensures.journal;
+      segments = (c.in_ok-bytes.bytes, c.in_ok-bytes.ensures, c.in_ok-journal.ensures.bytes);
       limits = c.in_ok-limits.ensures;
       rebase = c.unwrap_or-rebase.ensures ∙ flag_read _ _ c.get_one.result c.get_one.ensures.none c.get_one.ensures.value
           ∙ ap is_set (one_text-rows m (codes "rebase"));
