@@ -37,7 +37,7 @@ small_record balance vip = Int (pos balance) ∷ Flag vip ∷ []
 
 -- the node of a name
 abbrev pub node : ℕ → Ref
-node name = record { name = name; mark = 0 }
+node name = record { name = name; generation = 0 }
 
 -- four rows, the last directly before row 1 in the line
 abbrev pub data_before : Data

@@ -62,7 +62,7 @@ lost_to Nothing = None
 -- the inverses
 
 abbrev pub at_in : Option Node → Ref
-at_in None = record { name = 0; mark = 0 }
+at_in None = record { name = 0; generation = 0 }
 at_in (Some n) = n.at
 
 -- a live row

@@ -13,7 +13,7 @@ use Rattle.mi_ids.specs.declared.page.Page.{Page}
 
 -- what stands at a place that isn't there
 abbrev pub nobody : Ref
-nobody = record { name = 0; mark = 0 }
+nobody = record { name = 0; generation = 0 }
 
 -- the entry of a place, from whether it has one, whether it is live, and its node
 abbrev pub place : Bool → Bool → Ref → Option IdEntry

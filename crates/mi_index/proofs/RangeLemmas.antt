@@ -1,5 +1,5 @@
 -- The rows between two bounds are those from where one bound begins to where the other ends.
--- Cited by `KeyRange::walk_down`, `KeyRange::walk_up`, `walk::rows_ahead` and `walk::rows_between`.
+-- Cited by `KeyRange::walk_ascending`, `KeyRange::walk_down`, `walk::rows_ahead` and `walk::rows_between`.
 use Rattle.std.proofs.Common.{Bor, ◌≡◌, ℕ, ◌+◌, ◌*◌, ◌^◌, ◌<◌, ◌≤◌, zero, suc, min, Bool, true, false, cond, not, ◌&&◌, ◌⊎◌, inl, inr, List, [], ◌∷◌, ◌++◌}
 use Rattle.std.proofs.Common.{map, length, take, drop, reverse, get_or, Some, None, refl, ap, sym, ◌∙◌, subst, arith}
 use Rattle.std.specs.List.{AllByRecursion, filter, prefix_len, position_or_len, take_while}
@@ -225,8 +225,8 @@ abbrev pub upper_of : Bool → List Value → Upper
 upper_of false key = upper.Below key
 upper_of true key = upper.UpTo key
 
-past_lower : (strict : Bool) (ps : List KeyPart) (key : List Value) (row : Row)
-    → past strict (ordering_reverse (compare_to_row ps key row)) ≡ meets_lower ps (lower_of strict key) row
+past_lower : (is_upper : Bool) (ps : List KeyPart) (key : List Value) (row : Row)
+    → past is_upper (ordering_reverse (compare_to_row ps key row)) ≡ meets_lower ps (lower_of is_upper key) row
 past_lower false ps key row = by (compare_to_row ps key row)
   where
     by : (o : Ordering) → past false (ordering_reverse o) ≡ is_le o
@@ -240,8 +240,8 @@ past_lower true ps key row = by (compare_to_row ps key row)
     by Equal = refl
     by Greater = refl
 
-past_upper : (strict : Bool) (ps : List KeyPart) (key : List Value) (row : Row)
-    → past strict (ordering_reverse (compare_to_row ps key row)) ≡ not (meets_upper ps (upper_of strict key) row)
+past_upper : (is_upper : Bool) (ps : List KeyPart) (key : List Value) (row : Row)
+    → past is_upper (ordering_reverse (compare_to_row ps key row)) ≡ not (meets_upper ps (upper_of is_upper key) row)
 past_upper false ps key row = by (compare_to_row ps key row)
   where
     by : (o : Ordering) → past false (ordering_reverse o) ≡ not (is_gt o)
@@ -270,18 +270,18 @@ module _ (t : Tree ByKey) (m : Pooled Stored) (rs : List Ref) (h : Stands (Sorte
   held = nodes_held (Sorted t) m rs h
 
   abbrev node_past : Bool → Bor (List Value) → Ref → Bool
-  node_past strict k = is_past_node strict (λ v. place_in ps v (Key k)) m
+  node_past is_upper k = is_past_node is_upper (λ v. place_in ps v (Key k)) m
 
   -- a test of nodes is one of their rows
   abbrev AreSame : (Ref → Bool) → (Row → Bool) → Type 0
   AreSame f g = (r : Ref) → IsHeld m r → f r ≡ g (shown_row m r)
 
-  one_past : (strict : Bool) (k : Bor (List Value)) → AreSame (node_past strict k) (λ row. past strict (ordering_reverse (compare_to_row ps k.now row)))
+  one_past : (is_upper : Bool) (k : Bor (List Value)) → AreSame (node_past is_upper k) (λ row. past is_upper (ordering_reverse (compare_to_row ps k.now row)))
   unfolding is_past_node
-  one_past strict k r there =
+  one_past is_upper k r there =
       let v = held_has m r there in
-      ap (past_value strict (λ v. place_in ps v (Key k))) v.1
-      ∙ sym (ap (λ o. past strict (ordering_reverse (compare_to_row ps k.now (row_if o)))) v.1)
+      ap (past_value is_upper (λ v. place_in ps v (Key k))) v.1
+      ∙ sym (ap (λ o. past is_upper (ordering_reverse (compare_to_row ps k.now (row_if o)))) v.1)
 
   prefix_rows : (f : Ref → Bool) (g : Row → Bool) → AreSame f g → (us : List Ref) → AreHeld m us → prefix_len f us ≡ prefix_len g (map (shown_row m) us)
   prefix_rows f g same [] there = refl
@@ -295,12 +295,12 @@ module _ (t : Tree ByKey) (m : Pooled Stored) (rs : List Ref) (h : Stands (Sorte
       all [] k w = tt
       all (v ∷ vs) k w = (sym (same v k.0) ∙ w.0, all vs k.1 w.1)
 
-  stays_past : (strict : Bool) (key : List Value) (g : Row → Bool) → ((row : Row) → past strict (ordering_reverse (compare_to_row ps key row)) ≡ g row)
+  stays_past : (is_upper : Bool) (key : List Value) (g : Row → Bool) → ((row : Row) → past is_upper (ordering_reverse (compare_to_row ps key row)) ≡ g row)
       → Stays g shown
-  stays_past strict key g same =
+  stays_past is_upper key g same =
       let k : Bor (List Value) = record { ref_ptr = (0, 0); now = key } in
-      stays_rows (node_past strict k) g (λ r there. one_past strict k r there ∙ same (shown_row m r)) rs held
-      (steady (stored_order ps) (λ v. place_in ps v (Key k)) (place_later ps (Key k)) strict m t.slot rs h.rising)
+      stays_rows (node_past is_upper k) g (λ r there. one_past is_upper k r there ∙ same (shown_row m r)) rs held
+      (steady (stored_order ps) (λ v. place_in ps v (Key k)) (place_later ps (Key k)) is_upper m t.slot rs h.rising)
 
   from_stays : (low : Lower) → Stays (meets_lower ps low) shown
   from_stays lower.All = stays_all (λ _. true) (λ _. refl) shown
@@ -337,32 +337,32 @@ module _ (t : Tree ByKey) (m : Pooled Stored) (rs : List Ref) (h : Stands (Sorte
       low = walked.2;
     }
 
-    pub begun_up : g.direction ≡ Ascending → (strict : Bool) (k : Bor (List Value)) → g.lower.now ≡ lower_of strict k.now
-        → Walks Ascending (position_or_len (node_past strict k) rs) → IsBegun g w m rs
-    begun_up towards strict k bound walked =
-        let n = position_or_len (node_past strict k) rs in
+    pub begun_up : g.direction ≡ Ascending → (is_upper : Bool) (k : Bor (List Value)) → g.lower.now ≡ lower_of is_upper k.now
+        → Walks Ascending (position_or_len (node_past is_upper k) rs) → IsBegun g w m rs
+    begun_up towards is_upper k bound walked =
+        let n = position_or_len (node_past is_upper k) rs in
         begun Ascending n towards walked
         (sym (drop-map (shown_row m) n rs)
         ∙ ap (λ i. drop i shown)
-        (prefix_rows (λ r. not (node_past strict k r)) (λ row. not (is_from g row))
+        (prefix_rows (λ r. not (node_past is_upper k r)) (λ row. not (is_from g row))
         (λ r there.
         ap not
-        (one_past strict k r there ∙ past_lower strict ps k.now (shown_row m r)
+        (one_past is_upper k r there ∙ past_lower is_upper ps k.now (shown_row m r)
         ∙ (λ i. meets_lower (parts i) (sym bound i) (shown_row m r))))
         rs held))
 
-    pub begun_down : g.direction ≡ Descending → (strict : Bool) (k : Bor (List Value)) → g.upper.now ≡ upper_of strict k.now
-        → Walks Descending (position_or_len (node_past strict k) rs) → IsBegun g w m rs
-    begun_down towards strict k bound walked =
-        let n = position_or_len (node_past strict k) rs in
+    pub begun_down : g.direction ≡ Descending → (is_upper : Bool) (k : Bor (List Value)) → g.upper.now ≡ upper_of is_upper k.now
+        → Walks Descending (position_or_len (node_past is_upper k) rs) → IsBegun g w m rs
+    begun_down towards is_upper k bound walked =
+        let n = position_or_len (node_past is_upper k) rs in
         begun Descending n towards walked
         (map_reverse (shown_row m) (take n rs)
         ∙ ap reverse
         (sym (take-map (shown_row m) n rs)
         ∙ ap (λ i. take i shown)
-        (prefix_rows (λ r. not (node_past strict k r)) (is_to g)
+        (prefix_rows (λ r. not (node_past is_upper k r)) (is_to g)
         (λ r there.
-        ap not (one_past strict k r there ∙ past_upper strict ps k.now (shown_row m r)) ∙ not_twice _
+        ap not (one_past is_upper k r there ∙ past_upper is_upper ps k.now (shown_row m r)) ∙ not_twice _
         ∙ (λ i. meets_upper (parts i) (sym bound i) (shown_row m r)))
         rs held)))
 

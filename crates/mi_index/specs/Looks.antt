@@ -39,11 +39,11 @@ has_sought (Sorted t) m k = is_node_at (λ v. place_in t.order.parts v k) m
 has_sought (Hashed c) m k = has_key (keying_of c.keys) m k
 has_sought (Sequenced l) m k = λ q. false
 
--- whether a node isn't before a probe, or with `strict` is behind it; this is asked of sorted indexes alone
+-- whether a node isn't before a probe, or with `is_upper` is behind it; this is asked of sorted indexes alone
 abbrev pub is_past : Bool → Structure → Pooled Stored → Probe → Ref → Bool
-is_past strict (Sorted t) m k = is_past_node strict (λ v. place_in t.order.parts v k) m
-is_past strict (Hashed c) m k = λ q. false
-is_past strict (Sequenced l) m k = λ q. false
+is_past is_upper (Sorted t) m k = is_past_node is_upper (λ v. place_in t.order.parts v k) m
+is_past is_upper (Hashed c) m k = λ q. false
+is_past is_upper (Sequenced l) m k = λ q. false
 
 -- whether another node has the key of this one; this is asked of hashed indexes alone
 abbrev pub has_same_key : Structure → Pooled Stored → Ref → Ref → Bool

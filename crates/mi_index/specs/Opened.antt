@@ -15,7 +15,7 @@ use Rattle.mi_list.specs.Listed.{slot_of, IsNew}
 use Rattle.mi_chain.specs.Chained.{AreNew}
 use Rattle.mi_index.specs.Pass.{AllStand}
 use Rattle.mi_order.specs.declared.stored.Stored.{Stored}
-use Rattle.mi_order.specs.declared.leads.LeadTypes.{LeadTypes}
+use Rattle.mi_order.specs.declared.prefixes.PrefixTypes.{PrefixTypes}
 use Rattle.mi_index.specs.declared.structure.Structure.{Structure}
 use Rattle.mi_index.specs.declared.structure.Structure.TheVariants.{Sorted, Hashed, Sequenced}
 
@@ -30,13 +30,13 @@ type_of columns None = Int
 type_of columns (Some p) = type_at (slice_get columns p.column)
 
 -- those of the first two parts
-abbrev pub lead_types : List Column → List KeyPart → LeadTypes
-lead_types columns ps = record { first = type_of columns (slice_get ps 0); second = type_of columns (slice_get ps 1) }
+abbrev pub prefix_types : List Column → List KeyPart → PrefixTypes
+prefix_types columns ps = record { first = type_of columns (slice_get ps 0); second = type_of columns (slice_get ps 1) }
 
 -- a structure of the kind, the key and the slot of an index, with the secret where it hashes
 abbrev pub IsOpenedFor : ℕ → List Column → Index → ℕ → Structure → Type 0
 IsOpenedFor secret columns i s (Sorted t) = ((i.kind ≡ kinds.Ordered) ⊎ (i.kind ≡ kinds.Ranked))
-    × (t.order.parts ≡ i.parts) × (t.order.types ≡ lead_types columns i.parts) × (t.slot ≡ s)
+    × (t.order.parts ≡ i.parts) × (t.order.types ≡ prefix_types columns i.parts) × (t.slot ≡ s)
 IsOpenedFor secret columns i s (Hashed c) = (i.kind ≡ kinds.Hashed) × (c.keys.parts ≡ i.parts) × (c.slot ≡ s) × (c.keys.secret ≡ secret)
 IsOpenedFor secret columns i s (Sequenced l) = (i.kind ≡ kinds.Sequenced) × (slot_of l ≡ s)
 

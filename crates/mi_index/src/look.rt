@@ -89,40 +89,40 @@ impl Structure {
         }
     }
 
-    /// The first node that isn't before the probe, or with `strict` the first that is behind it, if there is one. Asked of
+    /// The first node that isn't before the probe, or with `is_upper` the first that is behind it, if there is one. Asked of
     /// sorted indexes alone. One look-up: at most 2b comparisons for fewer than 2^b nodes.
-    pub fn past(
+    pub fn bound(
         &self,
         p: &Pool<Stored>,
         probe: Probe<'_>,
-        strict: bool,
+        is_upper: bool,
         steps: &mut Steps,
     ) -> Option<NodeRef>
         requires { (rs : Seq Ref) × Stands self.now p.now rs × look.IsSortedStructure self.now }
-        ensures node { (rs : Seq Ref) → Stands self.now p.now rs → result ≡ first_where (look.is_past strict self.now p.now probe.entry) rs }
+        ensures node { (rs : Seq Ref) → Stands self.now p.now rs → result ≡ first_where (look.is_past is_upper self.now p.now probe.entry) rs }
         ensures steps { (rs : Seq Ref) → Stands self.now p.now rs → (b : ℕ) → length rs < 2 ^ b → steps.new.count ≤ steps.old.count + 2 * b }
     {
         match self {
-            Structure::Sorted(tree) => past_in_tree(tree, p, probe, strict, steps),
+            Structure::Sorted(tree) => bound_in_tree(tree, p, probe, is_upper, steps),
             Structure::Hashed(_) | Structure::Sequenced(_) => None,
         }
     }
 
-    /// How many nodes stand in front of that one: those before the probe, or with `strict` all that aren't behind it. Asked of
+    /// How many nodes stand in front of that one: those before the probe, or with `is_upper` all that aren't behind it. Asked of
     /// sorted indexes alone. One look-up: at most 2b comparisons for fewer than 2^b nodes.
-    pub fn past_rank(
+    pub fn bound_rank(
         &self,
         p: &Pool<Stored>,
         probe: Probe<'_>,
-        strict: bool,
+        is_upper: bool,
         steps: &mut Steps,
     ) -> u32
         requires { (rs : Seq Ref) × Stands self.now p.now rs × look.IsSortedStructure self.now }
-        ensures rank { (rs : Seq Ref) → Stands self.now p.now rs → result ≡ position_or_len (look.is_past strict self.now p.now probe.entry) rs }
+        ensures rank { (rs : Seq Ref) → Stands self.now p.now rs → result ≡ position_or_len (look.is_past is_upper self.now p.now probe.entry) rs }
         ensures steps { (rs : Seq Ref) → Stands self.now p.now rs → (b : ℕ) → length rs < 2 ^ b → steps.new.count ≤ steps.old.count + 2 * b }
     {
         match self {
-            Structure::Sorted(tree) => past_rank_in_tree(tree, p, probe, strict, steps),
+            Structure::Sorted(tree) => bound_rank_in_tree(tree, p, probe, is_upper, steps),
             Structure::Hashed(_) | Structure::Sequenced(_) => 0,
         }
     }
@@ -229,39 +229,39 @@ fn rank_in_tree(tree: &Tree<ByKey>, p: &Pool<Stored>, node: NodeRef, steps: &mut
     tree.rank(&mut Counted::new(p), node, steps)
 }
 
-fn past_in_tree(
+fn bound_in_tree(
     tree: &Tree<ByKey>,
     p: &Pool<Stored>,
     probe: Probe<'_>,
-    strict: bool,
+    is_upper: bool,
     steps: &mut Steps,
 ) -> Option<NodeRef>
     requires { (rs : Seq Ref) × Stands (Sorted tree.now) p.now rs }
-    ensures node { (rs : Seq Ref) → Stands (Sorted tree.now) p.now rs → result ≡ first_where (look.is_past strict (Sorted tree.now) p.now probe.entry) rs }
+    ensures node { (rs : Seq Ref) → Stands (Sorted tree.now) p.now rs → result ≡ first_where (look.is_past is_upper (Sorted tree.now) p.now probe.entry) rs }
     ensures steps { (rs : Seq Ref) → Stands (Sorted tree.now) p.now rs → (b : ℕ) → length rs < 2 ^ b → steps.new.count ≤ steps.old.count + 2 * b }
 {
     let mut pool = Counted::new(p);
-    if strict {
+    if is_upper {
         tree.upper(&mut pool, probe, steps)
     } else {
         tree.lower(&mut pool, probe, steps)
     }
 }
 
-fn past_rank_in_tree(
+fn bound_rank_in_tree(
     tree: &Tree<ByKey>,
     p: &Pool<Stored>,
     probe: Probe<'_>,
-    strict: bool,
+    is_upper: bool,
     steps: &mut Steps,
 ) -> u32
     requires { (rs : Seq Ref) × Stands (Sorted tree.now) p.now rs }
     ensures rank { (rs : Seq Ref) → Stands (Sorted tree.now) p.now rs
-        → result ≡ position_or_len (look.is_past strict (Sorted tree.now) p.now probe.entry) rs }
+        → result ≡ position_or_len (look.is_past is_upper (Sorted tree.now) p.now probe.entry) rs }
     ensures steps { (rs : Seq Ref) → Stands (Sorted tree.now) p.now rs → (b : ℕ) → length rs < 2 ^ b → steps.new.count ≤ steps.old.count + 2 * b }
 {
     let mut pool = Counted::new(p);
-    if strict {
+    if is_upper {
         tree.upper_rank(&mut pool, probe, steps)
     } else {
         tree.lower_rank(&mut pool, probe, steps)

@@ -18,7 +18,7 @@ use mi_catalog::{Column, Index, IndexKind, Parts};
 use mi_chain::Chains;
 use mi_list::List;
 use mi_node::{Link, NodeRef, OldPlace, Pool, Tag};
-use mi_order::{ByHash, ByKey, LeadTypes, Stored};
+use mi_order::{ByHash, ByKey, PrefixTypes, Stored};
 use mi_tree::Tree;
 use mi_value::{ColumnType, KeyPart, Steps};
 use std::alloc::{AllocError, Global};
@@ -45,7 +45,7 @@ impl Structure {
     {
         match index.kind {
             IndexKind::Ordered | IndexKind::Ranked => {
-                let types = lead_types(columns, index.parts.as_slice());
+                let types = prefix_types(columns, index.parts.as_slice());
                 let parts = Parts::new(index.parts.as_slice().to_vec(alloc)?);
                 Ok(Structure::Sorted(Tree::new(slot, ByKey { parts, types })))
             }
@@ -190,10 +190,10 @@ fn type_of(columns: &[Column], part: Option<&KeyPart>) -> ColumnType
 }
 
 /// The types of the columns of the first two parts, by which tags are made.
-fn lead_types(columns: &[Column], parts: &[KeyPart]) -> LeadTypes
-    ensures { result ≡ opened.lead_types columns.now parts.now }
+fn prefix_types(columns: &[Column], parts: &[KeyPart]) -> PrefixTypes
+    ensures { result ≡ opened.prefix_types columns.now parts.now }
 {
-    LeadTypes {
+    PrefixTypes {
         first: type_of(columns, parts.first()),
         second: type_of(columns, parts.get(1)),
     }

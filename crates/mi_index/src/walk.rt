@@ -140,7 +140,7 @@ impl KeyRange<'_> {
     }
 
     /// A walk up a tree from the first node that meets the lower bound.
-    fn walk_up(&self, tree: &Tree<ByKey>, p: &mut Counted<Stored>, steps: &mut Steps) -> Walk
+    fn walk_ascending(&self, tree: &Tree<ByKey>, p: &mut Counted<Stored>, steps: &mut Steps) -> Walk
         requires stands { (rs : Seq Ref) × Stands (Sorted tree.now) p.old.pool rs }
         requires parts { tree.now.order.parts ≡ self.now.parts.now }
         requires direction { self.now.direction ≡ Ascending }
@@ -152,8 +152,14 @@ impl KeyRange<'_> {
         let up = Direction::Ascending;
         match self.lower {
             Lower::All => tree.walk(p, up, 0),
-            Lower::From(key) => tree.walk_past(p, up, Probe::Key(key.values()), false, steps),
-            Lower::Beyond(key) => tree.walk_past(p, up, Probe::Key(key.values()), true, steps),
+            Lower::From(key) => tree.walk_from_bound(p, up, Probe::Key(key.values()), false, steps),
+            Lower::Beyond(key) => tree.walk_from_bound(
+                p,
+                up,
+                Probe::Key(key.values()),
+                true,
+                steps,
+            ),
         }
     }
 
@@ -170,8 +176,20 @@ impl KeyRange<'_> {
         let down = Direction::Descending;
         match self.upper {
             Upper::All => tree.walk(p, down, u32::MAX),
-            Upper::UpTo(key) => tree.walk_past(p, down, Probe::Key(key.values()), true, steps),
-            Upper::Below(key) => tree.walk_past(p, down, Probe::Key(key.values()), false, steps),
+            Upper::UpTo(key) => tree.walk_from_bound(
+                p,
+                down,
+                Probe::Key(key.values()),
+                true,
+                steps,
+            ),
+            Upper::Below(key) => tree.walk_from_bound(
+                p,
+                down,
+                Probe::Key(key.values()),
+                false,
+                steps,
+            ),
         }
     }
 
@@ -185,7 +203,7 @@ impl KeyRange<'_> {
         ensures steps { (rs : Seq Ref) → Stands (Sorted tree.now) p.old.pool rs → (b : ℕ) → length rs < 2 ^ b → steps.new.count ≤ steps.old.count + 2 * b }
     {
         match self.direction {
-            Direction::Ascending => self.walk_up(tree, p, steps),
+            Direction::Ascending => self.walk_ascending(tree, p, steps),
             Direction::Descending => self.walk_down(tree, p, steps),
         }
     }

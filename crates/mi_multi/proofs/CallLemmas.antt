@@ -1,5 +1,5 @@
 -- What the calls that read ask of an index and answer, by what contracts see of the container.
--- Cited by `MultiIndex::after`, `MultiIndex::before`, `MultiIndex::count`, `MultiIndex::find_row`, `MultiIndex::first` and 16 more.
+-- Cited by `MultiIndex::after`, `MultiIndex::before`, `MultiIndex::bound`, `MultiIndex::bound_rank`, `MultiIndex::count` and 16 more.
 use Rattle.std.proofs.Common.{◌≡◌, ℕ, ◌+◌, ◌*◌, ◌^◌, ◌<◌, ◌≤◌, Bool, true, false, ◌&&◌, get_or, List}
 use Rattle.std.proofs.Common.{[], ◌∷◌, ◌++◌, length, slice_get, refl, ap, sym, ◌∙◌, subst, arith}
 use Rattle.std.specs.Prelude.{IsTrue, IfSome}

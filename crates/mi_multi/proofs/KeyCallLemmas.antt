@@ -1,5 +1,5 @@
 -- What the calls by keys ask of an index and answer, by what contracts see of the container.
--- Cited by `MultiIndex::count`, `MultiIndex::find`, `MultiIndex::find_row`, `MultiIndex::holder`, `MultiIndex::next_of` and 2 more.
+-- Cited by `MultiIndex::bound`, `MultiIndex::bound_rank`, `MultiIndex::count`, `MultiIndex::find`, `MultiIndex::find_row` and 2 more.
 use Rattle.std.proofs.Common.{Bor, ◌≡◌, ◌≢◌, ℕ, ◌<◌, Bool, true, false}
 use Rattle.std.proofs.Common.{List, [], ◌∷◌, ◌++◌, length, slice_get, ap, sym, ◌∙◌, subst}
 use Rattle.std.specs.Prelude.{IsTrue, IfSome}
@@ -31,7 +31,7 @@ use Rattle.mi_container.specs.Asked.{IsSorted, IsKeyed, IsHashed, LookUpKey}
 use Rattle.mi_container.specs.Data.{as_table}
 use Rattle.mi_ids.specs.IdMap.{live_node}
 use Rattle.mi_multi.specs.Multi.{id_at, IsFor}
-use Rattle.mi_multi.specs.Past.{rank_past}
+use Rattle.mi_multi.specs.Past.{rank_of_bound}
 use Rattle.mi_multi.specs.Seen.{Seen, seen_of, AreMulti}
 use Rattle.mi_multi.specs.declared.multi.MultiIndex.TheInside.{Inside}
 use Rattle.mi_multi.proofs.IndexNumberLemmas.{Numbered, numbered, reaches}
@@ -87,7 +87,7 @@ module _ (i : Inside) (is : AreMulti i) {w : Seen} (seen : seen_of i ≡ w) wher
     -- the first one that is past a key stands there
     pub past_is : IsSorted w.shape x → (past : Bool) (k : Bor (List Value)) {o : Option Ref}
         → ((qs : List Ref) → Stands y m qs → o ≡ first_where (nodes.is_past past y m (Key k)) qs)
-        → option_map (id_at m) o ≡ look.nth w.shape t x (rank_past past w.shape t x k.now)
+        → option_map (id_at m) o ≡ look.nth w.shape t x (rank_of_bound past w.shape t x k.now)
     past_is sorted false k h =
         id_shown i is seen (λ s t. look.lower s t x k.now) (h rs n.stood.stands)
         (probes.lower_seen i.schema i.ids.entries m items i.next i.arrivals is x y n k
@@ -99,7 +99,7 @@ module _ (i : Inside) (is : AreMulti i) {w : Seen} (seen : seen_of i ≡ w) wher
 
     -- as many stand in front of it
     pub place_is : IsSorted w.shape x → (past : Bool) (k : Bor (List Value))
-        → position_or_len (nodes.is_past past y m (Key k)) rs ≡ rank_past past w.shape t x k.now
+        → position_or_len (nodes.is_past past y m (Key k)) rs ≡ rank_of_bound past w.shape t x k.now
     place_is sorted false k =
         probes.lower_placed i.schema i.ids.entries m items i.next i.arrivals is x y n k
         (subst (λ (v : Seen). IsSorted v.shape x) (sym seen) sorted) (in_order i is seen x at sorted).2
@@ -109,9 +109,9 @@ module _ (i : Inside) (is : AreMulti i) {w : Seen} (seen : seen_of i ≡ w) wher
         (subst (λ (v : Seen). IsSorted v.shape x) (sym seen) sorted) (in_order i is seen x at sorted).2
         ∙ ap (λ (v : Seen). look.upper_rank v.shape (as_table v.plain) x k.now) seen
 
-    pub past_rank : IsSorted w.shape x → (past : Bool) (k : Bor (List Value)) {j : ℕ}
-        → ((qs : List Ref) → Stands y m qs → j ≡ position_or_len (nodes.is_past past y m (Key k)) qs) → j ≡ rank_past past w.shape t x k.now
-    past_rank sorted past k h = h rs n.stood.stands ∙ place_is sorted past k
+    pub bound_rank : IsSorted w.shape x → (past : Bool) (k : Bor (List Value)) {j : ℕ}
+        → ((qs : List Ref) → Stands y m qs → j ≡ position_or_len (nodes.is_past past y m (Key k)) qs) → j ≡ rank_of_bound past w.shape t x k.now
+    bound_rank sorted past k h = h rs n.stood.stands ∙ place_is sorted past k
 
     -- keys as look-ups are asked by
 

@@ -121,11 +121,11 @@ abbrev stands_behind : Bool → Ordering → Bool
 stands_behind false = is_gt
 stands_behind true = is_ge
 
-behind_back : (strict : Bool) (o later : Ordering) → NotBelow o later → stands_behind strict later ≡ true → stands_behind strict o ≡ true
+behind_back : (is_upper : Bool) (o later : Ordering) → NotBelow o later → stands_behind is_upper later ≡ true → stands_behind is_upper o ≡ true
 behind_back false = gt_back
 behind_back true = ge_back
 
-past_behind : (strict : Bool) (o : Ordering) → past strict (ordering_reverse o) ≡ not (stands_behind strict o)
+past_behind : (is_upper : Bool) (o : Ordering) → past is_upper (ordering_reverse o) ≡ not (stands_behind is_upper o)
 past_behind false Less = refl
 past_behind false Equal = refl
 past_behind false Greater = refl
@@ -192,40 +192,40 @@ module _ (s : Shape) (ids : FinMap nat_cmp IdEntry) (m : Pooled Stored) (xs : Li
       (sym (row_at s ids m xs next arrivals is q v live (node_of_row s ids m xs next arrivals is x y n q live) at))
 
   module _ (k : Bor (List Value)) where
-    past_is : (strict : Bool) (w : Structure) → IsFor i w → nodes.IsSortedStructure w → (q : Ref) → IsLiveRef ids m q
-        → nodes.is_past strict w m (Key k) q ≡ past strict (ordering_reverse (compare_to_id i t k.now (id_at m q)))
+    past_is : (is_upper : Bool) (w : Structure) → IsFor i w → nodes.IsSortedStructure w → (q : Ref) → IsLiveRef ids m q
+        → nodes.is_past is_upper w m (Key k) q ≡ past is_upper (ordering_reverse (compare_to_id i t k.now (id_at m q)))
     unfolding is_past_node
-    past_is strict (Sorted u) f sorted q live =
+    past_is is_upper (Sorted u) f sorted q live =
         let has = node_of_row s ids m xs next arrivals is x y n q live in
-        ap (past_value strict (λ v. place_in u.order.parts v (Key k))) has.is
-        ∙ ap (λ ps. past strict (ordering_reverse (compare_to_row ps k.now (row_in has.value)))) f.1
-        ∙ ap (λ o. past strict (ordering_reverse o)) (place_is k.now q has.value live has.is)
-    past_is strict (Hashed c) f sorted q live = absurd sorted
-    past_is strict (Sequenced l) f sorted q live = absurd sorted
+        ap (past_value is_upper (λ v. place_in u.order.parts v (Key k))) has.is
+        ∙ ap (λ ps. past is_upper (ordering_reverse (compare_to_row ps k.now (row_in has.value)))) f.1
+        ∙ ap (λ o. past is_upper (ordering_reverse o)) (place_is k.now q has.value live has.is)
+    past_is is_upper (Hashed c) f sorted q live = absurd sorted
+    past_is is_upper (Sequenced l) f sorted q live = absurd sorted
 
     -- the first that is past the key, and how many stand before it
 
-    module _ (sorts : IsSorted s x) (sorted : nodes.IsSortedStructure y) (strict : Bool) where
+    module _ (sorts : IsSorted s x) (sorted : nodes.IsSortedStructure y) (is_upper : Bool) where
       abbrev before : ℕ → Bool
-      before id = stands_behind strict (compare_to_id i t k.now id)
+      before id = stands_behind is_upper (compare_to_id i t k.now id)
 
-      each_past : AllByRecursion (λ q. nodes.is_past strict y m (Key k) q ≡ not (before (id_at m q))) rs
+      each_past : AllByRecursion (λ q. nodes.is_past is_upper y m (Key k) q ≡ not (before (id_at m q))) rs
       each_past =
-          each_of (λ q. nodes.is_past strict y m (Key k) q ≡ not (before (id_at m q)))
-          (λ q live. past_is strict y n.stood.for_ sorted q live ∙ past_behind strict (compare_to_id i t k.now (id_at m q))) rs n.stood.live.rows
+          each_of (λ q. nodes.is_past is_upper y m (Key k) q ≡ not (before (id_at m q)))
+          (λ q live. past_is is_upper y n.stood.for_ sorted q live ∙ past_behind is_upper (compare_to_id i t k.now (id_at m q))) rs n.stood.live.rows
 
       began : (a b : ℕ) → is_lt (compare_ids i t b a) ≡ false → before b ≡ true → before a ≡ true
-      began a b up later = behind_back strict _ _ (falls i t k.now a b up) later
+      began a b up later = behind_back is_upper _ _ (falls i t k.now a b up) later
 
-      seen_past : option_map (id_at m) (first_where (nodes.is_past strict y m (Key k)) rs) ≡ slice_get (view s t x) (length (filter before (view s t x)))
+      seen_past : option_map (id_at m) (first_where (nodes.is_past is_upper y m (Key k)) rs) ≡ slice_get (view s t x) (length (filter before (view s t x)))
       seen_past =
-          where_ids (id_at m) (nodes.is_past strict y m (Key k)) (λ id. not (before id)) rs each_past
+          where_ids (id_at m) (nodes.is_past is_upper y m (Key k)) (λ id. not (before id)) rs each_past
           ∙ ap (λ l. slice_get (filter (λ id. not (before id)) l) 0) shown_ids
           ∙ first_past (compare_ids i t) before began (view s t x) (view_ascends s t x sorts)
 
-      placed_past : position_or_len (nodes.is_past strict y m (Key k)) rs ≡ length (filter before (view s t x))
+      placed_past : position_or_len (nodes.is_past is_upper y m (Key k)) rs ≡ length (filter before (view s t x))
       placed_past =
-          place_ids (id_at m) (nodes.is_past strict y m (Key k)) (λ id. not (before id)) rs each_past
+          place_ids (id_at m) (nodes.is_past is_upper y m (Key k)) (λ id. not (before id)) rs each_past
           ∙ ap (λ l. position_or_len (λ id. not (before id)) l) shown_ids
           ∙ place_past (compare_ids i t) before began (view s t x) (view_ascends s t x sorts)
 

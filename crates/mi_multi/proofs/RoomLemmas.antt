@@ -35,7 +35,7 @@ all_nothing (x ∷ xs) s m (rs ∷ rss) = (tt, all_nothing xs (s + 1) m rss)
 
 -- a reference of another name
 abbrev other : ℕ → Ref
-other k = record { name = k + 1; mark = 0 }
+other k = record { name = k + 1; generation = 0 }
 
 module _ (s : Shape) (ids : FinMap nat_cmp IdEntry) (m n : Pooled Stored) (xs ys : List Structure)
     (next arrivals : ℕ) (is : IsMulti s ids m xs next arrivals) (like : AllLike xs ys)

@@ -12,7 +12,7 @@ ghost use Rattle.mi_index.specs.Looks as nodes;
 ghost use Rattle.mi_index.specs.Walks.{shown_row};
 ghost use Rattle.mi_index.specs.declared.structure.Structure.TheVariants.{Sorted};
 ghost use Rattle.mi_multi.specs.Multi.{id_at};
-ghost use Rattle.mi_multi.specs.Past.{rank_past};
+ghost use Rattle.mi_multi.specs.Past.{rank_of_bound};
 
 use crate::multi::MultiIndex;
 use mi_index::{ByKey, Nodes, Stored, Structure};
@@ -184,26 +184,26 @@ impl MultiIndex {
         structure_at(&self.nodes, index).rank(&self.nodes.pool, node, steps) as u64
     }
 
-    /// The first id of an ordered or ranked index whose key isn't less than a key or the first values of one, or with `strict`
+    /// The first id of an ordered or ranked index whose key isn't less than a key or the first values of one, or with `is_upper`
     /// is greater; or none. At most one look-up.
-    fn past(&self, index: usize, key: &[Value], strict: bool, steps: &mut Steps) -> Option<u64>
+    fn bound(&self, index: usize, key: &[Value], is_upper: bool, steps: &mut Steps) -> Option<u64>
         requires { IsSorted self.now.shape index }
-        ensures id { result ≡ look.nth self.now.shape (as_table self.now.plain) index (rank_past strict self.now.shape (as_table self.now.plain) index key.now) }
+        ensures id { result ≡ look.nth self.now.shape (as_table self.now.plain) index (rank_of_bound is_upper self.now.shape (as_table self.now.plain) index key.now) }
         ensures steps { (b : ℕ) → size_of (as_table self.now.plain) < 2 ^ b → steps.new.count ≤ steps.old.count + (2 * b + 1) }
     {
         let structure = structure_at(&self.nodes, index);
-        let node = structure.past(&self.nodes.pool, Probe::Key(key), strict, steps);
+        let node = structure.bound(&self.nodes.pool, Probe::Key(key), is_upper, steps);
         id_of(&self.nodes.pool, node)
     }
 
     /// How many records of an ordered or ranked index stand before that one. At most one look-up.
-    fn past_rank(&self, index: usize, key: &[Value], strict: bool, steps: &mut Steps) -> u64
+    fn bound_rank(&self, index: usize, key: &[Value], is_upper: bool, steps: &mut Steps) -> u64
         requires { IsSorted self.now.shape index }
-        ensures rank { result ≡ rank_past strict self.now.shape (as_table self.now.plain) index key.now }
+        ensures rank { result ≡ rank_of_bound is_upper self.now.shape (as_table self.now.plain) index key.now }
         ensures steps { (b : ℕ) → size_of (as_table self.now.plain) < 2 ^ b → steps.new.count ≤ steps.old.count + (2 * b + 1) }
     {
         let structure = structure_at(&self.nodes, index);
-        structure.past_rank(&self.nodes.pool, Probe::Key(key), strict, steps) as u64
+        structure.bound_rank(&self.nodes.pool, Probe::Key(key), is_upper, steps) as u64
     }
 
     /// The first id of an ordered or ranked index whose key isn't less than a key or the first values of one, or none. At
@@ -214,7 +214,7 @@ impl MultiIndex {
         ensures id { result ≡ look.lower self.now.shape (as_table self.now.plain) index key.now }
         ensures steps { (b : ℕ) → size_of (as_table self.now.plain) < 2 ^ b → steps.new.count ≤ steps.old.count + (2 * b + 1) }
     {
-        self.past(index, key, false, steps)
+        self.bound(index, key, false, steps)
     }
 
     /// The first id of an ordered or ranked index whose key is greater than a key or the first values of one, or none. At
@@ -225,7 +225,7 @@ impl MultiIndex {
         ensures id { result ≡ look.upper self.now.shape (as_table self.now.plain) index key.now }
         ensures steps { (b : ℕ) → size_of (as_table self.now.plain) < 2 ^ b → steps.new.count ≤ steps.old.count + (2 * b + 1) }
     {
-        self.past(index, key, true, steps)
+        self.bound(index, key, true, steps)
     }
 
     /// How many records of an ordered or ranked index have a key less than a key or the first values of one. At most one
@@ -236,7 +236,7 @@ impl MultiIndex {
         ensures rank { result ≡ look.lower_rank self.now.shape (as_table self.now.plain) index key.now }
         ensures steps { (b : ℕ) → size_of (as_table self.now.plain) < 2 ^ b → steps.new.count ≤ steps.old.count + (2 * b + 1) }
     {
-        self.past_rank(index, key, false, steps)
+        self.bound_rank(index, key, false, steps)
     }
 
     /// How many records of an ordered or ranked index have a key not greater than a key or the first values of one. At most
@@ -247,7 +247,7 @@ impl MultiIndex {
         ensures rank { result ≡ look.upper_rank self.now.shape (as_table self.now.plain) index key.now }
         ensures steps { (b : ℕ) → size_of (as_table self.now.plain) < 2 ^ b → steps.new.count ≤ steps.old.count + (2 * b + 1) }
     {
-        self.past_rank(index, key, true, steps)
+        self.bound_rank(index, key, true, steps)
     }
 
     /// The first id of a whole key in an index with keys, or none. Takes no memory.

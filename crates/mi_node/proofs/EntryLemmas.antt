@@ -247,7 +247,7 @@ module _ {T : Type 0} where
   -- after `take`
   module _ (m : Pooled T) (r : Ref) (v : T) where
     abbrev new_entry : Entry T
-    new_entry = record { mark = r.mark; value = v; links = replicate m.slots no_link }
+    new_entry = record { generation = r.generation; value = v; links = replicate m.slots no_link }
 
     get-taken : (q : ℕ) → get (taken m r v).entries q ≡ cond (r.name == q) (Some new_entry) (get m.entries q)
     unfolding taken
@@ -347,7 +347,7 @@ pub ruleset links = (link-no_nodes, link-taken, link-without, link_there, link_b
 pub ruleset slot_counts = (slots-no_nodes, slots-taken, slots-without, slots-with_link, slots-with_value)
 
 abbrev named : ℕ → ℕ → Ref
-named q b = record { name = q; mark = b }
+named q b = record { name = q; generation = b }
 
 -- the reference that was given back last
 module _ {T : Type 0} where
@@ -367,12 +367,12 @@ module _ {T : Type 0} where
       → option_map (named q) (get (noted g r.name o) q) ≡ cond (r.name == q) (Some r) (option_map (named q) (get g q))
   noted_at g r q None e = absurd (none_some r e)
   noted_at g r q (Some x) e =
-      let mark : x.mark ≡ r.mark = ap (λ (p : Ref). p.mark) (some_inj (node_at r.name x) r e) in
-      ap (option_map (named q)) (get-insert nat_cmp_total g r.name x.mark q
-      ∙ ap (λ b. cond b (Some x.mark) (get g q)) (unsigned_tied q r.name ∙ flip q r.name))
+      let generation : x.generation ≡ r.generation = ap (λ (p : Ref). p.generation) (some_inj (node_at r.name x) r e) in
+      ap (option_map (named q)) (get-insert nat_cmp_total g r.name x.generation q
+      ∙ ap (λ b. cond b (Some x.generation) (get g q)) (unsigned_tied q r.name ∙ flip q r.name))
       ∙ (elim (r.name == q) as (λ b. (r.name == q) ≡ b
-      → option_map (named q) (cond b (Some x.mark) (get g q)) ≡ cond b (Some r) (option_map (named q) (get g q))) [
-        | true ↦ λ t. (λ i. Some (named (sym (same_name r.name q t) i) (mark i)))
+      → option_map (named q) (cond b (Some x.generation) (get g q)) ≡ cond b (Some r) (option_map (named q) (get g q))) [
+        | true ↦ λ t. (λ i. Some (named (sym (same_name r.name q t) i) (generation i)))
         | false ↦ λ t. refl
       ]) refl
 

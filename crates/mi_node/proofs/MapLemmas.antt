@@ -3,7 +3,7 @@
 --     held_..                      what is read at the name of a held reference
 --     seen-..                      the map after a change
 --     sound-..                     that places stay sound
--- Cited by `Places::add_chunk`, `Places::has_free`, `Places::link`, `Places::new`, `Places::occupy` and 13 more.
+-- Cited by `Pool::link`, `Pool::neighbour`, `Pool::set_link`, `Pool::set_side`, `Pool::set_size` and 13 more.
 use Rattle.std.proofs.Common.{◌≡◌, ℕ, zero, suc, ◌+◌, ◌-◌, ◌<◌, ◌≤◌, ◌==◌, true, false, cond, List, [], ◌∷◌, ◌++◌, length, option_map}
 use Rattle.std.proofs.Common.{replicate, slice_set, slice_index_or, Option, Some, None, refl, sym, ap, ◌∙◌, subst, arith}
 use Rattle.std.specs.Prelude.{IsTrue, is_some}
@@ -18,8 +18,8 @@ use Rattle.mi_node.specs.Slab.{node_in, value_in, IsFree, AreFree, slab_entry_at
 use Rattle.mi_node.specs.Pool.{Pooled}
 use Rattle.mi_node.specs.Pool.{Entry, no_link, no_nodes, node_at, ref_of, value_of, link_of, entry_link, noted, last_given, IsNotLast}
 use Rattle.mi_node.specs.Pool.{put_link, IsHeld, change, changed, taken, without, with_link, with_value}
-use Rattle.mi_node.specs.Places.{nodes}
-use Rattle.mi_node.specs.declared.places.Places.{Places}
+use Rattle.mi_node.specs.Storage.{nodes}
+use Rattle.mi_node.specs.declared.storage.Storage.{Storage}
 use Rattle.mi_node.specs.Seen.{put_slab_entry, map_from, seen, IsNamed, KeepsMark, AreMarked, IsSound}
 use Rattle.mi_node.specs.declared.link.Link.{Link}
 use Rattle.mi_node.specs.declared.cell.Cell.{Cell}
@@ -38,9 +38,9 @@ not_first q = grind arith
 not_last : (j : ℕ) → (0 == suc j) ≡ false
 not_last j = grind arith
 
--- references of one name and one mark are one
-same_ref : (r q : Ref) → r.name ≡ q.name → r.mark ≡ q.mark → r ≡ q
-same_ref r q e f = λ i. record { name = e i; mark = f i }
+-- references of one name and one generation are one
+same_ref : (r q : Ref) → r.name ≡ q.name → r.generation ≡ q.generation → r ≡ q
+same_ref r q e f = λ i. record { name = e i; generation = f i }
 
 pub up_to : (a b c : ℕ) → a < b → b ≤ c → a + 1 ≤ c
 up_to a b c g h = omega (arith, g, h)
@@ -63,14 +63,14 @@ long_none cs s less = omega arith
 differs : (b c : ℕ) → b ≡ c → 1 - b ≡ c → ⊥
 differs b c e f = omega (arith, e, f)
 
-pub last_mark : (k : ℕ) (o : Option ℕ) (r : Ref) → option_map (λ m. record { name = k; mark = m }) o ≡ Some r → o ≡ Some r.mark
+pub last_mark : (k : ℕ) (o : Option ℕ) (r : Ref) → option_map (λ m. record { name = k; generation = m }) o ≡ Some r → o ≡ Some r.generation
 last_mark k None r e = absurd (none_some r e)
-last_mark k (Some m) r e = ap Some (ap (λ (q : Ref). q.mark) (some_inj _ r e))
+last_mark k (Some m) r e = ap Some (ap (λ (q : Ref). q.generation) (some_inj _ r e))
 
 module _ {T : Type 0} where
   -- the node at the place k
   abbrev pub made : List (List Cell) → ℕ → Ref → T → Entry T
-  made cs k r v = record { mark = r.mark; value = v; links = links_at cs k }
+  made cs k r v = record { generation = r.generation; value = v; links = links_at cs k }
 
   abbrev pub entry_at : List (List Cell) → ℕ → SlabEntry T → Option (Entry T)
   entry_at cs k (Free r n) = None
@@ -155,7 +155,7 @@ module _ {T : Type 0} where
   held_slab_entry cs hs r (Some (Free q n)) is all e = absurd (none_some r e)
   held_slab_entry cs hs r (Some (Held q v)) is all e =
       let name : q.name ≡ r.name = named_at 0 r.name hs (Held q v) all is ∙ from_zero r.name in
-      let one : q ≡ r = same_ref q r name (ap (λ (s : Ref). s.mark) (some_inj _ r e)) in
+      let one : q ≡ r = same_ref q r name (ap (λ (s : Ref). s.generation) (some_inj _ r e)) in
       record { less = inside hs r.name (Held q v) is; value = v; at = is ∙ ap (λ (s : Ref). Some (Held s v)) one }
 
   pub there : {n : ℕ} {cs : List (List Cell)} {hs : List (SlabEntry T)} {g : FinMap nat_cmp ℕ} {r : Ref} → IsSound n cs hs g → IsHeld (seen n cs hs g) r
@@ -182,7 +182,7 @@ module _ {T : Type 0} where
   same_entry : (cs ds : List (List Cell)) (q : ℕ) (o : Option (SlabEntry T)) → links_at ds q ≡ links_at cs q → entry_of ds q o ≡ entry_of cs q o
   same_entry cs ds q None e = refl
   same_entry cs ds q (Some (Free r n)) e = refl
-  same_entry cs ds q (Some (Held r v)) e = λ i. Some (record { mark = r.mark; value = v; links = e i })
+  same_entry cs ds q (Some (Held r v)) e = λ i. Some (record { generation = r.generation; value = v; links = e i })
 
   -- what becomes of the map where all places but j stay as they are
   get-one : (cs ds : List (List Cell)) (hs gs : List (SlabEntry T)) (j : ℕ)
@@ -205,7 +205,7 @@ module _ {T : Type 0} where
   entry-there n cs hs r t = get-map cs hs r.name ∙ ap (entry_of cs r.name) t.at
 
   pub seen-vacated : (n : ℕ) (cs : List (List Cell)) (hs : List (SlabEntry T)) (g : FinMap nat_cmp ℕ) (r : Ref) (next : ℕ)
-      → There cs hs r → seen n cs (slice_set hs r.name (Free r next)) (insert g r.name r.mark) ≡ without (seen n cs hs g) r.name
+      → There cs hs r → seen n cs (slice_set hs r.name (Free r next)) (insert g r.name r.generation) ≡ without (seen n cs hs g) r.name
   unfolding seen without
   seen-vacated n cs hs g r next t =
       let less = t.less in
@@ -214,12 +214,12 @@ module _ {T : Type 0} where
       get-one cs cs hs (slice_set hs r.name (Free r next)) r.name (λ k e. refl) (other_slab_entry hs r.name (Free r next) less) q
       ∙ ap (λ o. cond (q == r.name) (entry_of cs r.name o) (get (map_from cs 0 hs) q)) (this_slab_entry hs r.name (Free r next) less)
       ∙ sym (get-remove nat_cmp_total (map_from cs 0 hs) r.name q ∙ ap (λ b. cond b None (get (map_from cs 0 hs) q)) (unsigned_tied q r.name))) in
-      let two : insert g r.name r.mark ≡ noted g r.name (get (map_from cs 0 hs) r.name) = ap (noted g r.name) (sym (entry-there n cs hs r t)) in
+      let two : insert g r.name r.generation ≡ noted g r.name (get (map_from cs 0 hs) r.name) = ap (noted g r.name) (sym (entry-there n cs hs r t)) in
       λ i. record { entries = one i; slots = n; last_freed = two i }
 
   -- the entry of a node none of whose links is set
   abbrev blank : ℕ → Ref → T → Entry T
-  blank n r v = record { mark = r.mark; value = v; links = replicate n no_link }
+  blank n r v = record { generation = r.generation; value = v; links = replicate n no_link }
 
   pub seen-occupied : (n : ℕ) (cs ds : List (List Cell)) (hs : List (SlabEntry T)) (g : FinMap nat_cmp ℕ) (r : Ref) (v : T)
       → r.name < length hs → ((q : ℕ) → (q == r.name) ≡ false → links_at ds q ≡ links_at cs q)
@@ -232,7 +232,7 @@ module _ {T : Type 0} where
   }) (same_map nat_cmp_total nat_cmp-IsAntisymmetric _ _ (λ q.
       get-one cs ds hs (slice_set hs r.name (Held r v)) r.name others (other_slab_entry hs r.name (Held r v) less) q
       ∙ ap (λ o. cond (q == r.name) (entry_of ds r.name o) (get (map_from cs 0 hs) q)) (this_slab_entry hs r.name (Held r v) less)
-      ∙ ap (λ ls. cond (q == r.name) (Some (record { mark = r.mark; value = v; links = ls })) (get (map_from cs 0 hs) q)) here
+      ∙ ap (λ ls. cond (q == r.name) (Some (record { generation = r.generation; value = v; links = ls })) (get (map_from cs 0 hs) q)) here
       ∙ sym (get-insert nat_cmp_total (map_from cs 0 hs) r.name (blank n r v) q
       ∙ ap (λ b. cond b (Some (blank n r v)) (get (map_from cs 0 hs) q)) (unsigned_tied q r.name))))
 
@@ -270,7 +270,7 @@ module _ {T : Type 0} where
       → links_at ds r.name ≡ put_link (links_at cs r.name) s l → seen n ds hs g ≡ with_link (seen n cs hs g) r.name s l
   unfolding with_link
   seen-link n cs ds hs g r s l t others here = seen-change n (λ e. record e { links = put_link e.links s l }) cs ds hs hs g r.name others (λ k e. refl)
-      (ap (entry_of ds r.name) t.at ∙ (λ i. Some (record { mark = r.mark; value = t.value; links = here i }))
+      (ap (entry_of ds r.name) t.at ∙ (λ i. Some (record { generation = r.generation; value = t.value; links = here i }))
       ∙ ap (λ o. option_map (λ (e : Entry T). record e { links = put_link e.links s l }) (entry_of cs r.name o)) (sym t.at))
 
   -- a free place is no node's
@@ -340,7 +340,7 @@ module _ {T : Type 0} where
   slots-seen n cs hs g = refl
 
   -- a slot of what the places stand for
-  pub slot_seen : (p : Places T) {m : Pooled T} {s : ℕ} → nodes p ≡ m → s < m.slots → s < p.slots
+  pub slot_seen : (p : Storage T) {m : Pooled T} {s : ℕ} → nodes p ≡ m → s < m.slots → s < p.slots
   slot_seen p {m} {s} is less =
       subst (λ k. s < k) (ap (λ (n : Pooled T). n.slots) (sym is) ∙ slots-seen p.slots p.columns.items p.slab p.last_freed.marks) less
 
@@ -363,30 +363,30 @@ module _ {T : Type 0} where
 
   -- a node that was given back
   marked-free : (g : FinMap nat_cmp ℕ) (hs : List (SlabEntry T)) (r : Ref) (next : ℕ) → r.name < length hs → AreMarked g hs
-      → AreMarked (insert g r.name r.mark) (slice_set hs r.name (Free r next))
+      → AreMarked (insert g r.name r.generation) (slice_set hs r.name (Free r next))
   marked-free g hs r next less h k b e =
-      let at : get (insert g r.name r.mark) k ≡ cond (k == r.name) (Some r.mark) (get g k) =
-      get-insert nat_cmp_total g r.name r.mark k ∙ ap (λ y. cond y (Some r.mark) (get g k)) (unsigned_tied k r.name) in
+      let at : get (insert g r.name r.generation) k ≡ cond (k == r.name) (Some r.generation) (get g k) =
+      get-insert nat_cmp_total g r.name r.generation k ∙ ap (λ y. cond y (Some r.generation) (get g k)) (unsigned_tied k r.name) in
       (elim (k == r.name) as (λ y. (k == r.name) ≡ y → KeepsMark b (slab_entry_at (slice_set hs r.name (Free r next)) k)) [
         | true ↦ λ t. subst (KeepsMark b) (sym (ap (slab_entry_at (slice_set hs r.name (Free r next))) (same_name k r.name t) ∙ this_slab_entry hs r.name (Free r next) less))
-            (some_inj r.mark b (sym (at ∙ ap (λ y. cond y (Some r.mark) (get g k)) t) ∙ e))
+            (some_inj r.generation b (sym (at ∙ ap (λ y. cond y (Some r.generation) (get g k)) t) ∙ e))
         | false ↦ λ t. subst (KeepsMark b) (sym (other_slab_entry hs r.name (Free r next) less k t))
-            (h k b (sym (at ∙ ap (λ y. cond y (Some r.mark) (get g k)) t) ∙ e))
+            (h k b (sym (at ∙ ap (λ y. cond y (Some r.generation) (get g k)) t) ∙ e))
       ]) refl
 
-  kept_mark : (o : Option (SlabEntry T)) (h : SlabEntry T) (b : ℕ) → o ≡ Some h → IsFree h → KeepsMark b o → (node_in h).mark ≡ b
+  kept_mark : (o : Option (SlabEntry T)) (h : SlabEntry T) (b : ℕ) → o ≡ Some h → IsFree h → KeepsMark b o → (node_in h).generation ≡ b
   kept_mark None h b is free keeps = absurd keeps
-  kept_mark (Some (Free q n)) h b is free keeps = ap (λ (w : SlabEntry T). (node_in w).mark) (sym (some_inj _ h is)) ∙ keeps
+  kept_mark (Some (Free q n)) h b is free keeps = ap (λ (w : SlabEntry T). (node_in w).generation) (sym (some_inj _ h is)) ∙ keeps
   kept_mark (Some (Held q v)) h b is free keeps = absurd (none_some v (sym free ∙ ap (λ (w : SlabEntry T). value_in w) (sym (some_inj _ h is))))
 
   -- the reference that comes from a free place isn't the one that was given back last there
   pub other_than_last : (n : ℕ) (cs : List (List Cell)) (hs : List (SlabEntry T)) (g : FinMap nat_cmp ℕ) (k : ℕ) (h : SlabEntry T) (r : Ref)
-      → IsSound n cs hs g → IsFreeAt hs k → h ≡ slice_index_or hs k h → r.name ≡ k → r.mark ≡ 1 - (node_in h).mark → IsNotLast (seen n cs hs g) r
+      → IsSound n cs hs g → IsFreeAt hs k → h ≡ slice_index_or hs k h → r.name ≡ k → r.generation ≡ 1 - (node_in h).generation → IsNotLast (seen n cs hs g) r
   unfolding last_given seen
-  other_than_last n cs hs g k h r sound free is name mark e =
+  other_than_last n cs hs g k h r sound free is name generation e =
       let there : slab_entry_at hs k ≡ Some h = at_index hs k h (free_less hs k free) ∙ ap Some (sym is) in
-      let last : get g k ≡ Some r.mark = ap (get g) (sym name) ∙ last_mark r.name (get g r.name) r e in
-      differs (node_in h).mark r.mark (kept_mark (slab_entry_at hs k) h r.mark there (free_found hs k h free is) (sound.marked k r.mark last)) (sym mark)
+      let last : get g k ≡ Some r.generation = ap (get g) (sym name) ∙ last_mark r.name (get g r.name) r e in
+      differs (node_in h).generation r.generation (kept_mark (slab_entry_at hs k) h r.generation there (free_found hs k h free is) (sound.marked k r.generation last)) (sym generation)
 
   -- places stay sound
   pub sound-none : (n : ℕ) (cs : List (List Cell)) (hs : List (SlabEntry T)) → length cs ≤ n → hs ≡ [] → IsSound n cs hs empty
@@ -414,9 +414,9 @@ module _ {T : Type 0} where
   sound-held n cs hs {g} j r v sound name less = sound-set n cs hs g g j (Held r v) sound name (marked-held g hs j r v less sound.marked)
 
   pub sound-free : (n : ℕ) (cs : List (List Cell)) (hs : List (SlabEntry T)) (g : FinMap nat_cmp ℕ) (r : Ref) (next : ℕ)
-      → IsSound n cs hs g → r.name < length hs → IsSound n cs (slice_set hs r.name (Free r next)) (insert g r.name r.mark)
+      → IsSound n cs hs g → r.name < length hs → IsSound n cs (slice_set hs r.name (Free r next)) (insert g r.name r.generation)
   sound-free n cs hs g r next sound less =
-      sound-set n cs hs g (insert g r.name r.mark) r.name (Free r next) sound refl (marked-free g hs r next less sound.marked)
+      sound-set n cs hs g (insert g r.name r.generation) r.name (Free r next) sound refl (marked-free g hs r next less sound.marked)
 
   pub sound-columns : (n : ℕ) (cs ds : List (List Cell)) (hs : List (SlabEntry T)) {g : FinMap nat_cmp ℕ} → IsSound n cs hs g
       → length ds ≡ length cs → ((m : ℕ) → AreLong m cs → AreLong m ds) → IsSound n ds hs g

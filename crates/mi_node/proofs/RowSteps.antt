@@ -1,6 +1,6 @@
 -- What a `Row` owns is taken apart and made, a `&mut` to one is opened and closed, and what a `&` to one shows, at any element type.
 -- Assumes `Logic`.
--- Cited by `Row::at`, `Row::into_places`, `Row::new`, `Row::replace` and `block::open`.
+-- Cited by `Row::at`, `Row::into_slots`, `Row::new`, `Row::replace` and `block::open`.
 use mathlib.Core.Path.{◌≡◌, refl, sym, ap, ◌∙◌}
 use Prim.Native.Nat.{ℕ, ◌+◌, ◌*◌, ◌<◌, ◌^◌}
 use mathlib.Core.List.{List, [], ◌∷◌, ◌++◌}

@@ -4,7 +4,7 @@
 --     from_asks, from_gives      `from_raw_parts`: what the call asks is made of memory, and what it leaves is slots of it
 -- Each step has a share of the lifetime in which the call runs beside what is handed over, and gives it back.
 -- Assumes `Logic`.
--- Cited by `Row::into_places`, `Row::new`, `block::close`, `block::open` and `BlockSteps`.
+-- Cited by `Row::into_slots`, `Row::new`, `block::close`, `block::open` and `BlockSteps`.
 use mathlib.Core.Path.{◌≡◌, refl, sym, subst, ap, ◌∙◌}
 use mathlib.Core.Bool.{Bool}
 use Prim.Native.Nat.{ℕ, ◌*◌, ◌<◌, ◌^◌}

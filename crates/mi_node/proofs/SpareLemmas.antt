@@ -1,7 +1,7 @@
 -- The free places that were given back stay among the first ones.
 --     listed-..      after a change
 --     spare_first      where one was given back and is free, so is the first one
--- Cited by `Places::add_chunk`, `Places::new`, `Places::occupy`, `Places::swap_value`, `Places::vacate` and 1 more.
+-- Cited by `Pool::take`, `Storage::add_chunk`, `Storage::new`, `Storage::occupy`, `Storage::swap_value` and 1 more.
 use Rattle.std.proofs.Common.{◌≡◌, ℕ, zero, suc, ◌<◌, ◌==◌, inl, inr, true, false, cond, List, [], ◌∷◌, ◌++◌, length, option_map}
 use Rattle.std.proofs.Common.{slice_set, Option, Some, None, refl, sym, ap, ◌∙◌, subst, arith}
 use Rattle.std.specs.Ordering.{nat_cmp}
@@ -104,7 +104,7 @@ module _ {T : Type 0} where
   -- a node's place is given back, and is the first one
   pub listed-free : (hs : List (SlabEntry T)) (g : FinMap nat_cmp ℕ) (at : ℕ) (q r : Ref) (w : T)
       → AreListed hs g at → r.name < length hs → slab_entry_at hs r.name ≡ Some (Held q w)
-      → AreListed (slice_set hs r.name (Free r at)) (insert g r.name r.mark) r.name
+      → AreListed (slice_set hs r.name (Free r at)) (insert g r.name r.generation) r.name
   listed-free hs g at q r w l less is = let out = not_on hs at r.name l.ks q w l.way is in record {
     ks = r.name ∷ l.ks;
     way = (
@@ -117,8 +117,8 @@ module _ {T : Type 0} where
     all = λ k b e free. ((elim (k == r.name) as (λ y. (k == r.name) ≡ y → IsIn k (r.name ∷ l.ks)) [
       | true ↦ λ t. inl (same_name k r.name t)
       | false ↦ λ t. inr (l.all k b
-          (sym (get-insert nat_cmp_total g r.name r.mark k ∙ ap (λ y. cond y (Some r.mark) (get g k)) (unsigned_tied k r.name)
-          ∙ ap (λ y. cond y (Some r.mark) (get g k)) t) ∙ e)
+          (sym (get-insert nat_cmp_total g r.name r.generation k ∙ ap (λ y. cond y (Some r.generation) (get g k)) (unsigned_tied k r.name)
+          ∙ ap (λ y. cond y (Some r.generation) (get g k)) t) ∙ e)
           (subst IsFreeIf (other_slab_entry hs r.name (Free r at) less k t) free))
     ]) refl);
   }
@@ -151,6 +151,6 @@ module _ {T : Type 0} where
       → IsSound n cs hs g → AreListed hs g at → HasSpare (seen n cs hs g) → IsFreeAt hs at
   unfolding last_given ref_of seen
   spare_first {n} {cs} {hs} {g} {at} sound l h =
-      let k = h.name in let marked : get g k ≡ Some h.node.mark = last_mark k (get g k) h.node h.given in
-      way_free hs at k l.ks l.way (l.all k h.node.mark marked (spare_free cs h.node.mark k (slab_entry_at hs k) (sound.marked k h.node.mark marked)
+      let k = h.name in let marked : get g k ≡ Some h.node.generation = last_mark k (get g k) h.node h.given in
+      way_free hs at k l.ks l.way (l.all k h.node.generation marked (spare_free cs h.node.generation k (slab_entry_at hs k) (sound.marked k h.node.generation marked)
       (ap (option_map (node_at k)) (sym (get-map cs hs k)) ∙ h.free)))

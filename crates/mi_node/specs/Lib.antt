@@ -6,7 +6,7 @@ pub mod Blocks
 pub mod Slab
 pub mod Neighbours
 pub mod OldPlace
-pub mod Places
+pub mod Storage
 pub mod Pool
 pub mod RefView
 pub mod Refs

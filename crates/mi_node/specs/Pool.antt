@@ -1,6 +1,6 @@
 -- What a contract sees of a `Pool`: a finite map from names to entries, how many links each entry has, and which reference of each name was
 -- given back last.
---     Entry           the mark of its reference, its value, and its links by slot
+--     Entry           the generation of its reference, its value, and its links by slot
 --     ref_of, value_of, link_of      the reference that `take` gave for a name, its value, its link of a slot
 --     IsHeld, IsHeldIf          this pool's entry of the reference's name has this very reference
 --     last_given, IsNotLast      the reference of a name that was given back last; that a reference isn't that one
@@ -18,15 +18,15 @@ use Rattle.mi_node.specs.declared.link.Tag.{Tag}
 use Rattle.mi_node.specs.contracts.link.Link as link_type
 
 pub record Entry (T : Type 0) : Type 0 where
-  pub mark : ℕ
+  pub generation : ℕ
   pub value : T
   pub links : List Link
 
 abbrev pub entry_code : {T : Type 0} → Coded T → Coded (Entry T)
 entry_code {T} t = code_by (ℕ × (T × List Link)) (coded× coded_ℕ (coded× t (coded_list link_type.the_row.coded)))
-    (λ e. (e.mark, (e.value, e.links))) (λ p. record { mark = p.0; value = p.1.0; links = p.1.1 }) (λ _. refl)
+    (λ e. (e.generation, (e.value, e.links))) (λ p. record { generation = p.0; value = p.1.0; links = p.1.1 }) (λ _. refl)
 
--- slots: the number of links of each node. last_freed: the mark of the reference that was given back last, by its name
+-- slots: the number of links of each node. last_freed: the generation of the reference that was given back last, by its name
 pub record Pooled (T : Type 0) : Type 0 where
   pub entries : FinMap nat_cmp (Entry T)
   pub slots : ℕ
@@ -62,7 +62,7 @@ module _ {T : Type 0} where
   entry_link (Some e) s = slice_index_or e.links s no_link
 
   abbrev pub node_at : ℕ → Entry T → Ref
-  node_at k e = record { name = k; mark = e.mark }
+  node_at k e = record { name = k; generation = e.generation }
 
   unfoldable pub ref_of : Pooled T → ℕ → Option Ref
   ref_of m k = option_map (node_at k) (get m.entries k)
@@ -81,7 +81,7 @@ module _ {T : Type 0} where
 
   -- the reference of the name k that was given back last, if one ever was
   unfoldable pub last_given : Pooled T → ℕ → Option Ref
-  last_given m k = option_map (λ b. record { name = k; mark = b }) (get m.last_freed k)
+  last_given m k = option_map (λ b. record { name = k; generation = b }) (get m.last_freed k)
 
   -- r isn't the reference that was given back last at its place
   abbrev pub IsNotLast : Pooled T → Ref → Type 0
@@ -110,7 +110,7 @@ module _ {T : Type 0} where
   -- with the node r of the value v, whose links were never set
   unfoldable pub taken : Pooled T → Ref → T → Pooled T
   taken m r v = record {
-    entries = insert m.entries r.name (record { mark = r.mark; value = v; links = replicate m.slots no_link });
+    entries = insert m.entries r.name (record { generation = r.generation; value = v; links = replicate m.slots no_link });
     slots = m.slots;
     last_freed = m.last_freed;
   }
@@ -118,7 +118,7 @@ module _ {T : Type 0} where
   -- the marks of what was given back, with that of an entry of name k
   abbrev pub noted : FinMap nat_cmp ℕ → ℕ → Option (Entry T) → FinMap nat_cmp ℕ
   noted g k None = g
-  noted g k (Some e) = insert g k e.mark
+  noted g k (Some e) = insert g k e.generation
 
   -- with no node of name k: the one that was there is the last that was given back
   unfoldable pub without : Pooled T → ℕ → Pooled T

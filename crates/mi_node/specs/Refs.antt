@@ -1,10 +1,10 @@
 -- References as contracts see them, and lists of them: their ends, and which names stand in one.
 use Rattle.std.specs.Prelude.{◌≡◌, ℕ, false, ◌==◌, List, [], ◌∷◌, map, Option, Some}
 
--- a node's place, which is its name, and a mark, which differs from that of the node that was given back last there
+-- a node's place, which is its name, and a generation, which differs from that of the node that was given back last there
 pub record Ref : Type 0 where
   pub name : ℕ
-  pub mark : ℕ
+  pub generation : ℕ
 
 -- the names, in the order of the references
 abbrev pub names : List Ref → List ℕ

@@ -1,4 +1,4 @@
--- Places in memory that have no element.
+-- Storage in memory that have no element.
 use Rattle.std.specs.Prelude.{◌≡◌, ℕ, false, slice_index_or}
 use Rattle.core.specs.Mem.Slots.{slots_filled}
 use Rattle.core.specs.declared.slots.Slots.{Slots}

@@ -12,7 +12,7 @@ use Rattle.mi_node.specs.declared.slab_entry.SlabEntry.TheVariants.{Free, Held}
 module _ {T : Type 0} where
   abbrev pub put_slab_entry : List (List Cell) → ℕ → SlabEntry T → FinMap nat_cmp (Entry T) → FinMap nat_cmp (Entry T)
   put_slab_entry cs k (Free r n) m = m
-  put_slab_entry cs k (Held r v) m = insert m k (record { mark = r.mark; value = v; links = links_at cs k })
+  put_slab_entry cs k (Held r v) m = insert m k (record { generation = r.generation; value = v; links = links_at cs k })
 
   -- the first place has the name k
   abbrev pub map_from : List (List Cell) → ℕ → List (SlabEntry T) → FinMap nat_cmp (Entry T)
@@ -28,10 +28,10 @@ module _ {T : Type 0} where
   IsNamed k [] = Unit {0}
   IsNamed k (h ∷ hs) = ((node_in h).name ≡ k) × IsNamed (suc k) hs
 
-  -- there is such a place, and if it is free, it keeps a reference of the mark b
+  -- there is such a place, and if it is free, it keeps a reference of the generation b
   abbrev pub KeepsMark : ℕ → Option (SlabEntry T) → Type 0
   KeepsMark b None = ⊥
-  KeepsMark b (Some (Free r n)) = r.mark ≡ b
+  KeepsMark b (Some (Free r n)) = r.generation ≡ b
   KeepsMark b (Some (Held r v)) = Unit {0}
 
   -- the reference that was given back last is the one that the free place keeps

@@ -77,7 +77,7 @@ impl<E> Chunk<E> {
 impl<E: Drop> Drop for Chunk<E> {
     fn drop(self) {
         let Chunk { row, right } = self;
-        let mut places = row.into_places();
+        let mut places = row.into_slots();
         empty(&mut places);
         let _ = close(right, places).free();
     }

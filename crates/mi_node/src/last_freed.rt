@@ -7,7 +7,7 @@ ghost use base.Fml.{ftrue};
 
 use std::marker::{Model, PhantomData};
 
-/// The mark of the reference that was given back last, by its name: what contracts see, and no bytes
+/// The generation of the reference that was given back last, by its name: what contracts see, and no bytes
 /// when the program runs. What ties it to what runs is that a place which is free keeps that reference,
 /// as the pool's invariant says.
 #[derive(Drop)]

@@ -15,10 +15,10 @@ pub mod neighbours;
 mod node_ref;
 mod old_place;
 mod packed;
-mod places;
 mod pool;
 mod raw;
 mod slab_entry;
+mod storage;
 
 pub use counted::Counted;
 pub use link::{Link, NO_LINK, NO_TAG, Tag};

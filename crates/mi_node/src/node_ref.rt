@@ -12,7 +12,7 @@ pub(crate) const PLACES: u32 = 0x7fff_ffff;
 pub(crate) const NOBODY: u32 = 0xffff_fffe;
 
 /// Which node: plain data that owns nothing. Contracts see its name, which is the node's place, and its
-/// mark, 0 or 1: the other one than that of the node that was given back last at that place.
+/// generation, 0 or 1: the other one than that of the node that was given back last at that place.
 pub struct NodeRef {
     bits: u32,
 }
@@ -55,15 +55,15 @@ impl Default for NodeRef {
 }
 
 impl NodeRef {
-    /// The reference to the node at that place, which its mark (0 or 1) tells from the node that stood there before.
-    pub(crate) fn new(place: u32, mark: u32) -> NodeRef
+    /// The reference to the node at that place, which its generation (0 or 1) tells from the node that stood there before.
+    pub(crate) fn new(place: u32, generation: u32) -> NodeRef
         requires place { place < PLACES }
-        requires mark { mark < 2 }
+        requires generation { generation < 2 }
         ensures name { result.name ≡ place }
-        ensures mark { result.mark ≡ mark }
+        ensures generation { result.generation ≡ generation }
     {
         NodeRef {
-            bits: place * 2 + mark,
+            bits: place * 2 + generation,
         }
     }
 
@@ -74,14 +74,14 @@ impl NodeRef {
         self.bits / 2
     }
 
-    /// The reference to another node at the same place. Its mark is the other one.
+    /// The reference to another node at the same place. Its generation is the other one.
     pub(crate) fn renewed(self) -> NodeRef
         ensures name { result.name ≡ self.name }
-        ensures mark { result.mark ≡ 1 - self.mark }
+        ensures generation { result.generation ≡ 1 - self.generation }
     {
-        let mark = 1 - self.bits % 2;
+        let generation = 1 - self.bits % 2;
         NodeRef {
-            bits: self.bits / 2 * 2 + mark,
+            bits: self.bits / 2 * 2 + generation,
         }
     }
 
@@ -89,7 +89,7 @@ impl NodeRef {
     pub(crate) fn bits(self) -> u32
         ensures some { result < NOBODY }
         ensures name { result / 2 ≡ self.name }
-        ensures mark { result % 2 ≡ self.mark }
+        ensures generation { result % 2 ≡ self.generation }
     {
         self.bits
     }
@@ -98,7 +98,7 @@ impl NodeRef {
     pub(crate) fn of_bits(bits: u32) -> NodeRef
         requires { bits < NOBODY }
         ensures name { result.name ≡ bits / 2 }
-        ensures mark { result.mark ≡ bits % 2 }
+        ensures generation { result.generation ≡ bits % 2 }
     {
         NodeRef { bits }
     }

@@ -6,7 +6,7 @@ ghost use Rattle.mi_node.specs.Pool.{HasSpare, IsHeld, IsNotLast, ref_of, value_
 
 use crate::link::Link;
 use crate::node_ref::NodeRef;
-use crate::places::Places;
+use crate::storage::Storage;
 use std::alloc::{AllocError, Global};
 use std::marker::Model;
 
@@ -29,7 +29,7 @@ pub const MAX_SLOTS: usize = 16;
 /// held node.
 #[derive(Drop)]
 pub struct Pool<T> {
-    places: Places<T>,
+    storage: Storage<T>,
 }
 
 impl<T> Model for Pool<T> {
@@ -39,11 +39,11 @@ impl<T> Model for Pool<T> {
 
     ghost coded = { pooled_code T.code };
 
-    ghost use Rattle.mi_node.specs.Places.{nodes, AreSound};
+    ghost use Rattle.mi_node.specs.Storage.{nodes, AreSound};
 
-    ghost view = { λ p. nodes p.places };
+    ghost view = { λ p. nodes p.storage };
 
-    ghost invariant = { λ p. AreSound p.places };
+    ghost invariant = { λ p. AreSound p.storage };
 }
 
 impl<T> Pool<T> {
@@ -61,7 +61,7 @@ impl<T> Pool<T> {
         ensures { result ≡ no_nodes slots }
     {
         Pool {
-            places: Places::new(alloc, slots),
+            storage: Storage::new(alloc, slots),
         }
     }
 
@@ -69,14 +69,14 @@ impl<T> Pool<T> {
     pub fn slots(&self) -> usize
         ensures { result ≡ self.now.slots }
     {
-        self.places.slots()
+        self.storage.slots()
     }
 
     /// How many bytes of memory the pool has taken, where a value has `value` bytes, by `size_of`: for each of its places, a free one
     /// too, a value and the links. What a value holds in memory of its own isn't counted. It takes a step for each slot, however many
     /// nodes there are. No clause says how many; tests do.
     pub fn memory(&self, value: usize) -> u64 {
-        self.places.memory(value)
+        self.storage.memory(value)
     }
 
     /// Puts the value into a new node, none of whose links is set. Its name is a place where no node
@@ -96,8 +96,8 @@ impl<T> Pool<T> {
         ensures value_returned { IfErr result (λ e. e.1 ≡ value) }
         ensures err { IfErr result (λ _. self.new ≡ self.old) }
     {
-        match self.places.free_place() {
-            Ok(place) => Ok(self.places.occupy(place, value)),
+        match self.storage.free_place() {
+            Ok(place) => Ok(self.storage.occupy(place, value)),
             Err(refused) => Err((refused, value)),
         }
     }
@@ -109,7 +109,7 @@ impl<T> Pool<T> {
         ensures value { value_of self.old node.name ≡ Some result }
         ensures pool { self.new ≡ without self.old node.name }
     {
-        self.places.vacate(node)
+        self.storage.vacate(node)
     }
 
     /// The node's value.
@@ -117,7 +117,7 @@ impl<T> Pool<T> {
         requires { IsHeld self.now node }
         ensures { value_of self.now node.name ≡ Some result.now }
     {
-        self.places.value(node)
+        self.storage.value(node)
     }
 
     /// Puts another value into the node, and gives the old one back. The node's reference and links stay.
@@ -126,7 +126,7 @@ impl<T> Pool<T> {
         ensures value { value_of self.old node.name ≡ Some result }
         ensures pool { self.new ≡ with_value self.old node.name value }
     {
-        self.places.swap_value(node, value)
+        self.storage.swap_value(node, value)
     }
 
     /// The node's link of a slot, counted from 0.
@@ -135,7 +135,7 @@ impl<T> Pool<T> {
         requires slot { slot < self.now.slots }
         ensures { result ≡ link_of self.now node.name slot }
     {
-        self.places.link(node, slot)
+        self.storage.link(node, slot)
     }
 
     /// Sets the node's link of a slot, counted from 0. All other links stay.
@@ -144,7 +144,7 @@ impl<T> Pool<T> {
         requires slot { slot < self.old.slots }
         ensures { self.new ≡ with_link self.old node.name slot link }
     {
-        self.places.set_link(node, slot, link);
+        self.storage.set_link(node, slot, link);
     }
 
     /// One neighbour of the node's link of a slot, counted from 0: `back`, or else `forth`. It reads no more of the link.
@@ -154,7 +154,7 @@ impl<T> Pool<T> {
         requires slot { slot < self.now.slots }
         ensures { result ≡ cond back (link_of self.now node.name slot).back (link_of self.now node.name slot).forth }
     {
-        self.places.stored(node, slot).neighbour(back)
+        self.storage.stored(node, slot).neighbour(back)
     }
 
     /// Sets the size in the node's link of a slot, counted from 0. The rest of the link and all other links stay.
@@ -164,8 +164,8 @@ impl<T> Pool<T> {
         requires slot { slot < self.old.slots }
         ensures { self.new ≡ with_link self.old node.name slot (sized size (link_of self.old node.name slot)) }
     {
-        let cell = self.places.stored(node, slot);
-        self.places.store(node, slot, cell.with_size(size));
+        let cell = self.storage.stored(node, slot);
+        self.storage.store(node, slot, cell.with_size(size));
     }
 
     /// Sets one neighbour in the node's link of a slot, counted from 0: `back`, or else `forth`; and the height. The rest of the link
@@ -183,8 +183,8 @@ impl<T> Pool<T> {
         requires slot { slot < self.old.slots }
         ensures { self.new ≡ with_link self.old node.name slot (sided back neighbour height (link_of self.old node.name slot)) }
     {
-        let cell = self.places.stored(node, slot);
-        self.places
+        let cell = self.storage.stored(node, slot);
+        self.storage
             .store(node, slot, cell.with_side(back, neighbour, height));
     }
 }

@@ -35,7 +35,7 @@ impl<E> Row<E> {
     }
 
     /// The places again.
-    pub(crate) fn into_places(self) -> Slots<E>
+    pub(crate) fn into_slots(self) -> Slots<E>
         ensures at { slots_ptr result ≡ self.at }
         ensures count { slots_len result ≡ 1024 }
         ensures full { IsFull result }

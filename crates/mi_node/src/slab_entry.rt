@@ -29,7 +29,7 @@ const _: () = prove!(size_of::<SlabEntry<u64>>() == size_of::<u64>() + BESIDE);
 pub(crate) fn next_at<T>(slab_entry: &SlabEntry<T>) -> (NodeRef, u32)
     requires { IsFree slab_entry.now }
     ensures name { result.0.name ≡ (node_in slab_entry.now).name }
-    ensures mark { result.0.mark ≡ 1 - (node_in slab_entry.now).mark }
+    ensures generation { result.0.generation ≡ 1 - (node_in slab_entry.now).generation }
     ensures next { GoesOn result.1 (Some slab_entry.now) }
 {
     match slab_entry {
@@ -73,7 +73,7 @@ pub(crate) fn is_free<T>(slab_entry: &SlabEntry<T>) -> bool
 
 /// A chunk of free places, the first of which has the number `first`. Each names the one after it as
 /// the next free place, and the last names `next`.
-pub(crate) fn free_chunk<T>(
+pub(crate) fn chunk_of_free<T>(
     alloc: Global,
     first: u32,
     next: u32,

@@ -1,7 +1,7 @@
 pub mod Tags
 pub mod TagLaws
-pub mod Leads
-pub mod LeadLaws
+pub mod Prefixes
+pub mod PrefixLaws
 pub mod Hashing
 pub mod Orders
 pub mod OrderLaws

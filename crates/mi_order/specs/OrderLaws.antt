@@ -10,7 +10,7 @@ use Rattle.std.specs.Ordering.{int_cmp, is_gt, ordering_then, ordering_reverse}
 use Rattle.std.specs.Cmp.{IsTotalOrder, on_total, int_cmp_total}
 use Rattle.mi_value.specs.declared.value.Value.{Value}
 use Rattle.mi_value.specs.declared.value.Value.TheVariants.{Int, Text, Flag}
-use Rattle.mi_order.specs.declared.leads.LeadTypes.{LeadTypes}
+use Rattle.mi_order.specs.declared.prefixes.PrefixTypes.{PrefixTypes}
 use Rattle.mi_value.specs.declared.compare.KeyPart.{KeyPart}
 use Rattle.mi_value.specs.declared.bound.Probe.{Probe}
 use Rattle.mi_value.specs.declared.bound.Probe.TheVariants.{Key, Of}
@@ -20,10 +20,10 @@ use Rattle.mi_catalog.specs.Key.{parts_or_id, record_or_id, compare_to_row}
 use Rattle.mi_model.proofs.PrefixLaws.{NotBelow, prefix_falls}
 use Rattle.mi_tree.specs.Order.{IsNoLater, IsMonotone}
 use Rattle.mi_order.specs.declared.stored.Stored.{Stored}
-use Rattle.mi_order.specs.Leads.{lead_tag, lead_probe, is_exact_lead}
+use Rattle.mi_order.specs.Prefixes.{prefix_tag, prefix_probe, is_complete_prefix}
 use Rattle.mi_order.specs.Orders.{row_in, stored_order, stored_tag, key_tag, record_tag, is_decided, IsTagged, IsSought, place_in, Rises, OrdersAreLawful}
 use Rattle.mi_order.specs.TagLaws.{self_equal}
-use Rattle.mi_order.specs.LeadLaws.{none_some, some_is, leads_order_keys, exact_leads_are_keys, leads_order_probes, exact_leads_are_probes}
+use Rattle.mi_order.specs.PrefixLaws.{none_some, some_is, prefixes_order_keys, complete_prefixes_are_keys, prefixes_order_probes, complete_prefixes_are_probes}
 
 pub stored_total : (ps : List KeyPart) → IsTotalOrder (stored_order ps)
 stored_total ps = on_total row_in (on_total (record_or_id ps) (compare_key_total (parts_or_id ps)))
@@ -41,16 +41,16 @@ ids_equal m n same = ap (λ k. int_cmp (pos m) (pos k)) (sym same) ∙ self_equa
 
 -- Tags of nodes
 
-below : (c : LeadTypes) (ps : List KeyPart) (x y : Stored) → stored_tag c ps x < stored_tag c ps y → stored_order ps x y ≡ Less
+below : (c : PrefixTypes) (ps : List KeyPart) (x y : Stored) → stored_tag c ps x < stored_tag c ps y → stored_order ps x y ≡ Less
 below c [] x y l = ap (λ o. ordering_then o Equal) (ids_below x.id y.id l)
-below c (p ∷ ps) x y l = leads_order_keys c p ps x.row y.row l
+below c (p ∷ ps) x y l = prefixes_order_keys c p ps x.row y.row l
 
-exact : (c : LeadTypes) (ps : List KeyPart) (x y : Stored) → is_decided c ps (stored_tag c ps x) ≡ true
+exact : (c : PrefixTypes) (ps : List KeyPart) (x y : Stored) → is_decided c ps (stored_tag c ps x) ≡ true
     → stored_tag c ps x ≡ stored_tag c ps y → stored_order ps x y ≡ Equal
 exact c [] x y decided same = ap (λ o. ordering_then o Equal) (ids_equal x.id y.id same)
-exact c (p ∷ ps) x y decided same = exact_leads_are_keys c p ps x.row y.row decided same
+exact c (p ∷ ps) x y decided same = complete_prefixes_are_keys c p ps x.row y.row decided same
 
-pub is_tagged : (c : LeadTypes) (ps : List KeyPart) → IsTagged c ps
+pub is_tagged : (c : PrefixTypes) (ps : List KeyPart) → IsTagged c ps
 is_tagged c ps = record { total = stored_total ps; tag_below = below c ps; exact = exact c ps }
 
 -- Tags of probes
@@ -60,7 +60,7 @@ given : {A : Type 0} (b : Bool) (x : Option A) (t : A) → cond b x None ≡ Som
 given true x t h = (refl, h)
 given false x t h = absurd (none_some h)
 
-key_below : (c : LeadTypes) (ps : List KeyPart) (vs : List Value) (t : ℕ) → key_tag c ps vs ≡ Some t
+key_below : (c : PrefixTypes) (ps : List KeyPart) (vs : List Value) (t : ℕ) → key_tag c ps vs ≡ Some t
     → (x : Stored) → stored_tag c ps x < t → compare_to_row ps vs (row_in x) ≡ Greater
 key_below c ps [] t h x l = absurd (none_some h)
 key_below c [] (Int (pos n) ∷ []) t h x l = let is : n ≡ t = some_is h in ap (λ o. ordering_then o Equal) (ids_above n x.id (omega arith))
@@ -68,9 +68,9 @@ key_below c [] (Int (negsuc n) ∷ []) t h x l = absurd (none_some h)
 key_below c [] (Text bs ∷ []) t h x l = absurd (none_some h)
 key_below c [] (Flag b ∷ []) t h x l = absurd (none_some h)
 key_below c [] (v ∷ w ∷ vs) t h x l = absurd (none_some h)
-key_below c (p ∷ ps) (v ∷ vs) t h x l = (leads_order_probes c p ps v vs t x.row (given (nat_le (length vs) (length ps)) (lead_probe c p ps v vs) t h).1).0 l
+key_below c (p ∷ ps) (v ∷ vs) t h x l = (prefixes_order_probes c p ps v vs t x.row (given (nat_le (length vs) (length ps)) (prefix_probe c p ps v vs) t h).1).0 l
 
-key_above : (c : LeadTypes) (ps : List KeyPart) (vs : List Value) (t : ℕ) → key_tag c ps vs ≡ Some t
+key_above : (c : PrefixTypes) (ps : List KeyPart) (vs : List Value) (t : ℕ) → key_tag c ps vs ≡ Some t
     → (x : Stored) → t < stored_tag c ps x → compare_to_row ps vs (row_in x) ≡ Less
 key_above c ps [] t h x l = absurd (none_some h)
 key_above c [] (Int (pos n) ∷ []) t h x l = let is : n ≡ t = some_is h in ap (λ o. ordering_then o Equal) (ids_below n x.id (omega arith))
@@ -78,9 +78,9 @@ key_above c [] (Int (negsuc n) ∷ []) t h x l = absurd (none_some h)
 key_above c [] (Text bs ∷ []) t h x l = absurd (none_some h)
 key_above c [] (Flag b ∷ []) t h x l = absurd (none_some h)
 key_above c [] (v ∷ w ∷ vs) t h x l = absurd (none_some h)
-key_above c (p ∷ ps) (v ∷ vs) t h x l = (leads_order_probes c p ps v vs t x.row (given (nat_le (length vs) (length ps)) (lead_probe c p ps v vs) t h).1).1 l
+key_above c (p ∷ ps) (v ∷ vs) t h x l = (prefixes_order_probes c p ps v vs t x.row (given (nat_le (length vs) (length ps)) (prefix_probe c p ps v vs) t h).1).1 l
 
-key_exact : (c : LeadTypes) (ps : List KeyPart) (vs : List Value) (t : ℕ) → key_tag c ps vs ≡ Some t
+key_exact : (c : PrefixTypes) (ps : List KeyPart) (vs : List Value) (t : ℕ) → key_tag c ps vs ≡ Some t
     → is_decided c ps t ≡ true → (x : Stored) → stored_tag c ps x ≡ t → compare_to_row ps vs (row_in x) ≡ Equal
 key_exact c ps [] t h decided x same = absurd (none_some h)
 key_exact c [] (Int (pos n) ∷ []) t h decided x same = let is : n ≡ t = some_is h in ap (λ o. ordering_then o Equal) (ids_equal n x.id (is ∙ sym same))
@@ -89,30 +89,30 @@ key_exact c [] (Text bs ∷ []) t h decided x same = absurd (none_some h)
 key_exact c [] (Flag b ∷ []) t h decided x same = absurd (none_some h)
 key_exact c [] (v ∷ w ∷ vs) t h decided x same = absurd (none_some h)
 key_exact c (p ∷ ps) (v ∷ vs) t h decided x same =
-    let is = given (nat_le (length vs) (length ps)) (lead_probe c p ps v vs) t h in
-    exact_leads_are_probes c p ps v vs t x.row (leb-true (length vs) (length ps) is.0) is.1 decided same
+    let is = given (nat_le (length vs) (length ps)) (prefix_probe c p ps v vs) t h in
+    complete_prefixes_are_probes c p ps v vs t x.row (leb-true (length vs) (length ps) is.0) is.1 decided same
 
-record_below : (c : LeadTypes) (ps : List KeyPart) (r : List Value) (t : ℕ)
+record_below : (c : PrefixTypes) (ps : List KeyPart) (r : List Value) (t : ℕ)
     → record_tag c ps r ≡ Some t → (x : Stored) → stored_tag c ps x < t → compare_key ps x.row r ≡ Less
 record_below c [] r t h x l = absurd (none_some h)
 record_below c (p ∷ ps) r t h x l =
-    let is : lead_tag c p ps r ≡ t = some_is h in leads_order_keys c p ps x.row r (subst (λ n. lead_tag c p ps x.row < n) (sym is) l)
+    let is : prefix_tag c p ps r ≡ t = some_is h in prefixes_order_keys c p ps x.row r (subst (λ n. prefix_tag c p ps x.row < n) (sym is) l)
 
-record_above : (c : LeadTypes) (ps : List KeyPart) (r : List Value) (t : ℕ) → record_tag c ps r ≡ Some t
+record_above : (c : PrefixTypes) (ps : List KeyPart) (r : List Value) (t : ℕ) → record_tag c ps r ≡ Some t
     → (x : Stored) → t < stored_tag c ps x → compare_key ps x.row r ≡ Greater
 record_above c [] r t h x l = absurd (none_some h)
 record_above c (p ∷ ps) r t h x l =
-    let is : lead_tag c p ps r ≡ t = some_is h in
+    let is : prefix_tag c p ps r ≡ t = some_is h in
     let o : IsTotalOrder (compare_key (p ∷ ps)) = compare_key_total (p ∷ ps) in
-    o.antisymm x.row r ∙ ap ordering_reverse (leads_order_keys c p ps r x.row (subst (λ n. n < lead_tag c p ps x.row) (sym is) l))
+    o.antisymm x.row r ∙ ap ordering_reverse (prefixes_order_keys c p ps r x.row (subst (λ n. n < prefix_tag c p ps x.row) (sym is) l))
 
-record_exact : (c : LeadTypes) (ps : List KeyPart) (r : List Value) (t : ℕ) → record_tag c ps r ≡ Some t
+record_exact : (c : PrefixTypes) (ps : List KeyPart) (r : List Value) (t : ℕ) → record_tag c ps r ≡ Some t
     → is_decided c ps t ≡ true → (x : Stored) → stored_tag c ps x ≡ t → compare_key ps x.row r ≡ Equal
 record_exact c [] r t h decided x same = absurd (none_some h)
 record_exact c (p ∷ ps) r t h decided x same =
-    let is : lead_tag c p ps r ≡ t = some_is h in exact_leads_are_keys c p ps x.row r (ap (is_exact_lead c p ps) same ∙ decided) (same ∙ sym is)
+    let is : prefix_tag c p ps r ≡ t = some_is h in complete_prefixes_are_keys c p ps x.row r (ap (is_complete_prefix c p ps) same ∙ decided) (same ∙ sym is)
 
-pub is_sought : (c : LeadTypes) (ps : List KeyPart) (k : Probe) → IsSought c ps k
+pub is_sought : (c : PrefixTypes) (ps : List KeyPart) (k : Probe) → IsSought c ps k
 is_sought c ps (Key vs) = record {
   below = λ t h x l. ap ordering_reverse (key_below c ps vs.now t h x l);
   above = λ t h x l. ap ordering_reverse (key_above c ps vs.now t h x l);

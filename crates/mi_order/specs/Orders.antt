@@ -11,7 +11,7 @@ use Rattle.std.specs.Cmp.{IsTotalOrder}
 use Rattle.std.specs.Ordering.{on, is_eq, is_gt, ordering_reverse}
 use Rattle.mi_value.specs.declared.value.Value.{Value}
 use Rattle.mi_value.specs.declared.value.Value.TheVariants.{Int, Text, Flag}
-use Rattle.mi_order.specs.declared.leads.LeadTypes.{LeadTypes}
+use Rattle.mi_order.specs.declared.prefixes.PrefixTypes.{PrefixTypes}
 use Rattle.mi_value.specs.declared.compare.KeyPart.{KeyPart}
 use Rattle.mi_value.specs.declared.bound.Probe.{Probe}
 use Rattle.mi_value.specs.declared.bound.Probe.TheVariants.{Key, Of}
@@ -22,7 +22,7 @@ use Rattle.mi_order.specs.declared.stored.Stored.{Stored}
 use Rattle.mi_order.specs.declared.orders.ByHash.{ByHash}
 use Rattle.mi_order.specs.Hashing.{values_hash}
 use Rattle.mi_chain.specs.Keying.{Keying, IsLawful}
-use Rattle.mi_order.specs.Leads.{lead_tag, lead_probe, is_exact_lead}
+use Rattle.mi_order.specs.Prefixes.{prefix_tag, prefix_probe, is_complete_prefix}
 
 -- the row that a node holds
 abbrev pub row_in : Stored → Row
@@ -38,9 +38,9 @@ place_in ps v (Key vs) = ordering_reverse (compare_to_row ps vs.now (row_in v))
 place_in ps v (Of r) = compare_key ps v.row r.now
 
 -- the id where an index has no parts, else the tag of the first parts, whose columns have those types
-abbrev pub stored_tag : LeadTypes → List KeyPart → Stored → ℕ
+abbrev pub stored_tag : PrefixTypes → List KeyPart → Stored → ℕ
 stored_tag c [] v = v.id
-stored_tag c (p ∷ ps) v = lead_tag c p ps v.row
+stored_tag c (p ∷ ps) v = prefix_tag c p ps v.row
 
 -- an id as a value
 abbrev pub id_sought : Value → Option ℕ
@@ -50,24 +50,24 @@ id_sought (Text bs) = None
 id_sought (Flag b) = None
 
 -- the tag of a key, where it has one and has no more values than the index has parts
-abbrev pub key_tag : LeadTypes → List KeyPart → List Value → Option ℕ
+abbrev pub key_tag : PrefixTypes → List KeyPart → List Value → Option ℕ
 key_tag c ps [] = None
 key_tag c [] (v ∷ []) = id_sought v
 key_tag c [] (v ∷ w ∷ vs) = None
-key_tag c (p ∷ ps) (v ∷ vs) = if nat_le (length vs) (length ps) then lead_probe c p ps v vs else None
+key_tag c (p ∷ ps) (v ∷ vs) = if nat_le (length vs) (length ps) then prefix_probe c p ps v vs else None
 
-abbrev pub record_tag : LeadTypes → List KeyPart → List Value → Option ℕ
+abbrev pub record_tag : PrefixTypes → List KeyPart → List Value → Option ℕ
 record_tag c [] r = None
-record_tag c (p ∷ ps) r = Some (lead_tag c p ps r)
+record_tag c (p ∷ ps) r = Some (prefix_tag c p ps r)
 
-abbrev pub sought_tag : LeadTypes → List KeyPart → Probe → Option ℕ
+abbrev pub sought_tag : PrefixTypes → List KeyPart → Probe → Option ℕ
 sought_tag c ps (Key vs) = key_tag c ps vs.now
 sought_tag c ps (Of r) = record_tag c ps r.now
 
 -- an id is all of its key, and so is an exact tag
-abbrev pub is_decided : LeadTypes → List KeyPart → ℕ → Bool
+abbrev pub is_decided : PrefixTypes → List KeyPart → ℕ → Bool
 is_decided c [] t = true
-is_decided c (p ∷ ps) t = is_exact_lead c p ps t
+is_decided c (p ∷ ps) t = is_complete_prefix c p ps t
 
 -- Hashed indexes
 
@@ -102,13 +102,13 @@ keying_of h = record {
 -- What an order and its tags owe
 
 -- the order is total, a smaller tag is less, and one tag that decides is one key
-pub record IsTagged (c : LeadTypes) (ps : List KeyPart) : Type 0 where
+pub record IsTagged (c : PrefixTypes) (ps : List KeyPart) : Type 0 where
   pub total : IsTotalOrder (stored_order ps)
   pub tag_below : (x y : Stored) → stored_tag c ps x < stored_tag c ps y → stored_order ps x y ≡ Less
   pub exact : (x y : Stored) → is_decided c ps (stored_tag c ps x) ≡ true → stored_tag c ps x ≡ stored_tag c ps y → stored_order ps x y ≡ Equal
 
 -- nodes of smaller tags than the probe's are before it, those of greater ones behind it, and those of its own tag, if that decides, are at it
-pub record IsSought (c : LeadTypes) (ps : List KeyPart) (k : Probe) : Type 0 where
+pub record IsSought (c : PrefixTypes) (ps : List KeyPart) (k : Probe) : Type 0 where
   pub below : (t : ℕ) → sought_tag c ps k ≡ Some t → (x : Stored) → stored_tag c ps x < t → place_in ps x k ≡ Less
   pub above : (t : ℕ) → sought_tag c ps k ≡ Some t → (x : Stored) → t < stored_tag c ps x → place_in ps x k ≡ Greater
   pub exact : (t : ℕ) → sought_tag c ps k ≡ Some t → is_decided c ps t ≡ true → (x : Stored) → stored_tag c ps x ≡ t → place_in ps x k ≡ Equal
@@ -119,7 +119,7 @@ pub record Rises (ps : List KeyPart) (k : Probe) (x y : Stored) : Type 0 where
   pub greater : place_in ps x k ≡ Greater → place_in ps y k ≡ Greater
 
 abbrev pub OrdersAreLawful : Type 0
-OrdersAreLawful = (c : LeadTypes) (ps : List KeyPart) → IsTagged c ps × ((k : Probe) → IsSought c ps k)
+OrdersAreLawful = (c : PrefixTypes) (ps : List KeyPart) → IsTagged c ps × ((k : Probe) → IsSought c ps k)
     × ((k : Probe) (x y : Stored) → is_gt (stored_order ps x y) ≡ false → Rises ps k x y)
 
 -- equality of keys is an equivalence, and hashes and probes agree with it

@@ -18,7 +18,7 @@ use Rattle.mi_value.specs.declared.value.ColumnType.TheVariants as column
 use Rattle.mi_value.specs.Order.{compare_missing, directed, compare_key, compare_prefix}
 use Rattle.mi_value.proofs.OrderLaws.{directed_total}
 use Rattle.mi_model.proofs.SortLaws.{both_ways}
-use Rattle.mi_order.specs.Tags.{high, int_tag, worth, lead, value_tag, directed_tag, is_exact_value}
+use Rattle.mi_order.specs.Tags.{high, int_tag, worth, prefix, value_tag, directed_tag, is_exact_value}
 use Rattle.mi_order.specs.Tags.{TagsOrderKeys, ExactTagsAreKeys, TagsOrderProbes, ExactTagsAreProbes}
 
 -- Whole numbers
@@ -41,17 +41,17 @@ int_same (negsuc m) (negsuc n) some below same = let is : m ≡ n = omega arith 
 
 -- Texts
 
-lead_within : (n : ℕ) (bs : List ℕ) → lead n bs < worth n
-lead_within zero bs = omega arith
-lead_within (suc n) [] = let l : lead n [] < worth n = lead_within n [] in omega arith
-lead_within (suc n) (b ∷ bs) =
-    let l : lead n bs < worth n = lead_within n bs in
+prefix_within : (n : ℕ) (bs : List ℕ) → prefix n bs < worth n
+prefix_within zero bs = omega arith
+prefix_within (suc n) [] = let l : prefix n [] < worth n = prefix_within n [] in omega arith
+prefix_within (suc n) (b ∷ bs) =
+    let l : prefix n bs < worth n = prefix_within n bs in
     both_ways (nat_lt b 256)
     (λ yes.
     let small : b < 256 = ltb-true b 256 yes in
     let more : worth n * (b + 1) ≤ worth n * 256 = mul-le-mul_left (worth n) (let s : b + 1 ≤ 256 = omega arith in s) in
-    subst (λ t. cond {A = ℕ} t (b * worth n + lead n bs) (256 * worth n - 1) < 256 * worth n) (sym yes) (omega arith))
-    (λ isnt. subst (λ t. cond {A = ℕ} t (b * worth n + lead n bs) (256 * worth n - 1) < 256 * worth n) (sym isnt) (omega arith))
+    subst (λ t. cond {A = ℕ} t (b * worth n + prefix n bs) (256 * worth n - 1) < 256 * worth n) (sym yes) (omega arith))
+    (λ isnt. subst (λ t. cond {A = ℕ} t (b * worth n + prefix n bs) (256 * worth n - 1) < 256 * worth n) (sym isnt) (omega arith))
 
 -- where both first bytes are bytes
 first_below : (x y w a b : ℕ) (o : Ordering) → a < w → b < w → x * w + a < y * w + b → (x ≡ y → a < b → o ≡ Less) → ordering_then (nat_cmp x y) o ≡ Less
@@ -69,33 +69,33 @@ first_below x y w a b o la lb l rest =
           ap (λ q. ordering_then q o) (sym (nat_cmp_is x y Equal same)) ∙ rest same tail)
     ]
 
-lead_below : (n : ℕ) (xs ys : List ℕ) → lead n xs < lead n ys → slice_cmp nat_cmp xs ys ≡ Less
-lead_below zero xs ys l = absurd (omega arith)
-lead_below (suc n) [] [] l = absurd (omega arith)
-lead_below (suc n) [] (y ∷ ys) l = refl
-lead_below (suc n) (x ∷ xs) [] l = absurd (omega arith)
-lead_below (suc n) (x ∷ xs) (y ∷ ys) l =
+prefix_below : (n : ℕ) (xs ys : List ℕ) → prefix n xs < prefix n ys → slice_cmp nat_cmp xs ys ≡ Less
+prefix_below zero xs ys l = absurd (omega arith)
+prefix_below (suc n) [] [] l = absurd (omega arith)
+prefix_below (suc n) [] (y ∷ ys) l = refl
+prefix_below (suc n) (x ∷ xs) [] l = absurd (omega arith)
+prefix_below (suc n) (x ∷ xs) (y ∷ ys) l =
     let w : ℕ = worth n in
-    let la : lead n xs < w = lead_within n xs in
-    let lb : lead n ys < w = lead_within n ys in
+    let la : prefix n xs < w = prefix_within n xs in
+    let lb : prefix n ys < w = prefix_within n ys in
     let tag : Bool → ℕ → ℕ → ℕ = λ t z a. cond {A = ℕ} t (z * w + a) (256 * w - 1) in
     both_ways (nat_lt x 256)
     (λ small.
-    let left : lead (suc n) (x ∷ xs) ≡ x * w + lead n xs = ap (λ t. tag t x (lead n xs)) small in
+    let left : prefix (suc n) (x ∷ xs) ≡ x * w + prefix n xs = ap (λ t. tag t x (prefix n xs)) small in
     both_ways (nat_lt y 256)
     (λ too.
-    let right : lead (suc n) (y ∷ ys) ≡ y * w + lead n ys = ap (λ t. tag t y (lead n ys)) too in
-    first_below x y w (lead n xs) (lead n ys) (slice_cmp nat_cmp xs ys) la lb (omega arith) (λ same less. lead_below n xs ys less))
+    let right : prefix (suc n) (y ∷ ys) ≡ y * w + prefix n ys = ap (λ t. tag t y (prefix n ys)) too in
+    first_below x y w (prefix n xs) (prefix n ys) (slice_cmp nat_cmp xs ys) la lb (omega arith) (λ same less. prefix_below n xs ys less))
     (λ great.
     let above : x < y = (let a : x < 256 = ltb-true x 256 small in let b : 256 ≤ y = ltb-false y 256 great in omega arith) in
     ap (λ q. ordering_then q (slice_cmp nat_cmp xs ys)) (sym (nat_cmp_is x y Less above))))
     (λ great.
-    let left : lead (suc n) (x ∷ xs) ≡ 256 * w - 1 = ap (λ t. tag t x (lead n xs)) great in
-    let most : lead (suc n) (y ∷ ys) < 256 * w = lead_within (suc n) (y ∷ ys) in
+    let left : prefix (suc n) (x ∷ xs) ≡ 256 * w - 1 = ap (λ t. tag t x (prefix n xs)) great in
+    let most : prefix (suc n) (y ∷ ys) < 256 * w = prefix_within (suc n) (y ∷ ys) in
     absurd (omega arith))
 
-text_high : (bs : List ℕ) → lead 8 bs ≤ high
-text_high bs = let l : lead 8 bs < worth 8 = lead_within 8 bs in omega arith
+text_high : (bs : List ℕ) → prefix 8 bs ≤ high
+text_high bs = let l : prefix 8 bs < worth 8 = prefix_within 8 bs in omega arith
 
 -- Values
 
@@ -131,7 +131,7 @@ texts_below : (a b : Value) → value_tag column.Text (Some a) < value_tag colum
 texts_below a (Int n) l = absurd (none_below _ l)
 texts_below (Int m) (Text bs) l = refl
 texts_below (Int m) (Flag b) l = refl
-texts_below (Text ts) (Text bs) l = lead_below 8 ts bs l
+texts_below (Text ts) (Text bs) l = prefix_below 8 ts bs l
 texts_below (Text ts) (Flag b) l = refl
 texts_below (Flag f) (Text bs) l = absurd (none_above _ (text_high bs) l)
 texts_below (Flag f) (Flag b) l = absurd (omega arith)

@@ -29,10 +29,10 @@ worth zero = 1
 worth (suc n) = 256 * worth n
 
 -- the number that the first n bytes are, filled with zeros; past a byte, which is below 256, nothing is greater
-abbrev pub lead : ℕ → List ℕ → ℕ
-lead zero bs = 0
-lead (suc n) [] = 0
-lead (suc n) (b ∷ bs) = if nat_lt b 256 then b * worth n + lead n bs else 256 * worth n - 1
+abbrev pub prefix : ℕ → List ℕ → ℕ
+prefix zero bs = 0
+prefix (suc n) [] = 0
+prefix (suc n) (b ∷ bs) = if nat_lt b 256 then b * worth n + prefix n bs else 256 * worth n - 1
 
 abbrev pub flag_tag : Bool → ℕ
 flag_tag false = 1
@@ -45,7 +45,7 @@ value_tag column.Int (Some (Int n)) = int_tag n
 value_tag column.Int (Some (Text bs)) = high
 value_tag column.Int (Some (Flag b)) = high
 value_tag column.Text (Some (Int n)) = 0
-value_tag column.Text (Some (Text bs)) = lead 8 bs
+value_tag column.Text (Some (Text bs)) = prefix 8 bs
 value_tag column.Text (Some (Flag b)) = high
 value_tag column.Flag (Some (Int n)) = 0
 value_tag column.Flag (Some (Text bs)) = 0

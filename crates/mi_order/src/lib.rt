@@ -5,12 +5,12 @@
 mod hashing;
 mod key;
 pub mod laws;
-pub mod leads;
 mod orders;
+pub mod prefixes;
 mod stored;
 pub mod tags;
 
 pub use hashing::hash_values;
-pub use leads::LeadTypes;
 pub use orders::{ByHash, ByKey};
+pub use prefixes::PrefixTypes;
 pub use stored::Stored;

@@ -4,7 +4,7 @@ ghost use Rattle.std.specs.Prelude.{◌≡◌};
 
 use crate::hashing::{hash_key, hash_values};
 use crate::key::{has_same_key, id_sought, is_whole_key};
-use crate::leads::{LeadTypes, is_exact_lead, lead_probe, lead_tag};
+use crate::prefixes::{PrefixTypes, is_complete_prefix, prefix_probe, prefix_tag};
 use crate::stored::Stored;
 use mi_catalog::{Parts, compare_rows, compare_to_row};
 use mi_chain::KeyHash;
@@ -18,7 +18,7 @@ pub struct ByKey {
     /// The columns of the index's keys, and the direction of each.
     pub parts: Parts,
     /// The types of the first parts' columns.
-    pub types: LeadTypes,
+    pub types: PrefixTypes,
 }
 
 impl ByKey {
@@ -34,7 +34,7 @@ impl ByKey {
             ([], [_, _, ..]) => None,
             ([part, rest @ ..], [value, more @ ..]) => {
                 if more.len() <= rest.len() {
-                    lead_probe(&self.types, part, rest, value, more)
+                    prefix_probe(&self.types, part, rest, value, more)
                 } else {
                     None
                 }
@@ -81,7 +81,7 @@ impl NodeOrder<Stored> for ByKey {
     fn tag(&self, value: &Stored) -> u64 {
         match self.parts.as_slice() {
             [] => value.id,
-            [part, rest @ ..] => lead_tag(&self.types, part, rest, &value.row),
+            [part, rest @ ..] => prefix_tag(&self.types, part, rest, &value.row),
         }
     }
 
@@ -90,7 +90,7 @@ impl NodeOrder<Stored> for ByKey {
             Probe::Key(key) => self.key_tag(key),
             Probe::Of(record) => match self.parts.as_slice() {
                 [] => None,
-                [part, rest @ ..] => Some(lead_tag(&self.types, part, rest, record)),
+                [part, rest @ ..] => Some(prefix_tag(&self.types, part, rest, record)),
             },
         }
     }
@@ -98,7 +98,7 @@ impl NodeOrder<Stored> for ByKey {
     fn is_complete(&self, tag: u64) -> bool {
         match self.parts.as_slice() {
             [] => true,
-            [part, rest @ ..] => is_exact_lead(&self.types, part, rest, tag),
+            [part, rest @ ..] => is_complete_prefix(&self.types, part, rest, tag),
         }
     }
 

@@ -29,7 +29,7 @@ fn byte_at(bytes: &[u8], i: usize) -> u8
 
 /// The tag of a text: its first eight bytes as a number, filled with zeros.
 fn text_tag(text: &str) -> u64
-    ensures { result ≡ tags.lead 8 text.now }
+    ensures { result ≡ tags.prefix 8 text.now }
 {
     let bytes = text.as_bytes();
     u64::from_be_bytes([

@@ -60,16 +60,16 @@ module _ {T : Type 0} (place : T → Ordering) (m : Pooled T) where
       (λ e. place_all (is_past_node false place m) rs (h.0 e)) (λ e. place_all (is_past_node true place m) rs (k.0 e))
 
 -- a subtree in which a place may be sought
-module _ {T : Type 0} (s : ℕ) (tag : T → ℕ) (place : T → Ordering) (strict : Bool) (at : Option Ref) where
+module _ {T : Type 0} (s : ℕ) (tag : T → ℕ) (place : T → Ordering) (is_upper : Bool) (at : Option Ref) where
   abbrev pub Asked : Pooled T → Type 0
-  Asked m = (t : BinaryTree) × IsRooted m s at t × (forks t < 4294967296) × AreTagged tag m s (nodes t) × IsSteady (is_past_node strict place m) (nodes t)
+  Asked m = (t : BinaryTree) × IsRooted m s at t × (forks t < 4294967296) × AreTagged tag m s (nodes t) × IsSteady (is_past_node is_upper place m) (nodes t)
 
   pub asked_moved : {m n : Pooled T} → n ≡ m → (t : BinaryTree) → IsRooted m s at t → size_at m s at < 4294967296
-      → AreTagged tag m s (nodes t) → IsSteady (is_past_node strict place m) (nodes t) → Asked n
+      → AreTagged tag m s (nodes t) → IsSteady (is_past_node is_upper place m) (nodes t) → Asked n
   asked_moved {m} {n} e t h fits tags up = let z = size-root m s at t h in subst Asked (sym e) (t, h, omega arith, tags, up)
 
   abbrev pub Told : ℕ → Pooled T → Type 0
-  Told k m = (t : BinaryTree) → IsRooted m s at t → k ≡ position_or_len (is_past_node strict place m) (nodes t)
+  Told k m = (t : BinaryTree) → IsRooted m s at t → k ≡ position_or_len (is_past_node is_upper place m) (nodes t)
 
   pub told_moved : {m n : Pooled T} (k : ℕ) → n ≡ m → Told k n → Told k m
   told_moved k e h = subst (Told k) e h

@@ -1,5 +1,5 @@
 -- What the paths down find.
--- Cited by `Tree::bound`, `Tree::find`, `look::count_in`, `look::nth_in`, `look::past_rank_in`, 4 more and `mi_index`.
+-- Cited by `Tree::bound`, `Tree::find`, `look::bound_rank_in`, `look::count_in`, `look::nth_in`, 4 more and `mi_index`.
 use Rattle.std.proofs.Common.{◌≡◌, ℕ, suc, ◌+◌, ◌*◌, ◌<◌, ◌≤◌, Bool, true, false, cond, List, [], ◌∷◌}
 use Rattle.std.proofs.Common.{◌++◌, length, Option, Some, None, refl, sym, ap, ◌∙◌, subst, arith}
 use Rattle.std.specs.declared.cmp.Ordering.{Ordering}
@@ -61,14 +61,14 @@ steady_right f [] ys h = h
 steady_right f (x ∷ xs) ys h = steady_right f xs ys h.1
 
 -- a probe's answers rise along nodes that rise
-past_later : (strict : Bool) (a b : Ordering) → IsNoLater a b → past strict a ≡ true → past strict b ≡ true
-past_later strict Less b h e = absurd (true_false false e refl)
-past_later strict Equal Less h e = absurd h
-past_later strict Equal Equal h e = e
-past_later strict Equal Greater h e = refl
-past_later strict Greater Less h e = absurd h
-past_later strict Greater Equal h e = absurd h
-past_later strict Greater Greater h e = refl
+past_later : (is_upper : Bool) (a b : Ordering) → IsNoLater a b → past is_upper a ≡ true → past is_upper b ≡ true
+past_later is_upper Less b h e = absurd (true_false false e refl)
+past_later is_upper Equal Less h e = absurd h
+past_later is_upper Equal Equal h e = e
+past_later is_upper Equal Greater h e = refl
+past_later is_upper Greater Less h e = absurd h
+past_later is_upper Greater Equal h e = absurd h
+past_later is_upper Greater Greater h e = refl
 
 equal_less : Equal ≡ Less → ⊥
 equal_less e = cc
@@ -80,31 +80,31 @@ greater_less e = cc
 not_greater : (a b : Ordering) → ordering_then a b ≡ Less → a ≡ Greater → ⊥
 not_greater a b e f = greater_less (ap (λ o. ordering_then o b) (sym f) ∙ e)
 
-module _ {T : Type 0} (order : T → T → Ordering) (place : T → Ordering) (mono : IsMonotone order place) (strict : Bool) where
+module _ {T : Type 0} (order : T → T → Ordering) (place : T → Ordering) (mono : IsMonotone order place) (is_upper : Bool) where
   value_later : (a b : Option T) (i j : ℕ) → compared (by_stamp order) (stamped a i) (stamped b j) ≡ Less
-      → past_value strict place a ≡ true → past_value strict place b ≡ true
+      → past_value is_upper place a ≡ true → past_value is_upper place b ≡ true
   value_later None b i j e f = absurd (equal_less e)
   value_later (Some x) None i j e f = absurd (equal_less e)
-  value_later (Some x) (Some y) i j e f = past_later strict (place x) (place y) (mono x y (not_greater (order x y) (nat_cmp i j) e)) f
+  value_later (Some x) (Some y) i j e f = past_later is_upper (place x) (place y) (mono x y (not_greater (order x y) (nat_cmp i j) e)) f
 
   all_later : (m : Pooled T) (s : ℕ) (r : Ref) (rs : List Ref) → AllAre (side order m s r) Less rs
-      → is_past_node strict place m r ≡ true → AllWhere (is_past_node strict place m) rs
+      → is_past_node is_upper place m r ≡ true → AllWhere (is_past_node is_upper place m) rs
   unfolding side item_of is_past_node
   all_later m s r [] h e = tt
   all_later m s r (q ∷ rs) h e =
       (value_later (value_of m r.name) (value_of m q.name) (link_of m r.name s).tag.stamp (link_of m q.name s).tag.stamp h.0 e, all_later m s r rs h.1 e)
 
-  pub steady : (m : Pooled T) (s : ℕ) (rs : List Ref) → Rising (side order m s) rs → IsSteady (is_past_node strict place m) rs
+  pub steady : (m : Pooled T) (s : ℕ) (rs : List Ref) → Rising (side order m s) rs → IsSteady (is_past_node is_upper place m) rs
   steady m s [] h = tt
   steady m s (r ∷ rs) h = (all_later m s r rs h.0, steady m s rs h.1)
 
 -- whether a held node is past the probe, by its place as it was found in a pool n that is as m is
-pub past_read : {T : Type 0} (strict : Bool) (place : T → Ordering) (r : Ref) {m n : Pooled T} {o : Ordering} {b : Bool} → n ≡ m → IsHeld m r
-    → o ≡ place_at place (value_of n r.name) → b ≡ past strict o → is_past_node strict place m r ≡ b
+pub past_read : {T : Type 0} (is_upper : Bool) (place : T → Ordering) (r : Ref) {m n : Pooled T} {o : Ordering} {b : Bool} → n ≡ m → IsHeld m r
+    → o ≡ place_at place (value_of n r.name) → b ≡ past is_upper o → is_past_node is_upper place m r ≡ b
 unfolding is_past_node
-past_read strict place r {m} {n} same h e f = let v = held_has m r h in
-    ap (past_value strict place) v.1 ∙ ap (λ o. past strict (place_at place o)) (sym v.1)
-    ∙ ap (λ (z : Pooled _). past strict (place_at place (value_of z r.name))) (sym same) ∙ ap (past strict) (sym e) ∙ sym f
+past_read is_upper place r {m} {n} same h e f = let v = held_has m r h in
+    ap (past_value is_upper place) v.1 ∙ ap (λ o. past is_upper (place_at place o)) (sym v.1)
+    ∙ ap (λ (z : Pooled _). past is_upper (place_at place (value_of z r.name))) (sym same) ∙ ap (past is_upper) (sym e) ∙ sym f
 
 -- whether it is at the probe
 pub node_read : {T : Type 0} (place : T → Ordering) (r : Ref) {m n : Pooled T} {o : Ordering} → n ≡ m → IsHeld m r

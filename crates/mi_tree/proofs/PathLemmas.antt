@@ -17,7 +17,7 @@ use Rattle.mi_node.proofs.EntryLemmas.{flip, link_here}
 use Rattle.mi_node.proofs.KeepingLemmas.{keeps_none, keeps_then, keeps_more, held_kept}
 use Rattle.mi_node.proofs.RefLemmas.{out_left, out_right, between, are_out_cons, are_out_none, are_out_flip}
 use Rattle.mi_tree.specs.BinaryTree.{BinaryTree, Tip, Fork, nodes, top, forks, height, DifferByAtMost, IsEven, Stands, IsRooted, height_at}
-use Rattle.mi_tree.specs.Joining.{AreSides, AreLinked, IsBalanced, IsFork, IsSettled}
+use Rattle.mi_tree.specs.Joining.{AreSides, AreLinked, IsBalanced, IsFork, IsBalancedFork}
 use Rattle.mi_tree.specs.Sorted.{NoneAre, Rising, AreTagged, SameTags, IsPutIn, CanPut, HasPut, CanTake, side}
 use Rattle.mi_tree.specs.Paths.{Frame, path_of, forked, forked_size, forked_height, forked_link, with_child_replaced, plug}
 use Rattle.mi_tree.specs.Paths.{risen, IsLevel, AreEven, IsRootOf, Above, Falls, HasFallen, Climbs, HasClimbed, AreRebalanced}
@@ -305,7 +305,7 @@ module _ {T : Type 0} where
     pub names : nodes l ++ r ∷ nodes z ≡ nodes (forked b u r q)
     pub heights : (max (height l) (height z) ≡ max (height u) (height q)) × (DifferByAtMost 1 (height u) (height q) → DifferByAtMost 1 (height l) (height z))
     pub size_is : y.size ≡ forks l + forks z + 1
-    pub settled : y.tag ≡ (link_of m r.name s).tag → height u + 1 ≡ y.height → IsSettled m s r (with_child_replaced b below y) l z
+    pub settled : y.tag ≡ (link_of m r.name s).tag → height u + 1 ≡ y.height → IsBalancedFork m s r (with_child_replaced b below y) l z
 
   sided : (m : Pooled T) (s : ℕ) (b : Bool) (r : Ref) (q u : BinaryTree) (below : Option Ref) (y : Link) (at : Option Ref) (h : ℕ) (t : Tag)
       → IsRooted m s below u → IsEven u → DifferByAtMost 1 (height u) h → DifferByAtMost 1 h (height q) → IsEven q → IsHeld m r

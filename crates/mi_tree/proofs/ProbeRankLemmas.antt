@@ -1,5 +1,5 @@
 -- The path down that counts the nodes in front of the first that is past a probe.
--- Cited by `look::past_rank_in`, `walk::+seek_down` and `CountLemmas`.
+-- Cited by `look::bound_rank_in`, `walk::+seek_down` and `CountLemmas`.
 use Rattle.std.proofs.Common.{◌≡◌, ℕ, ◌+◌, ◌-◌, ◌^◌, ◌<◌, ◌≤◌, Bool, true, false, not, cond, List, [], ◌∷◌, ◌++◌, length}
 use Rattle.std.proofs.Common.{Option, Some, None, refl, ap, ◌∙◌, subst, arith}
 use Rattle.std.specs.List.{position_or_len}

@@ -255,23 +255,23 @@ module _ {T O : Type 0} where
   bound_node h xs x ys k b f = let long = same_length h k in let parts = length-append xs (x ∷ ys) in bound_less h b f (omega arith)
 
   -- what is past a probe stays so along its nodes
-  pub steady_in : {l : Tree O} {m : Pooled T} {order : T → T → Ordering} {tag : T → ℕ} {rs : List Ref} (strict : Bool) (place : T → Ordering)
-      → IsMonotone order place → (h : IsTree l m order tag rs) → IsSteady (is_past_node strict place m) (nodes h.shape)
-  steady_in {l} {m} {order} strict place mono h = steady order place mono strict m l.slot (nodes h.shape) (rising_in h)
+  pub steady_in : {l : Tree O} {m : Pooled T} {order : T → T → Ordering} {tag : T → ℕ} {rs : List Ref} (is_upper : Bool) (place : T → Ordering)
+      → IsMonotone order place → (h : IsTree l m order tag rs) → IsSteady (is_past_node is_upper place m) (nodes h.shape)
+  steady_in {l} {m} {order} is_upper place mono h = steady order place mono is_upper m l.slot (nodes h.shape) (rising_in h)
 
   -- a search for a probe may begin at the root
-  pub seeks_root : {l : Tree O} {m : Pooled T} {order : T → T → Ordering} {tag : T → ℕ} {rs : List Ref} (strict : Bool) (place : T → Ordering)
+  pub seeks_root : {l : Tree O} {m : Pooled T} {order : T → T → Ordering} {tag : T → ℕ} {rs : List Ref} (is_upper : Bool) (place : T → Ordering)
       → IsMonotone order place → IsTree l m order tag rs
-      → (t : BinaryTree) × IsRooted m l.slot l.root t × AreTagged tag m l.slot (nodes t) × IsSteady (is_past_node strict place m) (nodes t)
-  seeks_root {l} {m} {order} strict place mono h =
-      (h.shape, h.rooted, tagged_in h, steady_in strict place mono h)
+      → (t : BinaryTree) × IsRooted m l.slot l.root t × AreTagged tag m l.slot (nodes t) × IsSteady (is_past_node is_upper place m) (nodes t)
+  seeks_root {l} {m} {order} is_upper place mono h =
+      (h.shape, h.rooted, tagged_in h, steady_in is_upper place mono h)
 
   -- and so may one that counts what it passes
-  pub ranks_root : {l : Tree O} {m : Pooled T} {order : T → T → Ordering} {tag : T → ℕ} {rs : List Ref} (strict : Bool) (place : T → Ordering)
+  pub ranks_root : {l : Tree O} {m : Pooled T} {order : T → T → Ordering} {tag : T → ℕ} {rs : List Ref} (is_upper : Bool) (place : T → Ordering)
       → IsMonotone order place → IsTree l m order tag rs
-      → (t : BinaryTree) × IsRooted m l.slot l.root t × (forks t < 2 ^ 32) × AreTagged tag m l.slot (nodes t) × IsSteady (is_past_node strict place m) (nodes t)
-  ranks_root {l} {m} {order} strict place mono h =
-      (h.shape, h.rooted, (can_take h).fits, tagged_in h, steady_in strict place mono h)
+      → (t : BinaryTree) × IsRooted m l.slot l.root t × (forks t < 2 ^ 32) × AreTagged tag m l.slot (nodes t) × IsSteady (is_past_node is_upper place m) (nodes t)
+  ranks_root {l} {m} {order} is_upper place mono h =
+      (h.shape, h.rooted, (can_take h).fits, tagged_in h, steady_in is_upper place mono h)
 
   -- a walk may begin at the root
   pub enters_root : {l : Tree O} {m : Pooled T} {order : T → T → Ordering} {tag : T → ℕ} {rs : List Ref} (h : IsTree l m order tag rs) (d : Direction)

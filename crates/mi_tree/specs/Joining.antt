@@ -3,7 +3,7 @@
 --     IsSized, read      what is known of a subtree is so; what its root's link says of it
 --     Counts      what a node's link says of its two sides is so
 --     IsDown, IsUp, IsBoth      links by which two or three nodes with subtrees between them are one tree
---     IsSettled      a node's link is right for two sides of nearly one height
+--     IsBalancedFork      a node's link is right for two sides of nearly one height
 --     AreSides, IsBalanced      two balanced subtrees of nearly one height, and the balanced tree that they give
 --     AreLinked      such subtrees by a link that names and counts them
 use Rattle.std.specs.Prelude.{◌≡◌, ℕ, ◌+◌, ◌^◌, ◌<◌, ◌≤◌, max, ◌∷◌, ◌++◌, Option, Some}
@@ -44,8 +44,8 @@ module _ {T : Type 0} where
     pub height_is : y.height ≡ max (height A) (height B) + 1
     pub tag_is : y.tag ≡ (link_of m x.name s).tag
 
-  abbrev pub IsSettled : (m : Pooled T) (s : ℕ) (x : Ref) (y : Link) (A B : BinaryTree) → Type 0
-  IsSettled m s x y A B = IsFork m s x y A B × DifferByAtMost 1 (height A) (height B)
+  abbrev pub IsBalancedFork : (m : Pooled T) (s : ℕ) (x : Ref) (y : Link) (A B : BinaryTree) → Type 0
+  IsBalancedFork m s x y A B = IsFork m s x y A B × DifferByAtMost 1 (height A) (height B)
 
   pub record Three (m : Pooled T) (s : ℕ) (a : Option Ref) (x : Ref) (b : Option Ref) (y : Ref) (c : Option Ref) (A B C : BinaryTree) : Type 0 where
     pub first : IsRooted m s a A

@@ -7,7 +7,7 @@ use Rattle.mi_tree.specs.declared.walk.TheConstants.{MAX_LEVELS}
 
 -- what a place beyond the array would have
 abbrev pub anyone : Ref
-anyone = record { name = 0; mark = 0 }
+anyone = record { name = 0; generation = 0 }
 
 -- the first so many nodes; the last of them has the lowest bit
 abbrev pub path_steps_of : List Ref → ℕ → ℕ → List PathStep

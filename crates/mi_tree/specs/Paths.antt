@@ -14,7 +14,7 @@ use Rattle.mi_node.specs.Refs.{Ref, IsApart}
 use Rattle.mi_node.specs.declared.link.Link.{Link}
 use Rattle.mi_node.specs.declared.link.Tag.{Tag}
 use Rattle.mi_tree.specs.BinaryTree.{BinaryTree, Tip, Fork, nodes, top, forks, height, DifferByAtMost, IsEven, Stands, IsRooted, height_at}
-use Rattle.mi_tree.specs.Joining.{AreSides, IsSettled}
+use Rattle.mi_tree.specs.Joining.{AreSides, IsBalancedFork}
 use Rattle.mi_tree.specs.Sorted.{AreTagged, SameTags, IsPutIn, CanPut, CanTake}
 use Rattle.mi_tree.specs.declared.path_steps.PathStep.{PathStep}
 use Rattle.mi_tree.specs.declared.walk.TheConstants.{MAX_LEVELS}
@@ -154,4 +154,4 @@ module _ {T : Type 0} where
   pub record AreRebalanced (m : Pooled T) (s : ℕ) (path_step : PathStep) (below : Option Ref) (y : Link) (l q : BinaryTree) : Type 0 where
     pub sides : AreSides m s (cond path_step.left below y.back) path_step.node (cond path_step.left y.forth below) l q
     pub size_is : y.size ≡ forks l + forks q + 1
-    pub settled : height_at m s below + 1 ≡ y.height → IsSettled m s path_step.node (with_child_replaced path_step.left below y) l q
+    pub settled : height_at m s below + 1 ≡ y.height → IsBalancedFork m s path_step.node (with_child_replaced path_step.left below y) l q

@@ -6,11 +6,11 @@ use Rattle.std.specs.Ordering.{is_eq}
 use Rattle.mi_node.specs.Pool.{Pooled, value_of}
 use Rattle.mi_node.specs.Refs.{Ref}
 
--- the probe isn't after, or with `strict` it is before
+-- the probe isn't after, or with `is_upper` it is before
 abbrev pub past : Bool → Ordering → Bool
-past strict Less = false
-past strict Equal = not strict
-past strict Greater = true
+past is_upper Less = false
+past is_upper Equal = not is_upper
+past is_upper Greater = true
 
 -- a probe has a tag, which says all of its key
 abbrev pub is_decided : (ℕ → Bool) → Option ℕ → Bool
@@ -24,11 +24,11 @@ module _ {T : Type 0} where
   place_at place (Some v) = place v
 
   abbrev pub past_value : Bool → (T → Ordering) → Option T → Bool
-  past_value strict place None = false
-  past_value strict place (Some v) = past strict (place v)
+  past_value is_upper place None = false
+  past_value is_upper place (Some v) = past is_upper (place v)
 
   unfoldable pub is_past_node : Bool → (T → Ordering) → Pooled T → Ref → Bool
-  is_past_node strict place m r = past_value strict place (value_of m r.name)
+  is_past_node is_upper place m r = past_value is_upper place (value_of m r.name)
 
 module _ {T : Type 0} where
   abbrev pub is_value_at : (T → Ordering) → Option T → Bool

@@ -170,14 +170,14 @@ fn seek_value<T, O: NodeOrder<T>>(
     order.seek(p.value(node), probe, steps)
 }
 
-/// A place that a path down seeks: in front of the first node that the probe isn't after, or with `strict` of the first that it is
+/// A place that a path down seeks: in front of the first node that the probe isn't after, or with `is_upper` of the first that it is
 /// before. It has the probe's tag, and whether that decides.
 #[derive(Clone, Copy)]
 pub(crate) struct Sought<'a> {
     pub(crate) probe: Probe<'a>,
     pub(crate) tag: Option<u64>,
     pub(crate) decided: bool,
-    pub(crate) strict: bool,
+    pub(crate) is_upper: bool,
 }
 
 /// Where the node stands beside the probe of a place: by their tags, or by the value.

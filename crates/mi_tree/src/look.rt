@@ -116,20 +116,20 @@ pub(crate) fn rank_in<T, O: NodeOrder<T>>(
     before
 }
 
-/// Whether the probe isn't after what stands on that side of it, or with `strict` whether it is before.
-pub(crate) fn is_past(side: Ordering, strict: bool) -> bool
-    ensures { result ≡ past strict side }
+/// Whether the probe isn't after what stands on that side of it, or with `is_upper` whether it is before.
+pub(crate) fn is_past(side: Ordering, is_upper: bool) -> bool
+    ensures { result ≡ past is_upper side }
 {
     match side {
         Ordering::Less => false,
-        Ordering::Equal => !strict,
+        Ordering::Equal => !is_upper,
         Ordering::Greater => true,
     }
 }
 
-/// How many nodes of a subtree stand in front of the first that the probe isn't after, or with `strict` of the first that it is
+/// How many nodes of a subtree stand in front of the first that the probe isn't after, or with `is_upper` of the first that it is
 /// before; where there is none, how many there are. Whichever way it goes, it goes on with the link that it has read.
-pub(crate) fn past_rank_in<T, O: NodeOrder<T>>(
+pub(crate) fn bound_rank_in<T, O: NodeOrder<T>>(
     p: &mut Counted<T>,
     slot: usize,
     order: &O,
@@ -142,9 +142,9 @@ pub(crate) fn past_rank_in<T, O: NodeOrder<T>>(
     requires decided { sought.now.decided ≡ is_decided (O.is_exact order.now) sought.now.tag }
     requires tree { (t : BinaryTree) × IsRooted p.old.pool slot root t × (forks t < 2 ^ 32)
         × AreTagged (O.tag_of order.now) p.old.pool slot (nodes t)
-        × IsSteady (is_past_node sought.now.strict (λ v. O.place order.now v sought.now.probe) p.old.pool) (nodes t) }
+        × IsSteady (is_past_node sought.now.is_upper (λ v. O.place order.now v sought.now.probe) p.old.pool) (nodes t) }
     ensures rank { (t : BinaryTree) → IsRooted p.old.pool slot root t
-        → result ≡ position_or_len (is_past_node sought.now.strict (λ v. O.place order.now v sought.now.probe) p.old.pool) (nodes t) }
+        → result ≡ position_or_len (is_past_node sought.now.is_upper (λ v. O.place order.now v sought.now.probe) p.old.pool) (nodes t) }
     ensures pool { p.new.pool ≡ p.old.pool }
     ensures reads { (t : BinaryTree) → IsRooted p.old.pool slot root t → p.new.reads ≤ p.old.reads + height t }
     ensures steps { (t : BinaryTree) → IsRooted p.old.pool slot root t → steps.new.count ≤ steps.old.count + height t }
@@ -153,7 +153,7 @@ pub(crate) fn past_rank_in<T, O: NodeOrder<T>>(
     let (mut at, mut before) = (root, 0);
     while let Some(node) = at {
         let side = compare_sought(p, order, node, link.tag, sought, steps);
-        if is_past(side, sought.strict) {
+        if is_past(side, sought.is_upper) {
             at = link.back;
             link = link_ahead(p, slot, link.back);
         } else {
@@ -232,15 +232,15 @@ fn count_beside<T, O: NodeOrder<T>>(
         → steps.new.count ≤ steps.old.count + (height A + height B) }
 {
     let first = Sought {
-        strict: false,
+        is_upper: false,
         ..*sought
     };
     let last = Sought {
-        strict: true,
+        is_upper: true,
         ..*sought
     };
     let all = size(p, slot, *&back);
-    let before = past_rank_in(p, slot, order, back, &first, steps);
-    let behind = past_rank_in(p, slot, order, forth, &last, steps);
+    let before = bound_rank_in(p, slot, order, back, &first, steps);
+    let behind = bound_rank_in(p, slot, order, forth, &last, steps);
     all - before + 1 + behind
 }

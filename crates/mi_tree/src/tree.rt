@@ -12,7 +12,7 @@ ghost use Rattle.mi_tree.specs.Probed.{is_past_node, is_node_at, first_where};
 use crate::change::{put_in, take_out};
 use crate::compare::{Item, Sought, compare_item, compare_probe, probe_is_complete};
 use crate::keeping::{passes_none, passes_none_above, side_ahead};
-use crate::look::{count_in, is_past, nth_in, past_rank_in, rank_in};
+use crate::look::{bound_rank_in, count_in, is_past, nth_in, rank_in};
 use crate::order::NodeOrder;
 use crate::parts::size;
 use crate::walk::{Direction, Walk};
@@ -294,19 +294,19 @@ impl<O> Tree<O> {
         self.bound_rank(p, probe, true, steps)
     }
 
-    /// The first node that the probe isn't after, or with `strict` the first that it is before.
+    /// The first node that the probe isn't after, or with `is_upper` the first that it is before.
     fn bound<T>(
         &self,
         p: &mut Counted<T>,
         probe: Probe<'_>,
-        strict: bool,
+        is_upper: bool,
         steps: &mut Steps,
     ) -> Option<NodeRef>
     where
         O: NodeOrder<T>,
         requires { (rs : List Ref) × IsTree self.now p.old.pool (O.order self.now.order) (O.tag_of self.now.order) rs }
         ensures node { (rs : List Ref) → IsTree self.now p.old.pool (O.order self.now.order) (O.tag_of self.now.order) rs
-            → result ≡ first_where (is_past_node strict (λ v. O.place self.now.order v probe.entry) p.old.pool) rs }
+            → result ≡ first_where (is_past_node is_upper (λ v. O.place self.now.order v probe.entry) p.old.pool) rs }
         ensures pool { p.new.pool ≡ p.old.pool }
         ensures reads { (order : T → T → Side) (tag : T → ℕ) (rs : List Ref) → IsTree self.now p.old.pool order tag rs
             → (b : ℕ) → length rs < 2 ^ b → p.new.reads ≤ p.old.reads + 2 * b }
@@ -328,7 +328,7 @@ impl<O> Tree<O> {
                 decided,
                 steps,
             );
-            if is_past(side, strict) {
+            if is_past(side, is_upper) {
                 found = Some(node);
                 at = link.back;
             } else {
@@ -338,20 +338,20 @@ impl<O> Tree<O> {
         found
     }
 
-    /// How many nodes stand in front of the first that the probe isn't after, or with `strict` of the first that it is before; where
+    /// How many nodes stand in front of the first that the probe isn't after, or with `is_upper` of the first that it is before; where
     /// there is none, how many there are.
     fn bound_rank<T>(
         &self,
         p: &mut Counted<T>,
         probe: Probe<'_>,
-        strict: bool,
+        is_upper: bool,
         steps: &mut Steps,
     ) -> u32
     where
         O: NodeOrder<T>,
         requires { (rs : List Ref) × IsTree self.now p.old.pool (O.order self.now.order) (O.tag_of self.now.order) rs }
         ensures rank { (rs : List Ref) → IsTree self.now p.old.pool (O.order self.now.order) (O.tag_of self.now.order) rs
-            → result ≡ position_or_len (is_past_node strict (λ v. O.place self.now.order v probe.entry) p.old.pool) rs }
+            → result ≡ position_or_len (is_past_node is_upper (λ v. O.place self.now.order v probe.entry) p.old.pool) rs }
         ensures pool { p.new.pool ≡ p.old.pool }
         ensures reads { (order : T → T → Side) (tag : T → ℕ) (rs : List Ref) → IsTree self.now p.old.pool order tag rs
             → (b : ℕ) → length rs < 2 ^ b → p.new.reads ≤ p.old.reads + 2 * b }
@@ -363,9 +363,9 @@ impl<O> Tree<O> {
             probe,
             tag,
             decided: probe_is_complete::<T, O>(&self.order, tag),
-            strict,
+            is_upper,
         };
-        past_rank_in(p, self.slot, &self.order, self.root, &sought, steps)
+        bound_rank_in(p, self.slot, &self.order, self.root, &sought, steps)
     }
 
     /// How many nodes are at the probe, in one path down, which parts at the first of them that it comes to. At most 4b comparisons and
@@ -387,7 +387,7 @@ impl<O> Tree<O> {
             probe,
             tag,
             decided: probe_is_complete::<T, O>(&self.order, tag),
-            strict: false,
+            is_upper: false,
         };
         count_in(p, self.slot, &self.order, self.root, &sought, steps)
     }
@@ -474,15 +474,15 @@ impl<O> Tree<O> {
         Walk::start(p, self.slot, direction, self.root, passed)
     }
 
-    /// A walk from the place in front of the first node that isn't before the probe, or with `strict` of the first that is behind it:
+    /// A walk from the place in front of the first node that isn't before the probe, or with `is_upper` of the first that is behind it:
     /// up from that node on, or down from the one before it. At most 2b comparisons, and for k nodes 2k + 4b reads of links in all:
     /// at most 2b here, and 2k + 2b on the path.
-    pub fn walk_past<T>(
+    pub fn walk_from_bound<T>(
         &self,
         p: &mut Counted<T>,
         direction: Direction,
         probe: Probe<'_>,
-        strict: bool,
+        is_upper: bool,
         steps: &mut Steps,
     ) -> Walk
     where
@@ -490,7 +490,7 @@ impl<O> Tree<O> {
         requires { (rs : List Ref) × IsTree self.now p.old.pool (O.order self.now.order) (O.tag_of self.now.order) rs }
         ensures walk { (rs : List Ref) → IsTree self.now p.old.pool (O.order self.now.order) (O.tag_of self.now.order) rs
             → (levels : ℕ) × IsWalk result p.old.pool levels
-            (beyond_place direction (position_or_len (is_past_node strict (λ v. O.place self.now.order v probe.entry) p.old.pool) rs) rs)
+            (beyond_place direction (position_or_len (is_past_node is_upper (λ v. O.place self.now.order v probe.entry) p.old.pool) rs) rs)
             × ((b : ℕ) → length rs < 2 ^ b → levels ≤ 2 * b) }
         ensures pool { p.new.pool ≡ p.old.pool }
         ensures reads { (order : T → T → Side) (tag : T → ℕ) (rs : List Ref) → IsTree self.now p.old.pool order tag rs
@@ -498,14 +498,14 @@ impl<O> Tree<O> {
         ensures steps { (order : T → T → Side) (tag : T → ℕ) (rs : List Ref) → IsTree self.now p.old.pool order tag rs
             → (b : ℕ) → length rs < 2 ^ b → steps.new.count ≤ steps.old.count + 2 * b }
     {
-        Walk::start_past(
+        Walk::start_at_bound(
             p,
             self.slot,
             direction,
             &self.order,
             self.root,
             probe,
-            strict,
+            is_upper,
             steps,
         )
     }

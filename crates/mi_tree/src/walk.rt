@@ -96,26 +96,26 @@ impl Walk {
         }
     }
 
-    /// A walk under a root from the place in front of the first node that the probe isn't after, or with `strict` of the first that it
+    /// A walk under a root from the place in front of the first node that the probe isn't after, or with `is_upper` of the first that it
     /// is before.
-    pub(crate) fn start_past<T, O: NodeOrder<T>>(
+    pub(crate) fn start_at_bound<T, O: NodeOrder<T>>(
         p: &mut Counted<T>,
         slot: usize,
         direction: Direction,
         order: &O,
         root: Option<NodeRef>,
         probe: Probe<'_>,
-        strict: bool,
+        is_upper: bool,
         steps: &mut Steps,
     ) -> Walk
         requires slot { slot < p.old.pool.slots }
         requires tree { (levels : ℕ) × (t : BinaryTree) × Enters p.old.pool slot direction levels [] root [] t
             × AreTagged (O.tag_of order.now) p.old.pool slot (nodes t)
-            × IsSteady (is_past_node strict (λ v. O.place order.now v probe) p.old.pool) (nodes t) }
+            × IsSteady (is_past_node is_upper (λ v. O.place order.now v probe) p.old.pool) (nodes t) }
         ensures walk { (levels : ℕ) (t : BinaryTree) → Enters p.old.pool slot direction levels [] root [] t
-            → IsSteady (is_past_node strict (λ v. O.place order.now v probe.entry) p.old.pool) (nodes t)
+            → IsSteady (is_past_node is_upper (λ v. O.place order.now v probe.entry) p.old.pool) (nodes t)
             → IsWalk result p.old.pool levels
-            (beyond_place direction (position_or_len (is_past_node strict (λ v. O.place order.now v probe.entry) p.old.pool) (nodes t)) (nodes t)) }
+            (beyond_place direction (position_or_len (is_past_node is_upper (λ v. O.place order.now v probe.entry) p.old.pool) (nodes t)) (nodes t)) }
         ensures pool { p.new.pool ≡ p.old.pool }
         ensures reads { (t : BinaryTree) → IsRooted p.old.pool slot root t → p.new.reads ≤ p.old.reads + height t }
         ensures steps { (t : BinaryTree) → IsRooted p.old.pool slot root t → steps.new.count ≤ steps.old.count + height t }
@@ -126,7 +126,7 @@ impl Walk {
             probe,
             tag,
             decided: probe_is_complete::<T, O>(order, tag),
-            strict,
+            is_upper,
         };
         seek_down(p, slot, direction, order, root, &sought, &mut path, steps);
         Walk {
@@ -236,13 +236,13 @@ fn seek_down<T, O: NodeOrder<T>>(
     requires decided { sought.now.decided ≡ is_decided (O.is_exact order.now) sought.now.tag }
     requires way { (levels : ℕ) × (xs : List Pending) × (t : BinaryTree) × Enters p.old.pool slot direction levels path.old.items at xs t
         × AreTagged (O.tag_of order.now) p.old.pool slot (nodes t)
-        × IsSteady (is_past_node sought.now.strict (λ v. O.place order.now v sought.now.probe) p.old.pool) (nodes t) }
+        × IsSteady (is_past_node sought.now.is_upper (λ v. O.place order.now v sought.now.probe) p.old.pool) (nodes t) }
     ensures way { (levels : ℕ) (xs : List Pending) (t : BinaryTree) → Enters p.old.pool slot direction levels path.old.items at xs t
-        → IsSteady (is_past_node sought.now.strict (λ v. O.place order.now v sought.now.probe) p.old.pool) (nodes t)
+        → IsSteady (is_past_node sought.now.is_upper (λ v. O.place order.now v sought.now.probe) p.old.pool) (nodes t)
         → (ys : List Pending) × Goes p.old.pool slot direction levels path.new.items ys
         × (ahead direction ys ≡
         beyond_place direction
-        (position_or_len (is_past_node sought.now.strict (λ v. O.place order.now v sought.now.probe) p.old.pool) (nodes t)) (nodes t)
+        (position_or_len (is_past_node sought.now.is_upper (λ v. O.place order.now v sought.now.probe) p.old.pool) (nodes t)) (nodes t)
         ++ ahead direction xs) }
     ensures pool { p.new.pool ≡ p.old.pool }
     ensures reads { (t : BinaryTree) → IsRooted p.old.pool slot at t → p.new.reads ≤ p.old.reads + height t }
@@ -253,7 +253,7 @@ fn seek_down<T, O: NodeOrder<T>>(
     };
     let link = p.link(node, slot);
     let side = compare_sought(p, order, node, link.tag, sought, steps);
-    if is_past(side, sought.strict) {
+    if is_past(side, sought.is_upper) {
         push_if(path, node, direction.is_ascending());
         seek_down(p, slot, direction, order, link.back, sought, path, steps);
     } else {

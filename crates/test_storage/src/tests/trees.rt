@@ -177,10 +177,10 @@ fn assert_walks(rt: &impl Abort, stock: &Stock<'_>) {
 }
 
 fn assert_walks_past(rt: &impl Abort, stock: &Stock<'_>) {
-    for (direction, strict, ids) in &WALKS_PAST {
+    for (direction, is_upper, ids) in &WALKS_PAST {
         check_each(
             rt,
-            &stock.walk_past(*direction, 5, *strict),
+            &stock.walk_from_bound(*direction, 5, *is_upper),
             ids,
             "a walk past a key",
         );

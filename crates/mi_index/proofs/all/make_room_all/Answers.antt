@@ -11,7 +11,7 @@ loop-structure-init c = (λ r. begun nothing_asked grown r c.args.structures.now
 
 pub make_room-requires : goal.make_room-requires
 make_room-requires c =
-    let q = next_ready (c.loop-structure.invariant.0 (record { name = 0; mark = 0 })) c.structure-item.result c.loop-structure-test.true in
+    let q = next_ready (c.loop-structure.invariant.0 (record { name = 0; generation = 0 })) c.structure-item.result c.loop-structure-test.true in
     record { rs = q.rs; stands = q.stands; can = tt }
 
 pub loop-structure-preserved : goal.loop-structure-preserved
@@ -20,7 +20,7 @@ loop-structure-preserved c =
       λ r. stepped (l.invariant.0 r) c.structure-item.result growing_local c.loop-structure-test.true
           (c.make_room.ensures.step r l.structure-index) c.make_room.ensures.like,
       roomy_more l.structures l.structure-index c.make_room.new.self c.args.n
-          (within (l.invariant.0 (record { name = 0; mark = 0 })) c.loop-structure-test.true) l.invariant.1 c.in_ok-make_room.ensures.room,
+          (within (l.invariant.0 (record { name = 0; generation = 0 })) c.loop-structure-test.true) l.invariant.1 c.in_ok-make_room.ensures.room,
     )
 
 pub returns-in_err-make_room-clause-pass : goal.returns-in_err-make_room-clause-pass
@@ -32,7 +32,7 @@ returns-in_err-make_room-clause-pass c r =
 
 pub returns-in_err-make_room-clause-like : goal.returns-in_err-make_room-clause-like
 returns-in_err-make_room-clause-like c =
-    let l = c.loop-structure in let r : Ref = record { name = 0; mark = 0 } in
+    let l = c.loop-structure in let r : Ref = record { name = 0; generation = 0 } in
     let p = stepped (l.invariant.0 r) c.structure-item.result growing_local c.loop-structure-test.true (c.make_room.ensures.step r l.structure-index)
     c.make_room.ensures.like in
     (left_alone p (all_like _) (nothing_grown r _ _ _)).0
@@ -41,4 +41,4 @@ pub returns-clause-pass : goal.returns-clause-pass
 returns-clause-pass c r = (finished (c.loop-structure.invariant.0 r) growing_local c.loop-structure-test.false).1
 
 pub returns-clause-like : goal.returns-clause-like
-returns-clause-like c = (finished (c.loop-structure.invariant.0 (record { name = 0; mark = 0 })) growing_local c.loop-structure-test.false).0
+returns-clause-like c = (finished (c.loop-structure.invariant.0 (record { name = 0; generation = 0 })) growing_local c.loop-structure-test.false).0

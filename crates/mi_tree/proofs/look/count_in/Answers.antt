@@ -30,10 +30,10 @@ module _ (g : Over) (c : After-compare_sought g) where
   place = λ (x : g.row.T.Denot). g.O.NodeOrder.place c.args.order.now x c.args.sought.now.probe
 
   -- where the node stands beside both places
-  side_is : (strict : Bool) → c.link-link.new.self.pool ≡ c.args.p.now.pool
-      → is_past_node strict place c.args.p.now.pool c.in-Some.node ≡ past strict c.compare_sought.result
-  side_is strict same =
-      past_read strict place c.in-Some.node same (part_held c.loop-at.invariant.1 c.in-Some.is refl) c.compare_sought.ensures.result refl
+  side_is : (is_upper : Bool) → c.link-link.new.self.pool ≡ c.args.p.now.pool
+      → is_past_node is_upper place c.args.p.now.pool c.in-Some.node ≡ past is_upper c.compare_sought.result
+  side_is is_upper same =
+      past_read is_upper place c.in-Some.node same (part_held c.loop-at.invariant.1 c.in-Some.is refl) c.compare_sought.ensures.result refl
 
 pub loop-at-init : goal.loop-at-init
 loop-at-init g c = let v = c.args in let w = c.requires.tree in (refl, part_start w.0 w.1 w.2 w.3 w.4 w.5 v.p.now.reads v.steps.now.count)

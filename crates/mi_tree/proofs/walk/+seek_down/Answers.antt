@@ -27,11 +27,11 @@ module _ (g : Over) (t : ℕ) (c : In-Some g t) where
 module _ (g : Over) (t : ℕ) (c : After-is_past g t) where
   -- which nodes are past the probe
   abbrev passes : Ref → Bool
-  passes = is_past_node c.args.sought.now.strict (λ (x : g.row.T.Denot). g.O.NodeOrder.place c.args.order.now x c.args.sought.now.probe) c.args.p.now.pool
+  passes = is_past_node c.args.sought.now.is_upper (λ (x : g.row.T.Denot). g.O.NodeOrder.place c.args.order.now x c.args.sought.now.probe) c.args.p.now.pool
 
   -- the answer is that of the node
   answer_is : passes c.in-Some.node ≡ c.is_past.result
-  answer_is = past_read c.args.sought.now.strict (λ (x : g.row.T.Denot). g.O.NodeOrder.place c.args.order.now x c.args.sought.now.probe) c.in-Some.node
+  answer_is = past_read c.args.sought.now.is_upper (λ (x : g.row.T.Denot). g.O.NodeOrder.place c.args.order.now x c.args.sought.now.probe) c.in-Some.node
       c.link-link.ensures.pool (entered c.requires.way.3 c.in-Some.is c.link-link.ensures.link).held c.compare_sought-side.ensures.result c.is_past.ensures
 
 pub compare_sought-side-requires-clause-node : goal.compare_sought-side-requires-clause-node
@@ -56,16 +56,16 @@ module _ (g : Over) (t : ℕ) (c : After-is_past g t) where
 
   -- which nodes are past the probe, in the pool that was read
   abbrev passes_now : Ref → Bool
-  passes_now = is_past_node c.args.sought.now.strict place c.link-link.new.self.pool
+  passes_now = is_past_node c.args.sought.now.is_upper place c.link-link.new.self.pool
 
   passes_same : passes_now ≡ passes g t c
-  passes_same = ap (is_past_node c.args.sought.now.strict place) c.link-link.ensures.pool
+  passes_same = ap (is_past_node c.args.sought.now.is_upper place) c.link-link.ensures.pool
 
   -- what the path into a side asks, in that pool
   moved_on : (rs : List Ref) → AreTagged tag c.args.p.now.pool c.args.slot rs → IsSteady (passes g t c) rs
       → AreTagged tag c.link-link.new.self.pool c.args.slot rs × IsSteady passes_now rs
   moved_on rs tags up =
-      subst (λ (z : Pooled g.row.T.Denot). AreTagged tag z c.args.slot rs × IsSteady (is_past_node c.args.sought.now.strict place z) rs)
+      subst (λ (z : Pooled g.row.T.Denot). AreTagged tag z c.args.slot rs × IsSteady (is_past_node c.args.sought.now.is_upper place z) rs)
       (sym c.link-link.ensures.pool) (tags, up)
 
 pub seek_down-requires : goal.seek_down-requires

@@ -262,21 +262,21 @@ impl<'a> Stock<'a> {
         three_of(&self.pool, &mut read, &mut walk)
     }
 
-    /// The first three ids of a walk from the place of a key: in front of the nodes that have it, or with `strict` behind them.
-    pub(crate) fn walk_past(
+    /// The first three ids of a walk from the place of a key: in front of the nodes that have it, or with `is_upper` behind them.
+    pub(crate) fn walk_from_bound(
         &self,
         direction: Direction,
         key: i64,
-        strict: bool,
+        is_upper: bool,
     ) -> [Option<u32>; 3] {
         let mut read = Counted::new(&self.pool);
         let values = [Value::Int(key)];
         let mut steps = Steps::new();
-        let mut walk = self.tree.walk_past(
+        let mut walk = self.tree.walk_from_bound(
             &mut read,
             direction,
             Probe::Key(&values),
-            strict,
+            is_upper,
             &mut steps,
         );
         three_of(&self.pool, &mut read, &mut walk)

@@ -24,14 +24,14 @@ use Rattle.mi_node.specs.contracts.last_freed.LastFreed.new as f
 use Rattle.mi_node.proofs.last_freed.LastFreed.new.Statement.{statement}
 use Rattle.mi_node.proofs.last_freed.LastFreed.new.Code as code
 
-abbrev mark : Val
-mark = vstruct (vcons (vstruct vnil) vnil)
+abbrev generation : Val
+generation = vstruct (vcons (vstruct vnil) vnil)
 
 abbrev Mark : RattleType
 Mark = Struct (shape last_freed.the_type)
 
-mark_made : {M : Type 1} {𝓤 : Ura M} (𝓛 : Logic 𝓤) → ent 𝓤 (emp 𝓤) (sem 𝓛 (Mark.own_val (tt, tt) (mark ∷ [])))
-mark_made 𝓛 = makes_shadow 𝓛 (Mark.own_val (tt, tt) (mark ∷ []))
+mark_made : {M : Type 1} {𝓤 : Ura M} (𝓛 : Logic 𝓤) → ent 𝓤 (emp 𝓤) (sem 𝓛 (Mark.own_val (tt, tt) (generation ∷ [])))
+mark_made 𝓛 = makes_shadow 𝓛 (Mark.own_val (tt, tt) (generation ∷ []))
     (λ vss. (tt, ((λ uss. (tt, tt)), tt))) ((vstruct vnil ∷ [], tt), (refl, ((tt, (refl, tt)), tt)))
 
 pub new_spec : {M : Type 1} → statement M
@@ -43,6 +43,6 @@ new_spec 𝓤 𝓛 𝓜 𝓡 wired =
     qed 𝓛 ((‵ ftrue ⊛ ‵ ftrue) ∷ raw ((c κs a).requires gh) ∷ []) ∵ split ! $ keep ! (0 ∷ []) $
     enter ! 𝓣.C 𝓣.Λ code.function [] Post $ alloc_all ! (λ l. pass_all ! refl tt $
     sets ! (agg ! (no_more !)) refl (tt, tt) $ sets ! (agg ! (and_then ! (get ! refl) (no_more !))) refl (tt, (tt, tt)) $
-    nothing ! $ use0 𝓛 (‵ (Mark.own_val (tt, tt) (mark ∷ []))) (mark_made 𝓛) $ fjoin ! $
+    nothing ! $ use0 𝓛 (‵ (Mark.own_val (tt, tt) (generation ∷ []))) (mark_made 𝓛) $ fjoin ! $
     use0 𝓛 (raw (fact 𝓤 (new.marks ≡ empty))) (fact_i 𝓤 (new.marks ≡ empty) (emp 𝓤) refl) $ nothing ! $
-    returns ! (look_at ! 0 refl) $ free_all ! refl $ keep ! (3 ∷ 0 ∷ 2 ∷ 1 ∷ []) $ by ! (leaves 𝓛 f.ended hs c y mark new tt tt)))
+    returns ! (look_at ! 0 refl) $ free_all ! refl $ keep ! (3 ∷ 0 ∷ 2 ∷ 1 ∷ []) $ by ! (leaves 𝓛 f.ended hs c y generation new tt tt)))

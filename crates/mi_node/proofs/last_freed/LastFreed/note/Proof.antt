@@ -1,4 +1,4 @@
--- `note` does nothing, and keeps the mark. Assumes `Logic`.
+-- `note` does nothing, and keeps the generation. Assumes `Logic`.
 use Rattle.std.proofs.Common.{ℕ, ◌/◌, ◌%◌, [], ◌∷◌, refl}
 use Rattle.std.specs.FinMap.{insert}
 use base.Fml.{ftrue, flft}

@@ -3,4 +3,4 @@ use Rattle.mi_node.proofs.MapLemmas.{slot_seen}
 use Rattle.mi_node.proofs.pool.Pool.link.Goals as goal
 
 pub link-requires-clause-slot : goal.link-requires-clause-slot
-link-requires-clause-slot g c = slot_seen c.self.inside.places c.self.view_is c.requires.slot
+link-requires-clause-slot g c = slot_seen c.self.inside.storage c.self.view_is c.requires.slot

@@ -22,16 +22,16 @@ module _ (g : Over) (c : After-link-link g) where
 
 module _ (g : Over) (c : After-is_past g) where
   -- the answer is that of the node
-  answer_is : is_past_node c.args.strict (λ (x : g.row.T.Denot). g.O.NodeOrder.place c.args.self.now.order x c.args.probe) c.args.p.now.pool c.in-Some.node
+  answer_is : is_past_node c.args.is_upper (λ (x : g.row.T.Denot). g.O.NodeOrder.place c.args.self.now.order x c.args.probe) c.args.p.now.pool c.in-Some.node
       ≡ c.is_past.result
-  answer_is = past_read c.args.strict (λ (x : g.row.T.Denot). g.O.NodeOrder.place c.args.self.now.order x c.args.probe) c.in-Some.node
+  answer_is = past_read c.args.is_upper (λ (x : g.row.T.Denot). g.O.NodeOrder.place c.args.self.now.order x c.args.probe) c.in-Some.node
       (c.link-link.ensures.pool ∙ c.loop-at.invariant.0) (seek_held c.loop-at.invariant.1 c.in-Some.is refl) c.compare_probe-side.ensures.result
       c.is_past.ensures
 
 pub loop-at-init : goal.loop-at-init
 loop-at-init g c =
     let v = c.args in let o = v.self.now.order in
-    let w = seeks_root v.strict (λ (x : g.row.T.Denot). g.O.NodeOrder.place o x v.probe) (g.met.O.NodeOrder.monotone o v.probe) c.requires.1 in
+    let w = seeks_root v.is_upper (λ (x : g.row.T.Denot). g.O.NodeOrder.place o x v.probe) (g.met.O.NodeOrder.monotone o v.probe) c.requires.1 in
     (refl, seek_start w.0 w.1 w.2 w.3 v.p.now.reads v.steps.now.count)
 
 pub link-link-requires-clause-held : goal.link-link-requires-clause-held

@@ -6,7 +6,7 @@ use Rattle.mi_tree.proofs.tree.Tree.bound.Given as goal
 
 abbrev pub invariant-loop-at : goal.invariant-loop-at
 invariant-loop-at g l = (l.p.pool ≡ l.fn.p.pool)
-    × Seeking l.fn.p.pool l.self.slot (g.O.NodeOrder.tag_of l.self.order) (is_past_node l.strict (λ v. g.O.NodeOrder.place l.self.order v l.probe) l.fn.p.pool)
+    × Seeking l.fn.p.pool l.self.slot (g.O.NodeOrder.tag_of l.self.order) (is_past_node l.is_upper (λ v. g.O.NodeOrder.place l.self.order v l.probe) l.fn.p.pool)
     l.fn.self.root l.at l.found l.fn.p.reads l.p.reads l.fn.steps.count l.steps.count
 
 abbrev pub decreases-loop-at : goal.decreases-loop-at
