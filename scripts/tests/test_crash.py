@@ -184,9 +184,9 @@ class AgainstAStandIn(unittest.TestCase):
             status, said = self.ran(script, "", "--part", *words)
             self.assertEqual(status, 0, said)
 
-    def is_found(self, plant, script, part, why):
-        """Some plants show at times only, by how clients come and are killed: so one of twelve seeds is to find it."""
-        for seed in range(1, 13):
+    def is_found(self, plant, script, part, why, seeds=12):
+        """Some plants show at times only, by how clients come and are killed: so one of some seeds is to find it."""
+        for seed in range(1, seeds + 1):
             more = ("--rounds", "3", "--seed", str(seed)) if script is crash else ()
             status, said = self.ran(script, plant, "--part", part, *more)
             if status:
@@ -212,7 +212,8 @@ class AgainstAStandIn(unittest.TestCase):
 
     def test_faults_of_a_rebase_are_found(self):
         self.is_found("unordered", crash, "rebase", "the base's table (kept|side) isn't the reference's")
-        self.is_found("uncounted", crash, "rebase", "the base's table (kept|side) isn't the reference's")
+        # (it shows in a round in nine, where the newest record is gone as the base is made)
+        self.is_found("uncounted", crash, "rebase", "the base's table (kept|side) isn't the reference's", seeds=40)
         self.is_found("ripe", crash, "rebase-ledger", "the base's table (kept|side) isn't that in front of the oldest open block")
         self.is_found("trusting", crash, "bases", "a base with .*'journal: base: .*it listens|cut at byte .*'journal: base: .*it listens")
 

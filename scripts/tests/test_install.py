@@ -115,7 +115,7 @@ class Installed(unittest.TestCase):
         for name in ("words", "move_words"):
             with open(f"{TOP}/crates/mi_serving/src/{name}.rt", encoding="utf-8") as file:
                 listed |= {f"--{it}" for it in re.findall(r'arg\((?:option|number|flag)\(\s*alloc,\s*"([\w-]+)"', file.read())}
-        self.assertEqual(len(listed), 11)
+        self.assertEqual(len(listed), 12)
         with open(f"{self.root}/share/man/man1/mi_service.1", encoding="utf-8") as page, \
                 open(f"{self.root}/share/zsh/site-functions/_weltiyo", encoding="utf-8") as by_zsh:
             for text in (page.read().replace("\\-", "-"), by_zsh.read()):

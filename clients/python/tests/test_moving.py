@@ -187,7 +187,8 @@ class Moving(unittest.TestCase):
             self.refused(self.new, f"journal: locked: {self.journal}")
 
     def test_words_that_go_together(self):
-        usage = "usage: --listen or --unix; or --rebase, or --rebase-to with --new-schema; rebases, --sync and --segment-bytes need --journal; --sync is always, turn or never\n"
+        usage = ("usage: --listen or --unix; or --rebase, or --rebase-to with --new-schema; rebases, --sync and --segment-bytes need --journal; "
+                 "--sync is always, turn or never\n")
         to = ["--rebase-to", self.target, "--new-schema", self.new]
         journal = ["--journal", self.journal]
         for words in (to, [*journal, *to[:2]], [*journal, *to[2:]], [*journal, *to, "--rebase"], [*journal, *to, "--listen", "0"]):

@@ -135,7 +135,8 @@ class Paths(unittest.TestCase):
             self.assertEqual(stat.S_IMODE(os.stat(path).st_mode), rights)
 
     def test_neither_is_asked_for(self):
-        said = "usage: --listen or --unix; or --rebase, or --rebase-to with --new-schema; rebases, --sync and --segment-bytes need --journal; --sync is always, turn or never\n"
+        said = ("usage: --listen or --unix; or --rebase, or --rebase-to with --new-schema; rebases, --sync and --segment-bytes need --journal; "
+                "--sync is always, turn or never\n")
         for words in ([], ["--sync", "never"], ["--unix", self.path, "--sync", "never"]):
             self.assertEqual(self.ended(*words), (2, "", said))
         self.assertFalse(os.path.exists(self.path))
