@@ -212,7 +212,7 @@ class AgainstAStandIn(unittest.TestCase):
 
     def test_faults_of_a_rebase_are_found(self):
         self.is_found("unordered", crash, "rebase", "the base's table (kept|side) isn't the reference's")
-        # (it shows in a round in nine, where the newest record is gone as the base is made)
+        # (it shows by some two seeds in eighteen: the newest record is to be gone as the base is made)
         self.is_found("uncounted", crash, "rebase", "the base's table (kept|side) isn't the reference's", seeds=40)
         self.is_found("ripe", crash, "rebase-ledger", "the base's table (kept|side) isn't that in front of the oldest open block")
         self.is_found("trusting", crash, "bases", "a base with .*'journal: base: .*it listens|cut at byte .*'journal: base: .*it listens")
