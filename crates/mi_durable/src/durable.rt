@@ -85,6 +85,14 @@ impl<D: Sessions + Drop, L: Log + Drop> Durable<D, L> {
         &self.hub
     }
 
+    /// The hub and the log.
+    pub fn into_parts(self) -> (Hub<D>, L)
+        ensures hub { result.0 ≡ hub_of self }
+        ensures log { result.1 ≡ log_of self }
+    {
+        (self.hub, self.log)
+    }
+
     /// What the journal is appended to.
     pub fn log(&self) -> &L
         ensures { result.now ≡ log_of self.now }

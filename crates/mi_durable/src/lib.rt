@@ -12,4 +12,4 @@ pub use durable::{Admitted, Durable, is_holder};
 pub use fault::DurableFault;
 pub use replaying::{LineFault, REPLAYER, ReplayFault, replay, replay_line};
 pub use replies::HeldReplies;
-pub use room::{CHANGE_ROOM, SHORT_UNDO};
+pub use room::{CHANGE_ROOM, SHORT_UNDO, waits_for_room};

@@ -26,7 +26,7 @@ fn undoes_some(request: &Request<'_>, depth: u64) -> bool
 
 /// Whether a line of this text waits for room, where so many sessions are open. A change does, but for a short undo of a session that is open.
 /// An error where memory for reading it is refused.
-pub(crate) fn waits_for_room(alloc: Global, text: &[u8], depth: u64) -> Result<bool, AllocError>
+pub fn waits_for_room(alloc: Global, text: &[u8], depth: u64) -> Result<bool, AllocError>
     ensures { IfOk result (λ waits. waits ≡ spec.waits_for_room depth text.now) }
 {
     if text.len() > MAX_LINE {

@@ -71,6 +71,13 @@ impl<D: Sessions + Drop> Hub<D> {
         }
     }
 
+    /// What is served, with who holds its open sessions. The connections go.
+    pub fn into_executor(self) -> Executor<D>
+        ensures { result ≡ self.held }
+    {
+        self.executor
+    }
+
     /// What is served.
     pub fn database(&self) -> &D
         ensures { D.state result.now ≡ self.now.held.database }

@@ -23,7 +23,7 @@ mod text_hash;
 
 pub use asking::{Asked, Newest, ask_journal, attach_replayer, claim_newest, start_place};
 pub use beginning::{next_segment, sync};
-pub use claim::check_name;
+pub use claim::{check_name, claimed};
 pub use device::{JournalDevice, Keeping};
 pub use digest::fingerprint;
 pub use fault::{JournalFailure, JournalFault};
