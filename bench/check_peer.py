@@ -3,8 +3,8 @@
 
     check_peer.py [--seed N] [--cases N]
 
-Lines that are malformed or that a peer doesn't serve are left out: it is measured on good ones. The Boost peer serves all commands of a
-connection but `push` and `revision`, SQLite's those of the workloads. Each form of a look-up that a workload has must be among the compared ones."""
+Lines that are malformed or that a peer doesn't serve are left out: it is measured on good ones. The Boost peer serves `SERVED_BY_BOOST`,
+SQLite's the commands of the workloads. Each form of a look-up that a workload has must be among the compared ones."""
 import argparse
 import collections
 import json
@@ -18,8 +18,10 @@ from stress.fuzz import ACCOUNTS, Lines  # noqa: E402
 from reference import Reference  # noqa: E402
 
 LINES = 300
-NOT_SERVED = {"push", "revision", "reserve", "fly"}
-NOT_BY_SQLITE = {"commit", "erase_key", "lower_rank", "upper_rank"}
+SERVED_BY_BOOST = frozenset(
+    "insert replace modify erase erase_key relocate start undo squash commit undo_all get find nth count range list rank lower_rank upper_rank size".split()
+)
+SERVED_BY_SQLITE = SERVED_BY_BOOST - {"commit", "erase_key", "lower_rank", "upper_rank"}
 COMPARED = {"id", "unique", "range", "session", "depth"}
 """The refusals of good lines."""
 FORMS = [
@@ -30,7 +32,7 @@ FORMS = [
 
 
 def served_by_boost(said):
-    return said["cmd"] not in NOT_SERVED
+    return said["cmd"] in SERVED_BY_BOOST
 
 
 def served_by_sqlite(said):
@@ -42,7 +44,7 @@ def served_by_sqlite(said):
         return index in ("by_owner", "by_balance")
     if cmd in ("rank", "nth"):
         return index == "by_balance"
-    return cmd not in NOT_SERVED | NOT_BY_SQLITE and not (cmd == "insert" and said.get("before"))
+    return cmd in SERVED_BY_SQLITE and not (cmd == "insert" and said.get("before"))
 
 
 PEERS = {"Boost": ("boost_peer", served_by_boost), "SQLite": ("sqlite_peer", served_by_sqlite)}

@@ -9,13 +9,13 @@
 
 It needs Python 3.9 and nothing else. The tools over it are the package `mi_tools`.
 """
-from mi_client.calls import Page, Revision
 from mi_client.database import Database
 from mi_client.embedded import Embedded
 from mi_client.errors import Ended, NeedsSchema, Refused, TooManyEqual
 from mi_client.members import connect_leader
 from mi_client.pipeline import Answer, Pipeline
 from mi_client.plans import Window
+from mi_client.request import Page, Revision
 from mi_client.schema import Schema
 from mi_client.server import Server
 

@@ -8,39 +8,31 @@ import collections
 import contextlib
 import contextvars
 import os
-from typing import TYPE_CHECKING, Any, AsyncIterator, Awaitable, Callable, Deque, Iterable, List, Optional, Tuple, TypeVar, Union
+from typing import Any, AsyncIterator, Callable, Deque, Iterable, List, Optional, Tuple, TypeVar, Union
 
 from mi_client import calls
 from mi_client.aio_opening import opened
 from mi_client.aio_walks import AwaitedWalks
 from mi_client.atomic import Together
-from mi_client.calls import Request
+from mi_client.calls import Commands
 from mi_client.database import AnySchema, schema_of
-from mi_client.dialect import ASKS_SCHEMA, Dialect, sent_by
+from mi_client.dialect import ASKS_SCHEMA, Dialect
 from mi_client.errors import Ended, Refused
 from mi_client.listening import Where, acknowledging
 from mi_client.old_forms import Openness
 from mi_client.pipeline import WINDOW
 from mi_client.places import Places
+from mi_client.request import Request
 from mi_client.schema import Schema
 
 T = TypeVar("T")
-
-if TYPE_CHECKING:
-    from typing_extensions import Concatenate, ParamSpec
-
-    P = ParamSpec("P")
-
-    def awaited(build: Callable[P, Request[T]]) -> Callable[Concatenate[Any, P], Awaitable[T]]: ...
-else:
-    awaited = sent_by("send")
 
 CHUNK = 1 << 18
 _within: contextvars.ContextVar[Tuple[object, ...]] = contextvars.ContextVar("within", default=())
 """The blocks of sessions that a task is in, of all connections."""
 
 
-class AsyncDatabase(AwaitedWalks):
+class AsyncDatabase(AwaitedWalks, Commands):
     """A connection. Close it, or use it in an `async with`: what it holds is then undone by the server."""
 
     def __init__(
@@ -365,32 +357,3 @@ class AsyncDatabase(AwaitedWalks):
     async def _step(self, block: object, request: Request[T]) -> T:
         """The answer to a request by which a block begins or ends."""
         return self._dialect.read(request, await self._exchange(request.line(), block))
-
-    ask = awaited(calls.ask)
-
-    insert = awaited(calls.insert)
-    replace = awaited(calls.replace)
-    modify = awaited(calls.modify)
-    erase = awaited(calls.erase)
-    erase_key = awaited(calls.erase_key)
-    relocate = awaited(calls.relocate)
-
-    begin = awaited(calls.begin)
-    undo = awaited(calls.undo)
-    squash = awaited(calls.squash)
-    commit = awaited(calls.commit)
-    undo_all = awaited(calls.undo_all)
-    push = awaited(calls.push)
-    reserve = awaited(calls.reserve)
-    revision = awaited(calls.revision)
-
-    get = awaited(calls.get)
-    find = awaited(calls.find)
-    nth = awaited(calls.nth)
-    count = awaited(calls.count)
-    rank = awaited(calls.rank)
-    lower_rank = awaited(calls.lower_rank)
-    upper_rank = awaited(calls.upper_rank)
-    size = awaited(calls.size)
-    range = awaited(calls.range)
-    list = awaited(calls.list_)

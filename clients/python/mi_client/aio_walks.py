@@ -6,9 +6,9 @@ import asyncio
 from typing import Any, AsyncIterator, List, Optional, Sequence, TypeVar
 
 from mi_client import plans
-from mi_client.calls import MOST_ROWS, Bound, Key, Request, Row
 from mi_client.errors import Refused
 from mi_client.plans import Batch, Plan, Window
+from mi_client.request import MOST_ROWS, Bound, Key, Request, Row
 from mi_client.schema import Schema
 
 T = TypeVar("T")

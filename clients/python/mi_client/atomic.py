@@ -5,10 +5,10 @@ import json
 from typing import Any, Dict, Generator, Iterable, List
 
 from mi_client import calls
-from mi_client.calls import Request
 from mi_client.commands import CHANGES, SESSION_STEPS
 from mi_client.dialect import REFUSAL, Dialect
 from mi_client.errors import Ended
+from mi_client.request import Request
 
 PIECE = 4000
 """Bytes that a server reads of a connection at one go, and answers with no other connection's in between. (It reads 4,096; empty lines that it

@@ -1,73 +1,12 @@
-"""The commands and refusals: their members, their replies, and a line on each; and which replies are those of a change."""
+"""What the table of commands says of each kind of command; refusals; and which replies are those of a change."""
 from __future__ import annotations
 
-from typing import List, NamedTuple
+from mi_client.calls import CHANGE, LOOK_UP, STEP
+from mi_client.calls import COMMANDS as COMMANDS
 
-
-class Command(NamedTuple):
-    name: str
-    members: List[str]
-    """The needed members, and those in square brackets that may be left out."""
-    reply: str
-    about: str
-    example: str
-
-
-TABLE = "[table]"
-
-COMMANDS = {
-    it.name: it
-    for it in [
-        Command("insert", ["row", "[before]", TABLE], '{"id":N,"ok":true}', "adds a record",
-                'insert row={"owner":"ann","balance":50,"vip":false}'),
-        Command("replace", ["id", "row", TABLE], '{"ok":true}', "sets another record for an id",
-                'replace id=0 row={"owner":"ann","balance":7,"vip":true}'),
-        Command("modify", ["id", "[set]", "[add]", "[rollback]", TABLE], '{"ok":true}',
-                "sets columns and adds to int columns; refused as unique it erases the record, unless rollback=true",
-                'modify id=0 add={"balance":-5}'),
-        Command("erase", ["id", TABLE], '{"ok":true}', "erases a record", "erase id=0"),
-        Command("erase_key", ["index", "key", TABLE], '{"erased":N,"ok":true}', "erases every record with a whole key",
-                "erase_key index=by_vip key=[true]"),
-        Command("relocate", ["index", "id", "[before]", TABLE], '{"ok":true}',
-                "moves a record of a sequenced index before another, or to the end", "relocate index=line id=2 before=0"),
-        Command("start", [], '{"ok":true,"revision":N}', "opens a session", "start"),
-        Command("undo", [], '{"ok":true,"revision":N}', "takes back everything since the newest start", "undo"),
-        Command("squash", [], '{"ok":true,"revision":N}', "joins the newest session into the one below", "squash"),
-        Command("commit", ["revision"], '{"committed":N,"ok":true}', "ends the sessions up to a number for good", "commit revision=1"),
-        Command("undo_all", [], '{"ok":true,"undone":N}', "undoes every open session", "undo_all"),
-        Command("push", [], '{"ok":true,"pushed":N}', "lets go of the sessions that this connection holds", "push"),
-        Command("reserve", ["changes", "sessions"], '{"ok":true}', "asks room for so many changes inside sessions, and so many starts",
-                "reserve changes=10 sessions=1"),
-        Command("get", ["id", TABLE], '{"ok":true,"row":{..}}', "the record of an id", "get id=0"),
-        Command("find", ["index", "key", TABLE], '{"ok":true,"row":{..}}', "the first record with a key",
-                'find index=by_owner key=["ann"]'),
-        Command("nth", ["index", "n", TABLE], '{"ok":true,"row":{..}}', "the record with n others before it in a ranked index",
-                "nth index=by_balance n=0"),
-        Command("count", ["index", "key", TABLE], '{"count":N,"ok":true}', "how many records have a key", "count index=by_vip key=[true]"),
-        Command("range", ["index", "[lower]", "[upper]", "[reverse]", "[limit]", TABLE], '{"more":B,"ok":true,"rows":[..]}',
-                "the records between two bounds, in the order of an index",
-                'range index=by_balance lower={"ge":[10]} limit=5'),
-        Command("list", ["index", "[after]", "[limit]", TABLE], '{"more":B,"ok":true,"rows":[..]}',
-                "the records of a sequenced index", "list index=line"),
-        Command("rank", ["index", "id", TABLE], '{"ok":true,"rank":N}', "how many records stand before a record in a ranked index",
-                "rank index=by_balance id=0"),
-        Command("lower_rank", ["index", "key", TABLE], '{"ok":true,"rank":N}', "how many keys of a ranked index are less",
-                "lower_rank index=by_balance key=[10]"),
-        Command("upper_rank", ["index", "key", TABLE], '{"ok":true,"rank":N}', "how many keys of a ranked index are not greater",
-                "upper_rank index=by_balance key=[10]"),
-        Command("size", [TABLE], '{"ok":true,"size":N}', "how many records the table has", "size"),
-        Command("revision", [], '{"depth":N,"held":N,"ok":true,"revision":N}',
-                "the revision, the open sessions, and those that this connection holds", "revision"),
-    ]
-}
-"""Each command by its name."""
-
-CHANGES = frozenset({"insert", "replace", "modify", "erase", "erase_key", "relocate"})
-"""Commands that change records."""
-SESSION_STEPS = frozenset({"start", "undo", "squash", "commit", "undo_all", "push"})
-"""Commands that begin sessions, end them or let go of them."""
-LOOK_UPS = frozenset({"get", "find", "nth", "count", "range", "list", "rank", "lower_rank", "upper_rank", "size", "revision"})
-"""Commands that change nothing and that nobody's sessions keep out. `reserve` is none of the three: it changes nothing, and is kept out."""
+CHANGES, SESSION_STEPS, LOOK_UPS = (frozenset(it.name for it in COMMANDS.values() if it.effect == effect) for effect in (CHANGE, STEP, LOOK_UP))
+"""Commands that change records; those that begin sessions, end them or let go of them; and those that change nothing and that nobody's sessions
+keep out. `reserve` is none of the three: it changes nothing, and is kept out."""
 
 MAY_CHANGE = tuple(
     b'{"id": {"ok":true} {"erased": {"ok":true,"revision": {"committed": {"ok":true,"undone": {"ok":true,"pushed":'.split(b" ")

@@ -11,13 +11,13 @@ import warnings
 import weakref
 from typing import Any, Iterable, Iterator, List, Optional, Sequence, Type, TypeVar, Union
 
-from mi_client.calls import Request
 from mi_client.channel import Channel
 from mi_client.dialect import ASKS_SCHEMA, Dialect
 from mi_client.errors import Ended
 from mi_client.listening import NOBODY, Where, nobody, stream_to
 from mi_client.old_forms import Openness
 from mi_client.pipeline import WINDOW, LinesAhead, Pipeline
+from mi_client.request import Request
 from mi_client.schema import Schema
 from mi_client.walks import Walks
 

@@ -2,23 +2,16 @@
 one; it reads and writes nothing."""
 from __future__ import annotations
 
-import functools
-import inspect
 import json
-from typing import TYPE_CHECKING, Any, Callable, Dict, Mapping, Optional, TypeVar, Union
+from typing import Any, Dict, Mapping, Optional, TypeVar, Union
 
 from mi_client import explain
-from mi_client.calls import Alone, Request, Values
 from mi_client.commands import SESSION_STEPS
 from mi_client.errors import NeedsSchema, Refused
+from mi_client.request import Alone, Request, Values
 from mi_client.schema import SCHEMA_LINE, Schema
 
-if TYPE_CHECKING:
-    from typing_extensions import Concatenate, ParamSpec
-
-    P = ParamSpec("P")
 T = TypeVar("T")
-A = TypeVar("A")
 
 _decode = json.JSONDecoder().raw_decode
 """(a reply is one JSON object and nothing else)"""
@@ -82,19 +75,3 @@ class Dialect:
 
     def refusal(self, members: Mapping[str, Any], reply: Dict[str, Any], change: Optional[int] = None) -> Refused:
         return Refused(reply, explain.why(self.schema, members, reply["error"]), change)
-
-
-def sent_by(method: str) -> Callable[[Callable[P, Request[T]]], Callable[Concatenate[Any, P], Any]]:
-    """Makes the methods of a connection from the calls of `calls.py`: the request is handed to the method of this name."""
-
-    def of(build: Callable[P, Request[T]]) -> Callable[Concatenate[Any, P], Any]:
-        @functools.wraps(build)
-        def call(self: Any, /, *args: P.args, **members: P.kwargs) -> Any:
-            return getattr(self, method)(build(*args, **members))
-
-        made = inspect.signature(build)
-        first = inspect.Parameter("self", inspect.Parameter.POSITIONAL_ONLY)
-        call.__signature__ = made.replace(parameters=[first, *made.parameters.values()])  # type: ignore[attr-defined]
-        return call
-
-    return of

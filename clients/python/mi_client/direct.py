@@ -2,29 +2,21 @@
 from __future__ import annotations
 
 import contextlib
-from typing import TYPE_CHECKING, Any, Callable, Iterable, Iterator, List, Optional, TypeVar
+from typing import Any, Callable, Iterable, Iterator, List, Optional, TypeVar
 
 from mi_client import calls
 from mi_client.atomic import Together
-from mi_client.calls import Request
-from mi_client.dialect import Dialect, sent_by
+from mi_client.calls import Commands
+from mi_client.dialect import Dialect
 from mi_client.errors import Ended, Refused
 from mi_client.old_forms import Openness
+from mi_client.request import Request
 
 T = TypeVar("T")
 
-if TYPE_CHECKING:
-    from typing_extensions import Concatenate, ParamSpec
 
-    P = ParamSpec("P")
-
-    def asked(build: Callable[P, Request[T]]) -> Callable[Concatenate[Any, P], T]: ...
-else:
-    asked = sent_by("send")
-
-
-class Calls:
-    """The commands, by their names; `start` is `begin`, since `Database.start` starts a server of its own."""
+class Calls(Commands):
+    """The commands, each of which waits for its reply, and blocks of sessions."""
 
     _dialect: Dialect
     _blocks: List[object]
@@ -54,35 +46,6 @@ class Calls:
     def is_open(self) -> Openness:
         """Whether commands can be asked."""
         raise NotImplementedError
-
-    ask = asked(calls.ask)
-
-    insert = asked(calls.insert)
-    replace = asked(calls.replace)
-    modify = asked(calls.modify)
-    erase = asked(calls.erase)
-    erase_key = asked(calls.erase_key)
-    relocate = asked(calls.relocate)
-
-    begin = asked(calls.begin)
-    undo = asked(calls.undo)
-    squash = asked(calls.squash)
-    commit = asked(calls.commit)
-    undo_all = asked(calls.undo_all)
-    push = asked(calls.push)
-    reserve = asked(calls.reserve)
-    revision = asked(calls.revision)
-
-    get = asked(calls.get)
-    find = asked(calls.find)
-    nth = asked(calls.nth)
-    count = asked(calls.count)
-    rank = asked(calls.rank)
-    lower_rank = asked(calls.lower_rank)
-    upper_rank = asked(calls.upper_rank)
-    size = asked(calls.size)
-    range = asked(calls.range)
-    list = asked(calls.list_)
 
     @contextlib.contextmanager
     def session(self) -> Iterator[int]:

@@ -18,12 +18,12 @@ import warnings
 from typing import Any, Callable, Deque, Dict, Iterator, List, Optional, Set, Tuple, Union
 
 from mi_client import calls, embedded_cursors, embedded_values
-from mi_client.calls import LONGEST_LINE, Key, Request, Row
 from mi_client.channel import Channel
 from mi_client.database import Database
 from mi_client.embedded_cursors import Cursors
 from mi_client.embedded_values import ABSENT, Values
 from mi_client.errors import Ended
+from mi_client.request import LONGEST_LINE, Key, Request, Row
 from mi_client.schema import Schema
 
 Path = Union[str, "os.PathLike[str]"]

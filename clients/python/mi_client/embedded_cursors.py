@@ -12,10 +12,10 @@ import ctypes
 from typing import Any, Callable, Iterator, Optional, Sequence, Tuple, Union
 
 from mi_client import calls
-from mi_client.calls import Bound, Key, Page, Request, Row
 from mi_client.database import Database
 from mi_client.embedded_values import ABSENT, ROW_TEXTS, TEXT, TRUE, UNFIT, Rows, Told, Values
 from mi_client.errors import NeedsSchema, Refused
+from mi_client.request import Bound, Key, Page, Request, Row
 
 END = 20
 """The status where no row is left."""

@@ -7,7 +7,7 @@ import operator
 import struct
 from typing import Any, Callable, Dict, List, Optional, Sequence, Tuple, Union
 
-from mi_client.calls import Row
+from mi_client.request import Row
 from mi_client.schema import Schema, Table
 
 TEXT, FALSE, TRUE = 1, 2, 3

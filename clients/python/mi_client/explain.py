@@ -2,28 +2,14 @@
 this only looks for the place, after the refusal, so that accepted commands cost nothing more."""
 from __future__ import annotations
 
+import collections
 import json
-
 from typing import Any, Callable, Dict, Iterator, List, Mapping, Optional, Sequence, Tuple
 
 from mi_client.commands import COMMANDS, REFUSALS
 from mi_client.schema import Column, Index, Schema, Table
 
 LONGEST_TEXT = 1024
-KINDS = {
-    "find": ("ordered", "ranked", "hashed"),
-    "count": ("ordered", "ranked", "hashed"),
-    "erase_key": ("ordered", "ranked", "hashed"),
-    "range": ("ordered", "ranked"),
-    "lower_rank": ("ranked",),
-    "upper_rank": ("ranked",),
-    "rank": ("ranked",),
-    "nth": ("ranked",),
-    "relocate": ("sequenced",),
-    "list": ("sequenced",),
-    "insert": ("sequenced",),
-}
-"""The kinds of index that each command is for; `insert` by its member `before`."""
 
 
 def why(schema: Optional[Schema], members: Mapping[str, Any], word: str) -> str:
@@ -37,6 +23,11 @@ def why(schema: Optional[Schema], members: Mapping[str, Any], word: str) -> str:
     elif schema:
         said = _by_schema(schema, members, word)
     return said or ("" if word == "unique" else REFUSALS.get(word, ("",))[0])
+
+
+def kinds_for(cmd: str) -> Tuple[str, ...]:
+    """The kinds of index that a command is for; of `insert` those of its member `before`."""
+    return COMMANDS[cmd].kinds if cmd in COMMANDS else ()
 
 
 def _by_schema(schema: Schema, members: Mapping[str, Any], word: str) -> str:
@@ -55,14 +46,11 @@ def _by_schema(schema: Schema, members: Mapping[str, Any], word: str) -> str:
 def _missing(members: Mapping[str, Any]) -> str:
     """Which record isn't there."""
     cmd, before = members["cmd"], members.get("before")
-    if cmd == "find":
-        return f"no record has the key {json.dumps(members['key'], ensure_ascii=False)} in {members['index']}"
-    if cmd == "nth":
-        return f"no record stands at place {members['n']} of {members['index']}"
     if cmd == "insert":
         return f"there is no record {before['id']}" if before else ""
-    if cmd == "list":
-        return f"there is no record {members.get('after')}"
+    if cmd in COMMANDS and COMMANDS[cmd].absent:
+        said = {name: it if isinstance(it, str) else json.dumps(it, ensure_ascii=False) for name, it in members.items()}
+        return COMMANDS[cmd].absent.format_map(collections.defaultdict(lambda: "None", said))
     other = f", or none {before}" if before is not None else ""
     return f"there is no record {members.get('id')}{other}"
 
@@ -185,7 +173,7 @@ def _of_index(table: Table, members: Mapping[str, Any], word: str) -> str:
     if index is None:
         return f"{table.name} has no index {name}; indexes are {_listed([it.name for it in table.indexes])}"
     if word == "kind":
-        kinds = KINDS.get(members["cmd"], ())
+        kinds = kinds_for(members["cmd"])
         fit = [it.name for it in table.indexes if it.kind in kinds]
         return f"{index.name} is {index.kind}, and {members['cmd']} is for {' or '.join(kinds)} ones: {_listed(fit)}"
     if word == "key":

@@ -3,23 +3,14 @@ every wait both writes and reads, so neither side can stand still for the other,
 from __future__ import annotations
 
 import collections
-from typing import TYPE_CHECKING, Any, Callable, Deque, Dict, Generic, Iterable, Iterator, List, Optional, Tuple, TypeVar
+from typing import Any, Callable, Deque, Dict, Generic, Iterable, Iterator, List, Optional, Tuple, TypeVar
 
-from mi_client import calls
-from mi_client.calls import Request
-from mi_client.dialect import REFUSAL, Dialect, sent_by
+from mi_client.calls import Commands
+from mi_client.dialect import REFUSAL, Dialect
 from mi_client.errors import Refused
+from mi_client.request import Request
 
 T = TypeVar("T")
-
-if TYPE_CHECKING:
-    from typing_extensions import Concatenate, ParamSpec
-
-    P = ParamSpec("P")
-
-    def sent(build: Callable[P, Request[T]]) -> Callable[Concatenate[Any, P], Answer[T]]: ...
-else:
-    sent = sent_by("send")
 
 WINDOW = 1024
 """How many replies are awaited at most, where the caller doesn't say."""
@@ -119,7 +110,7 @@ class Answer(Generic[T]):
         return self._pipeline.dialect.read(self._request, self._reply)
 
 
-class Pipeline:
+class Pipeline(Commands):
     """The calls of a connection, each of which answers at once with an `Answer`. At the end of the block all have been
     answered, and the first refusal that nobody has looked at is raised. For one thread: others that share the connection wait
     until the block has ended."""
@@ -200,32 +191,3 @@ class Pipeline:
             answer._reply = reply
             if reply.startswith(REFUSAL):
                 self._unseen[answer] = None
-
-    ask = sent(calls.ask)
-
-    insert = sent(calls.insert)
-    replace = sent(calls.replace)
-    modify = sent(calls.modify)
-    erase = sent(calls.erase)
-    erase_key = sent(calls.erase_key)
-    relocate = sent(calls.relocate)
-
-    begin = sent(calls.begin)
-    undo = sent(calls.undo)
-    squash = sent(calls.squash)
-    commit = sent(calls.commit)
-    undo_all = sent(calls.undo_all)
-    push = sent(calls.push)
-    reserve = sent(calls.reserve)
-    revision = sent(calls.revision)
-
-    get = sent(calls.get)
-    find = sent(calls.find)
-    nth = sent(calls.nth)
-    count = sent(calls.count)
-    rank = sent(calls.rank)
-    lower_rank = sent(calls.lower_rank)
-    upper_rank = sent(calls.upper_rank)
-    size = sent(calls.size)
-    range = sent(calls.range)
-    list = sent(calls.list_)

@@ -6,9 +6,9 @@ from __future__ import annotations
 from typing import Any, Dict, Generator, List, Mapping, NamedTuple, Optional, Sequence, Set, TypeVar, Union
 
 from mi_client import calls
-from mi_client.calls import Bound, Key, Page, Request, Row
 from mi_client.errors import NeedsSchema, Refused, TooManyEqual
 from mi_client.explain import which_index_goes_on
+from mi_client.request import Bound, Key, Page, Request, Row
 from mi_client.schema import Index, Schema, Table
 
 R = TypeVar("R")

@@ -8,7 +8,7 @@ from dataclasses import dataclass
 from typing import Any, Dict, List, Mapping, Optional, Sequence, Tuple, Union
 
 from mi_client import toml_places
-from mi_client.calls import Alone, Values
+from mi_client.request import Alone, Values
 
 SCHEMA_LINE = '{"service":"schema"}'
 """The line that a service answers with the text of its schema."""

@@ -6,10 +6,10 @@ import contextlib
 from typing import Any, Iterator, List, Optional, Sequence, TypeVar
 
 from mi_client import plans
-from mi_client.calls import MOST_ROWS, Bound, Key, Row
 from mi_client.direct import Calls
 from mi_client.pipeline import WINDOW, Answer, Pipeline
 from mi_client.plans import Batch, Plan, Window
+from mi_client.request import MOST_ROWS, Bound, Key, Row
 from mi_client.schema import Schema
 
 R = TypeVar("R")

@@ -6,12 +6,11 @@ import json
 import re
 from typing import Any, List, Optional, Tuple
 
+from mi_client.commands import COMMANDS, LOOK_UPS as LOOK_UPS
+
 LONGEST_LINE = 65_536
 UNDO = b'{"cmd":"undo"}\n'
 REVISION = b'{"cmd":"revision"}\n'
-LOOK_UPS = frozenset("get find nth count range list rank lower_rank upper_rank size revision".split())
-CHANGES = frozenset("insert replace modify erase erase_key relocate start undo squash commit undo_all push reserve".split())
-"""What a server answers `busy` to while another connection holds sessions."""
 
 JSON = b'{"error":"json","ok":false}'
 FORM = b'{"error":"form","ok":false}'
@@ -33,7 +32,7 @@ def command(line: bytes) -> Tuple[Optional[str], bytes]:
     except (ValueError, RecursionError):
         return None, JSON
     name = found.get("cmd") if isinstance(found, dict) else None
-    if not isinstance(name, str) or name not in LOOK_UPS and name not in CHANGES:
+    if not isinstance(name, str) or name not in COMMANDS:
         return None, FORM
     return name, b""
 

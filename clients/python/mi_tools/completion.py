@@ -6,7 +6,7 @@ from typing import List, Optional
 
 from mi_client import Schema
 from mi_client.commands import COMMANDS, REFUSALS
-from mi_client.explain import KINDS
+from mi_client.explain import kinds_for
 from mi_client.schema import Table
 from mi_tools.shorthand import names_of
 
@@ -38,7 +38,7 @@ def by_schema(schema: Schema, before: List[str], word: str) -> List[str]:
     if member == "table":
         return _named([it.name for it in schema.tables], head, typed)
     if member == "index" and table:
-        kinds = KINDS.get(before[0], ())
+        kinds = kinds_for(before[0])
         return _named([it.name for it in table.indexes if it.kind in kinds], head, typed)
     return columns(table, word)
 

@@ -7,7 +7,7 @@ import json
 from typing import Callable, Dict, Iterable, Iterator, List, NamedTuple, Optional, Sequence, Tuple, Union
 
 from mi_client import Answer, Database, Pipeline, Refused, Schema
-from mi_client.calls import MOST_ROWS, Row, columns_of
+from mi_client.request import MOST_ROWS, Row, columns_of
 from mi_tools.rowfiles import Faulty, Item
 
 REMEDY = "--renumber lets ids differ, and --references TABLE.COLUMN=TABLE makes a column that holds ids follow"

@@ -10,7 +10,7 @@ import subprocess
 from typing import Any, Dict, Iterator, List, Mapping, Optional
 
 from mi_client import Database, NeedsSchema
-from mi_client.calls import MOST_ROWS, Row
+from mi_client.request import MOST_ROWS, Row
 from mi_tools.show import width_of
 
 

@@ -9,7 +9,7 @@ import sys
 from typing import IO, Callable, Iterator, List, Optional, Sequence, TypeVar
 
 from mi_client import Database, Ended, NeedsSchema, Refused, TooManyEqual
-from mi_client.calls import Bound, Row
+from mi_client.request import Bound, Row
 from mi_client.schema import Table
 from mi_tools import exact
 from mi_tools.journal_names import base_path

@@ -5,8 +5,8 @@ from __future__ import annotations
 import json
 from typing import Any, Dict, List, NamedTuple, Sequence
 
-from mi_client.calls import LONGEST_LINE
 from mi_client.commands import CHANGES, COMMANDS, LOOK_UPS
+from mi_client.request import LONGEST_LINE
 
 WRITES = CHANGES | {"start", "squash", "undo"}
 """What `--write` allows beside look-ups. `commit`, `undo_all`, `push` and `reserve` have no button, and stay forbidden."""
