@@ -24,8 +24,8 @@ use Rattle.mi_request.specs.Flat.{IsRest, IsMember, IsMaybe, IsLast, HasKey, end
 use Rattle.mi_request.specs.Json.{has_only, natural, if_there, default_if, option_map₂, option_map₃, option_map₄, option_map₅}
 use Rattle.mi_request.specs.Keyed.{key_name, asked_key}
 use Rattle.mi_request.specs.Lines.{form_in, request_by, request_in, command_line}
-use Rattle.mi_request.specs.declared.forms.CommandName.{CommandName}
-use Rattle.mi_request.specs.declared.forms.CommandName.TheVariants as name
+use Rattle.mi_request.specs.declared.request.CommandName.{CommandName}
+use Rattle.mi_request.specs.declared.request.CommandName.TheVariants as name
 use Rattle.mi_request.specs.declared.keyed.KeyCommand.{KeyCommand}
 use Rattle.mi_request.specs.declared.keyed.KeyCommand.TheVariants as keyed
 use Rattle.mi_request.specs.declared.request.Bound.{Bound}

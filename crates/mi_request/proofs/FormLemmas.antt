@@ -1,5 +1,5 @@
 -- Members of which one is missing ask nothing; the request of members without `table` names no table.
--- Cited by `forms` and `mi_commands`.
+-- Cited by `request` and `mi_commands`.
 use Rattle.std.proofs.Common.{◌≡◌, ℕ, List, false, Option, Some, None, IfSome, codes, refl, sym, ap, subst}
 use Rattle.std.specs.Option.{option_map}
 use Rattle.serde_json.specs.Data.{Members}

@@ -7,8 +7,8 @@ use Rattle.serde_json.specs.Find.{get_member, as_str, as_array, as_bool, as_obje
 use Rattle.mi_request.specs.NullaryCommand.{asked_nullary, nullary_named}
 use Rattle.mi_request.specs.Json.{has_only, natural, needed, optional, default, option_map₂, option_map₃, option_map₄, option_map₅}
 use Rattle.mi_value.specs.declared.limits.TheConstants.{MAX_PAGE, MAX_RESERVED_CHANGES, MAX_RESERVED_SESSIONS}
-use Rattle.mi_request.specs.declared.forms.CommandName.{CommandName}
-use Rattle.mi_request.specs.declared.forms.CommandName.TheVariants as name
+use Rattle.mi_request.specs.declared.request.CommandName.{CommandName}
+use Rattle.mi_request.specs.declared.request.CommandName.TheVariants as name
 use Rattle.mi_request.specs.declared.keyed.KeyCommand.{KeyCommand}
 use Rattle.mi_request.specs.declared.keyed.KeyCommand.TheVariants as keyed
 use Rattle.mi_request.specs.declared.request.ChangeRequest.{ChangeRequest}

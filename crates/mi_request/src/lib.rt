@@ -4,7 +4,6 @@
 
 mod array;
 mod flat;
-mod forms;
 mod keyed;
 mod lending;
 mod line_reader;

@@ -2,7 +2,7 @@
 use Rattle.std.proofs.Common.{rules, ◌≡◌, ◌∷◌, [], codes, sym, ap, ◌∙◌}
 use Rattle.mi_request.specs.Commands.{form_of, member_names}
 use Rattle.mi_request.specs.Json.{has_only}
-use Rattle.mi_request.proofs.forms.CommandName.allows.Goals as goal
+use Rattle.mi_request.proofs.request.CommandName.allows.Goals as goal
 
 pub returns-in-Range : goal.returns-in-Range
 returns-in-Range c =
