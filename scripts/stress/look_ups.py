@@ -2,7 +2,7 @@
 import itertools
 import json
 
-from reference import KINDS
+from reference import CHANGES, FORMS, KINDS
 from stress import service
 from stress.journal_walk import Differs, fork, state
 
@@ -14,6 +14,11 @@ AT_ONCE = 100
 
 def said(name, table, **members):
     return json.dumps({"cmd": name, "table": table.schema.name, **members}, separators=(",", ":")).encode()
+
+
+def asked_by(index, *members):
+    """The look-ups that an index of this kind answers, of those which need these members and no others."""
+    return [it for it, (needed, _) in FORMS.items() if set(needed) == set(members) and it not in CHANGES and index.kind in KINDS[it].split()]
 
 
 def beside(value):
@@ -33,9 +38,8 @@ def keys_of(table, x):
 
 def of_key(table, index, key):
     """The look-ups that an index of this kind answers of a key."""
-    for name in ("find", "count", "lower_rank", "upper_rank"):
-        if index.kind in KINDS[name].split():
-            yield said(name, table, index=index.name, key=key)
+    for name in asked_by(index, "index", "key"):
+        yield said(name, table, index=index.name, key=key)
     if index.is_sorted:
         for side, bound in (("lower", "ge"), ("lower", "gt"), ("upper", "le"), ("upper", "lt")):
             yield said("range", table, index=index.name, **{side: {bound: key}})
@@ -43,19 +47,20 @@ def of_key(table, index, key):
 
 def of_index(table, x):
     index = table.schema.indexes[x]
+    for name in asked_by(index, "index"):
+        yield said(name, table, index=index.name)
     if index.kind == "sequenced":
-        yield said("list", table, index=index.name)
         for id in table.rows:
             yield said("list", table, index=index.name, after=id, limit=2)
         return
     yield from itertools.chain.from_iterable(of_key(table, index, key) for key in keys_of(table, x))
     if index.is_sorted:
-        yield said("range", table, index=index.name)
         yield said("range", table, index=index.name, reverse=True)
-    if index.is_ranked:
-        for n, id in enumerate([*table.rows, table.next]):
-            yield said("nth", table, index=index.name, n=n)
-            yield said("rank", table, index=index.name, id=id)
+    for n, id in enumerate([*table.rows, table.next]):
+        for name in asked_by(index, "index", "n"):
+            yield said(name, table, index=index.name, n=n)
+        for name in asked_by(index, "index", "id"):
+            yield said(name, table, index=index.name, id=id)
 
 
 def every_look_up(tables):
