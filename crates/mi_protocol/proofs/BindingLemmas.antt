@@ -35,7 +35,7 @@ use Rattle.mi_request.specs.Answers.{IsAnswer, NamesNoIndex}
 use Rattle.mi_protocol.specs.Edits.{addition, edit_of, with_edit, edits_from, bound_edits}
 use Rattle.mi_request.specs.Json.{has_only, option_map₂}
 use Rattle.mi_protocol.specs.Keys.{plain_values, if_key, bound_key, bound_lower, bound_upper}
-use Rattle.mi_catalog.specs.Kinds.{has_keys, is_sequenced, is_sorted, is_ranked, is_hashed}
+use Rattle.mi_catalog.specs.Kinds.{has_keys, is_sequenced, is_sorted}
 use Rattle.mi_protocol.specs.Values.{short_text, fitting, values_of, bound_row}
 use Rattle.mi_protocol.specs.Binding.{and_then, table_number, of_kind, index_number, bound_place, named_key, bound_ends, bound_change}
 use Rattle.mi_protocol.specs.Binding.{bound_number_look_up, bound_key_look_up}
@@ -274,14 +274,16 @@ named_key-fits kinds whole s index key =
 
 -- what is made of a named key
 by_key : {A : Type 0} (P : A → Type 0) (s : Shape) (kinds whole : IndexKind → Bool) (index : List ℕ) (key : Items) (f : ℕ × List Value → Result A Refusal)
-    → ((k : ℕ × List Value) → IsNamedKeyOf kinds whole s k → Holds (f k) P) → Holds (and_then f (named_key kinds whole s index key)) P
+    → ((k : ℕ × List Value) → k.0 < length s.indexes → kinds (index_at s k.0).kind ≡ true → IsKeyOf s k.0 (whole (index_at s k.0).kind) k.1 → Holds (f k) P)
+    → Holds (and_then f (named_key kinds whole s index key)) P
 by_key P s kinds whole index key f more =
-    then (IsNamedKeyOf kinds whole s) P f (named_key kinds whole s index key) (named_key-fits kinds whole s index key) more
+    then (IsNamedKeyOf kinds whole s) P f (named_key kinds whole s index key) (named_key-fits kinds whole s index key)
+    (λ k fits. more k fits.0.0 fits.0.1 fits.1)
 
 -- what is made of a named index
 by_index : {A : Type 0} (P : A → Type 0) (s : Shape) (kinds : IndexKind → Bool) (index : List ℕ) (f : ℕ → Result A Refusal)
-    → ((x : ℕ) → IsIndexOf kinds s x → Holds (f x) P) → Holds (and_then f (index_number kinds s index)) P
-by_index P s kinds index f more = then (IsIndexOf kinds s) P f (index_number kinds s index) (index-fits kinds s index) more
+    → ((x : ℕ) → x < length s.indexes → kinds (index_at s x).kind ≡ true → Holds (f x) P) → Holds (and_then f (index_number kinds s index)) P
+by_index P s kinds index f more = then (IsIndexOf kinds s) P f (index_number kinds s index) (index-fits kinds s index) (λ x at. more x at.0 at.1)
 
 -- bounds of a range in index x
 abbrev IsLowerOf : Shape → ℕ → Lower → Type 0
@@ -346,32 +348,19 @@ module _ (c : CatalogShape) (n : ℕ) where
       (some (AreEditsOf s) Row tt (bound_edits s.columns set add) (edits-fit s.columns set add)) (λ edits fits. fits)
   change-fits (change_request.Erase id) = tt
   change-fits (change_request.EraseKey index key) =
-      by_key (FitsChange c n) s has_keys (λ kind. true) index key _ (λ k fits. (fits.0, fits.1))
+      by_key (FitsChange c n) s has_keys (λ kind. true) index key _ (λ k there kind fits. ((there, kind), fits))
   change-fits (change_request.Relocate index id before) =
-      by_index (FitsChange c n) s is_sequenced index _ (λ x at. sequenced (index_at s x).kind at.1)
+      by_index (FitsChange c n) s is_sequenced index _ (λ x there kind. sequenced (index_at s x).kind kind)
 
   number_look_up-fits : (r : NumberLookUpRequest) → Holds (bound_number_look_up s r) (FitsNumberLookUp c n)
-  number_look_up-fits (number_request.Get id) = tt
-  number_look_up-fits (number_request.Nth index k) =
-      by_index (FitsNumberLookUp c n) s is_ranked index _ (λ x at. ranked (index_at s x).kind at.1)
-  number_look_up-fits (number_request.List index after limit) =
-      by_index (FitsNumberLookUp c n) s is_sequenced index _ (λ x at. sequenced (index_at s x).kind at.1)
-  number_look_up-fits (number_request.Rank index id) =
-      by_index (FitsNumberLookUp c n) s is_ranked index _ (λ x at. ranked (index_at s x).kind at.1)
   number_look_up-fits number_request.Size = tt
+  number_look_up-fits r = search (by_index, ranked, sequenced)
 
   key_look_up-fits : (r : KeyLookUpRequest) → Holds (bound_key_look_up s r) (FitsKeyLookUp c n)
-  key_look_up-fits (key_request.Find index key) =
-      by_key (FitsKeyLookUp c n) s has_keys is_hashed index key _ (λ k fits. (fits.0, fits.1))
-  key_look_up-fits (key_request.Count index key) =
-      by_key (FitsKeyLookUp c n) s has_keys is_hashed index key _ (λ k fits. (fits.0, fits.1))
   key_look_up-fits (key_request.Range index lower upper reverse limit) =
       by_index (FitsKeyLookUp c n) s is_sorted index _
-      (λ x at. then (AreBoundsOf s x) (FitsKeyLookUp c n) _ (bound_ends s x lower upper) (ends-fit s x lower upper) (λ e fit. (at.1, fit.0, fit.1)))
-  key_look_up-fits (key_request.LowerRank index key) =
-      by_key (FitsKeyLookUp c n) s is_ranked (λ kind. false) index key _ (λ k fits. (ranked (index_at s k.0).kind fits.0.1, fits.1))
-  key_look_up-fits (key_request.UpperRank index key) =
-      by_key (FitsKeyLookUp c n) s is_ranked (λ kind. false) index key _ (λ k fits. (ranked (index_at s k.0).kind fits.0.1, fits.1))
+      (λ x there kind. then (AreBoundsOf s x) (FitsKeyLookUp c n) _ (bound_ends s x lower upper) (ends-fit s x lower upper) (λ e fit. (kind, fit.0, fit.1)))
+  key_look_up-fits r = search (by_key, ranked)
 
 -- ---- commands
 

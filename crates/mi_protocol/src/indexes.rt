@@ -1,5 +1,5 @@
 //! Indexes by name, of the kinds that commands are for, and keys of them.
-ghost use Rattle.std.specs.Prelude.{◌≡◌, ◌<◌, length, IfOk};
+ghost use Rattle.std.specs.Prelude.{◌≡◌, ◌<◌, length, cond, IfOk, Ok, Err};
 ghost use Rattle.std.specs.Option.{ok_or};
 ghost use Rattle.mi_catalog.specs.Shape.{find_index};
 ghost use Rattle.mi_request.specs.Answers.{IsAnswer};
@@ -14,23 +14,30 @@ use mi_value::{Key, Refusal};
 use std::alloc::Global;
 
 /// The number of the index that is named. Refusal: `Index`.
-fn find_index(name: &Name, schema: &Schema) -> Result<usize, Refusal>
+pub(crate) fn named_index(name: &Name, schema: &Schema) -> Result<usize, Refusal>
     ensures number { result ≡ ok_or (find_index schema.now name.now) Refusal.Index }
     ensures there { IfOk result (λ i. i < length schema.now.indexes) }
 {
     schema.find_index(name.as_str()).ok_or(Refusal::Index)
 }
 
-/// The number of the sequenced index that is named. Refusals, in this order: `Index`, `Kind`.
-pub(crate) fn sequenced_index(name: &Name, schema: &Schema) -> Result<usize, Refusal>
-    ensures { result ≡ index_number kinds.is_sequenced schema.now name.now }
+/// The index, if it is of a kind that the command is for. Refusal: `Kind`.
+pub(crate) fn if_of_kind(index: usize, is_of_kind: bool) -> Result<usize, Refusal>
+    ensures { result ≡ cond is_of_kind (Ok index) (Err Refusal.Kind) }
 {
-    let index = find_index(name, schema)?;
-    if schema.kind(index).is_sequenced() {
+    if is_of_kind {
         Ok(index)
     } else {
         Err(Refusal::Kind)
     }
+}
+
+/// The number of the sequenced index that is named. Refusals, in this order: `Index`, `Kind`.
+pub(crate) fn sequenced_index(name: &Name, schema: &Schema) -> Result<usize, Refusal>
+    ensures { result ≡ index_number kinds.is_sequenced schema.now name.now }
+{
+    let index = named_index(name, schema)?;
+    if_of_kind(index, schema.kind(index).is_sequenced())
 }
 
 /// The number of the index with keys that is named. Refusals, in this order: `Index`, `Kind`.
@@ -38,12 +45,8 @@ fn keyed_index(name: &Name, schema: &Schema) -> Result<usize, Refusal>
     ensures number { result ≡ index_number kinds.has_keys schema.now name.now }
     ensures there { IfOk result (λ i. i < length schema.now.indexes) }
 {
-    let index = find_index(name, schema)?;
-    if schema.kind(index).has_keys() {
-        Ok(index)
-    } else {
-        Err(Refusal::Kind)
-    }
+    let index = named_index(name, schema)?;
+    if_of_kind(index, schema.kind(index).has_keys())
 }
 
 /// The number of the ordered or ranked index that is named. Refusals, in this order: `Index`, `Kind`.
@@ -51,12 +54,8 @@ pub(crate) fn sorted_index(name: &Name, schema: &Schema) -> Result<usize, Refusa
     ensures number { result ≡ index_number kinds.is_sorted schema.now name.now }
     ensures there { IfOk result (λ i. i < length schema.now.indexes) }
 {
-    let index = find_index(name, schema)?;
-    if schema.kind(index).is_sorted() {
-        Ok(index)
-    } else {
-        Err(Refusal::Kind)
-    }
+    let index = named_index(name, schema)?;
+    if_of_kind(index, schema.kind(index).is_sorted())
 }
 
 /// The number of the ranked index that is named. Refusals, in this order: `Index`, `Kind`.
@@ -64,12 +63,8 @@ pub(crate) fn ranked_index(name: &Name, schema: &Schema) -> Result<usize, Refusa
     ensures number { result ≡ index_number kinds.is_ranked schema.now name.now }
     ensures there { IfOk result (λ i. i < length schema.now.indexes) }
 {
-    let index = find_index(name, schema)?;
-    if schema.kind(index).is_ranked() {
-        Ok(index)
-    } else {
-        Err(Refusal::Kind)
-    }
+    let index = named_index(name, schema)?;
+    if_of_kind(index, schema.kind(index).is_ranked())
 }
 
 /// An index with keys and a whole key of it. Refusals, in this order: `Index`, `Kind`, `Key`, and `Memory`.
