@@ -19,10 +19,7 @@ use Rattle.mi_value.specs.declared.refusal.Refusal.{Refusal}
 use Rattle.mi_value.specs.declared.refusal.Refusal.TheVariants as refusal
 use Rattle.mi_value.specs.declared.refusal.NoSession.{NoSession}
 use Rattle.mi_catalog.specs.Shape.{Shape, CatalogShape}
-use Rattle.mi_model.specs.Table.{Table, has}
-use Rattle.mi_model.specs.LookUp.{rank}
-use Rattle.mi_model.specs.Page.{list}
-use Rattle.mi_model.specs.Verdict.{has_place}
+use Rattle.mi_model.specs.Table.{Table}
 use Rattle.mi_model.specs.Database.{Database, Step, depth}
 use Rattle.mi_model.specs.OneTable as one
 use Rattle.mi_model.specs.OneTable.{OneTable, IsAsOneTable, in_catalog}
@@ -50,7 +47,7 @@ use Rattle.mi_protocol.specs.declared.look_ups.NumberLookUp.{NumberLookUp}
 use Rattle.mi_protocol.specs.declared.look_ups.NumberLookUp.TheVariants as by_number
 use Rattle.mi_commands.specs.Asked.{Asked, text, too_long}
 use Rattle.mi_commands.specs.Holder.{HeldDatabase, is_busy, one_more, one_less, at_most, held_by}
-use Rattle.mi_commands.specs.Performed.{performed, said_of, all_done, holder_after, or_session, found, show_found, show_page}
+use Rattle.mi_commands.specs.Performed.{performed, said_of, all_done, holder_after, or_session, found, show_found}
 use Rattle.mi_commands.specs.Performed.{number_look_up_said, key_look_up_said}
 use Rattle.mi_commands.specs.Answer.{answer, command_of, command_answer, MayGive}
 use Rattle.mi_commands.specs.Alone.{HeldTable, request_without, request_alone, read_alone, line_alone, bound_alone}
@@ -266,16 +263,12 @@ module _ (first : ℕ) (s : Shape) where
   either_first false x y h k = k
 
   number_first : (t : Table) (x : NumberLookUp) → IsFirst (number_look_up_said 0 s t x)
-  number_first t (by_number.Get id) = found_first id _
-  number_first t (by_number.Nth x place) = shown_first t _
-  number_first t (by_number.List x after limit) = either_first (has_place t after) (show_page 0 t (list s t x after limit)) (say.refused 0 refusal.NoId) refl refl
-  number_first t (by_number.Rank x id) = either_first (has t id) (say.ranked (rank s t x id)) (say.refused 0 refusal.NoId) tt refl
-  number_first t other = tt
+  number_first t by_number.Size = tt
+  number_first t x = search (found_first, shown_first, either_first)
 
   key_first : (t : Table) (x : KeyLookUp) → IsFirst (key_look_up_said 0 s t x)
-  key_first t (by_key.Find x key) = shown_first t _
-  key_first t (by_key.Range x low high reverse limit) = refl
-  key_first t other = tt
+  key_first t (by_key.Count x key) = tt
+  key_first t x = search shown_first
 
   module _ (d : HeldTable) (conn : ℕ) where
     change_first : (x : Change) → IsFirst (change_alone s d x).0

@@ -13,7 +13,6 @@ use Rattle.mi_value.specs.declared.value.Value.{Value}
 use Rattle.mi_value.specs.Edits.{apply}
 use Rattle.mi_catalog.specs.Shape.{Shape, CatalogShape}
 use Rattle.mi_model.specs.Table.{Table, get, has, row}
-use Rattle.mi_model.specs.LookUp as look
 use Rattle.mi_model.specs.Change.{put, erase, relocate}
 use Rattle.mi_model.specs.Conflict.{conflict}
 use Rattle.mi_model.specs.Verdict.{Outcome, unless, is_spent, has_place, as_unique, insert_refusal, insert_outcome, replace_refusal, replace_outcome}
@@ -199,15 +198,12 @@ either_quiet true x y h k = h
 either_quiet false x y h k = k
 
 pub number_quiet : (n : ℕ) (s : Shape) (t : Table) (x : NumberLookUp) → tells_change (number_look_up_said n s t x) ≡ false
-number_quiet n s t (by_number.Get id) = found_quiet n id (get t id)
-number_quiet n s t (by_number.Nth index place) = shown_quiet n t (look.nth s t index place)
-number_quiet n s t (by_number.List index after limit) = either_quiet (has_place t after) _ _ refl refl
-number_quiet n s t (by_number.Rank index id) = either_quiet (has t id) _ _ refl refl
-number_quiet n s t x = refl
+number_quiet n s t by_number.Size = refl
+number_quiet n s t x = search (found_quiet, shown_quiet, either_quiet)
 
 pub key_quiet : (n : ℕ) (s : Shape) (t : Table) (x : KeyLookUp) → tells_change (key_look_up_said n s t x) ≡ false
-key_quiet n s t (by_key.Find index key) = shown_quiet n t (look.find s t index key)
-key_quiet n s t x = refl
+key_quiet n s t (by_key.Count index key) = refl
+key_quiet n s t x = search shown_quiet
 
 memory_quiet : (c : Command) (told : Said) → SaysMemory told → may_change c told ≡ false
 memory_quiet (command.Session (session.Reserve changes sessions)) told h = refl
