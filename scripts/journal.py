@@ -36,6 +36,7 @@ import hashlib
 import itertools
 import os
 import re
+import resource
 import signal
 import stat as modes
 import subprocess
@@ -162,13 +163,21 @@ class Chain:
 
     def __init__(self, path, what="reading"):
         self.path, self.base, self.files = path, base_of(path), contextlib.ExitStack()
+        try:
+            self.open(what)
+        except (Damaged, bases.BadChain, FileNotFoundError):
+            if base_of(path) != self.base:
+                raise OSError("another base came while the journal was read, as by a rebase: read the journal again") from None
+            raise
+
+    def open(self, what):
+        """Opens the segments that are there; from then on it makes no difference whether a rebase takes some away."""
         first = self.base.segment if self.base else 1
-        self.segments = bases.segments_of(path, self.base.segment if self.base else 0)
-        self.covered = [it for it in bases.numbers_of(path) if it < first]
+        self.segments, self.journals = bases.segments_of(self.path, self.base.segment if self.base else 0), []
+        self.covered = [it for it in bases.numbers_of(self.path) if it < first]
         with contextlib.ExitStack() as opened:
             if not self.segments or self.segments[0].number != first:
-                self.segments = [bases.Segment(first, bases.segment_path(path, first))]
-            self.journals = []
+                self.segments = [bases.Segment(first, bases.segment_path(self.path, first))]
             for n, segment in enumerate(self.segments):
                 self.journals.append(self.opened(opened, segment, what))
                 self.check_header(n, segment, self.last)
@@ -603,9 +612,16 @@ def nobody_reads_on():
     return 128 + signal.SIGPIPE
 
 
+def allow_files():
+    """Lets this process open as many files as it may: each segment is one."""
+    most = resource.getrlimit(resource.RLIMIT_NOFILE)[1]
+    resource.setrlimit(resource.RLIMIT_NOFILE, (most, most))
+
+
 def main(given):
     parser = words()
     args = parser.parse_args(given)
+    allow_files()
     if args.step == "check" and args.schema and not args.replay:
         parser.error("--schema goes with --replay: without it no schema is looked at")
     try:

@@ -117,6 +117,32 @@ class AskedLines(Segments):
         status, said = self.check(file.name)
         self.assertEqual((status, said.splitlines()[-1]), (4, f"{self.path}: {file.name} has answered 11 of 10 lines"))
 
+    def test_more_segments_than_open_files(self):
+        """As many as the limit that a user may raise lets in."""
+        self.split(*([insert(f"player {n}")] for n in range(100)))
+        words = [sys.executable, f"{TOP}/scripts/journal.py", "check", self.path, "--replay", program.program()]
+        ran = subprocess.run(["sh", "-c", 'ulimit -S -n 50; exec "$@"', "sh", *words], capture_output=True, text=True, timeout=60)
+        self.assertEqual((ran.returncode, ran.stdout.count("segments 1 to 100, 100 lines,"), ran.stderr), (0, 1, ""))
+
+    def test_a_rebase_meanwhile(self):
+        """Between the look at the base and that at the segments: no damage is told. Behind these the segments are open, and are read."""
+        segments_of, files = bases.segments_of, []
+
+        def rebased(*how):
+            if not files:
+                files.append(self.files())
+                self.based(asked(*TAKEN[:1]), 2, 0)
+            return segments_of(*how)
+
+        self.split(TAKEN[:1], TAKEN[1:])
+        with unittest.mock.patch("bases.segments_of", rebased):
+            self.assertEqual(self.check(program.program()), (
+                4, f"{self.path}: another base came while the journal was read, as by a rebase: read the journal again\n"))
+        os.remove(f"{self.path}.base")
+        self.split(TAKEN[:1], TAKEN[1:])
+        with unittest.mock.patch("journal.check_schema", lambda *_: self.based(asked(*TAKEN[:1]), 2, 0)):
+            self.assertIn("replayed, and each line is one of a journal", self.check(program.program())[1])
+
     def test_a_base_wants_a_service(self):
         """Nothing is asked then, and the service is named."""
         self.split(TAKEN[:1], TAKEN[1:])
