@@ -7,17 +7,19 @@
     journal.py compact FILE [--to NEW]                          a shorter journal of the same database, in a new file that is then renamed
     journal.py copy FILE NEW                                    its text up to the last newline, also of one that is in use
 
-A journal may have a base, FILE.base, which has the tables behind some line, and segments, FILE.000002 and on: `mi_service --rebase` makes
-them. check, stat and copy take them all, from the base on, and no segment that the base covers; compact takes a journal of one file.
+A journal may have a base, FILE.base, which has the tables behind some line, and segments, FILE.000002 and on: `mi_service` makes them, the base by
+--rebase. check, stat and copy take them all, from the base on, and no segment that the base covers; compact takes a journal of one file, and
+`mi_service --rebase` makes others shorter.
 
 --replay PROGRAM asks `mi_server` the lines of all segments, and each reply is to be one of a change. `mi_service`, which alone reads a base, is started
 on a copy in TMPDIR, and ended once it listens, or says what is wrong. It is told by its --help, which names --journal.
 
 A journal's first line is its header, {"journal":1,"revision":R,"schema":"HASH"}: the format, the first revision and the hash of the
-schema. That of a later segment has its number too, and the SHA-256 of the segment before it. It is no command, so `mi_server < FILE` refuses it and then does the other lines, as one connection. Of each holder that went
-away there is an undo for each session that it held. A journal's text ends at its first zero byte. Behind its last newline a torn line may
-stand, and behind the text room: zeros that the service writes over. Where other bytes stand behind zeros, a start of the service would cut
-them off; that is damage here, but for `copy`. Of a file that is in use the text is read that is there at the beginning.
+schema. That of a later segment has its number too, and the SHA-256 of the segment before it. It is no command, so `mi_server < FILE` refuses it and
+then does the other lines, as one connection. Of each holder that went away there is an undo for each session that it held. A journal's text ends at
+its first zero byte. Behind its last newline a torn line may stand, and behind the text room: zeros that the service writes over. Where other bytes
+stand behind zeros, a start of the service would cut them off; that is damage here, but for `copy`. Of a file that is in use the text is read that is
+there at the beginning.
 
 compact drops whole blocks that were undone, from the start to the undo: an undo restores everything, counters too. It follows squash,
 commit, undo_all and push. A commit inside such a block has ended sessions below it, so it stays; a push stays where the sessions below
@@ -26,7 +28,7 @@ locked, and a file that another program has locked is refused; so are a file who
 stays. Where --to names no file yet, one that has come meanwhile keeps its name, and the status is 4. Symbolic links are followed.
 
 Statuses: 0; 2 where the words are wrong, or name another schema than the journal's; 3 where the journal or its base is damaged, with the number of
-the first such line, from 1; 4 where a file can't be read or written, or is in use. A torn end is said, and is no damage."""
+the first such line, from 1; 4 where a file can't be read or written, or is in use, or a rebase comes meanwhile. A torn end is said, and is no damage."""
 import argparse
 import bisect
 import collections

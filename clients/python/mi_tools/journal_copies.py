@@ -46,7 +46,8 @@ def copy(journal: str, to: str) -> None:
     service tells what is wrong there. A segment that is begun meanwhile is left out. Raises Gone where a rebase has changed the files meanwhile,
     Damaged and OSError."""
     with contextlib.ExitStack() as opened:
-        base, first = None, 1
+        base: Optional[IO[bytes]] = None
+        first = 1
         with contextlib.suppress(FileNotFoundError):
             base = opened.enter_context(open(base_path(journal), "rb"))
         if base:
@@ -102,8 +103,8 @@ class Service:
         quiet: Any = {"stdout": subprocess.DEVNULL, "stderr": subprocess.DEVNULL, "start_new_session": True}
         pipes: Any = {"stdin": subprocess.DEVNULL, "stdout": subprocess.PIPE, "stderr": subprocess.PIPE}
         # (an interrupt at the terminal is for the tool; with SIGXFSZ ignored, as Python has it, a file without room is told)
-        self._process = subprocess.Popen(words, start_new_session=True, restore_signals=False, **pipes)
-        self._guard = subprocess.Popen([*GUARD, str(self._process.pid)], stdin=subprocess.PIPE, **quiet)
+        self._process: subprocess.Popen[bytes] = subprocess.Popen(words, start_new_session=True, restore_signals=False, **pipes)
+        self._guard: subprocess.Popen[bytes] = subprocess.Popen([*GUARD, str(self._process.pid)], stdin=subprocess.PIPE, **quiet)
 
     def listens(self) -> bool:
         """Waits until it listens, or ends."""
@@ -130,6 +131,14 @@ class OnCopy(Database):
 
     service: Optional[Service] = None
 
+    @classmethod
+    def of(cls, service: Service, socket: str, schema: Optional[Schema]) -> OnCopy:
+        """A connection to this service, which listens at a path. Raises OSError."""
+        db = cls.connect(socket, None, schema)
+        assert isinstance(db, OnCopy)
+        db.service = service
+        return db
+
     def close(self) -> None:
         super().close()
         if self.service:
@@ -148,13 +157,10 @@ def on_a_copy(program: str, journal: str, schema: Optional[str]) -> OnCopy:
         try:
             if not service.listens():
                 refuse(service.ended(), program, journal, copied)
-            db = OnCopy.connect(socket, None, read)
-            assert isinstance(db, OnCopy)
+            return OnCopy.of(service, socket, read)
         except BaseException:
             service.close()
             raise
-    db.service = service
-    return db
 
 
 def schema_read(file: Optional[str]) -> Optional[Schema]:

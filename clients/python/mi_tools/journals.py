@@ -8,15 +8,12 @@ import errno
 import hashlib
 import json
 import os
-from typing import IO, TYPE_CHECKING, Any, Dict, Iterator, List, Optional, Tuple
+from typing import IO, Any, Callable, Dict, Iterator, List, Optional, Tuple
 
 from mi_client import Database, Schema
 from mi_client.commands import belongs_in_journal
 from mi_tools.journal_names import base_path, numbers_of, segment_path
 from mi_tools.meaning import hash_of
-
-if TYPE_CHECKING:
-    from hashlib import _Hash
 
 FORMAT = 1
 LATER = 2
@@ -183,20 +180,21 @@ class Lines:
 
     def __iter__(self) -> Iterator[bytes]:
         """The lines with their newlines, and without the headers. Raises Damaged, Gone and OSError."""
-        count, wanted = 0, None
+        count = 0
+        wanted: Optional[bytes] = None
         for number, path in enumerate(self._paths, 1):
             self._before.append(count)
             digest = hashlib.sha256()
             with open_listed(path) as file:
-                for line in lines_in(file, path, wanted, number == len(self._paths), digest):
+                for line in lines_in(file, path, wanted, number == len(self._paths), digest.update):
                     yield line
                     count += 1
             wanted = later_header(self.header, number + 1, digest.hexdigest())
 
 
-def lines_in(file: IO[bytes], path: str, wanted: Optional[bytes], is_newest: bool, digest: _Hash) -> Iterator[bytes]:
+def lines_in(file: IO[bytes], path: str, wanted: Optional[bytes], is_newest: bool, summed: Callable[[bytes], None]) -> Iterator[bytes]:
     """The lines of a segment behind its header, as many as there are at the beginning. A later one is to have the `wanted` header. All that is read
-    goes into the digest. Raises Damaged."""
+    is `summed`. Raises Damaged."""
     text = text_of(file.fileno())
     end, lost = end_before(file.fileno(), text), lost_behind(file.fileno(), text)
     if not is_newest and os.fstat(file.fileno()).st_size > end:
@@ -204,13 +202,13 @@ def lines_in(file: IO[bytes], path: str, wanted: Optional[bytes], is_newest: boo
     first = file.readline(max(end, text))
     if end or wanted is None or not wanted.startswith(first):  # (else its beginning was torn, and it has no line yet)
         check_first(first, path, wanted)
-    digest.update(first)
+    summed(first)
     at, number = len(first), 2
     while at < end:
         line = file.readline()
         if not line.rstrip(b"\r\n"):
             raise Damaged(f"{path}:{number}: an empty line")
-        digest.update(line)
+        summed(line)
         yield line
         at, number = at + len(line), number + 1
     if lost:
