@@ -1,20 +1,25 @@
 #!/usr/bin/env python3
 """Reads journals: files of the lines that changed a database, in the order in which they were executed.
 
-    journal.py check FILE [--replay PROGRAM [--schema FILE]]    whether each line is whole and a change's; with --replay, whether its reply is one of a
-                                                                change, and the schema the header's
+    journal.py check FILE [--replay PROGRAM [--schema FILE]]    whether each line is whole and a change's; with --replay, whether PROGRAM takes it as one,
+                                                                and the schema is the header's
     journal.py stat FILE                                        lines by command, sessions, sizes
     journal.py compact FILE [--to NEW]                          a shorter journal of the same database, in a new file that is then renamed
     journal.py copy FILE NEW                                    its text up to the last newline, also of one that is in use
 
-A journal may have a base, FILE.base, which has the tables behind some line, and segments, FILE.000002 and on: `mi_service --rebase` makes
-them. check, stat and copy take them all, from the base on, and no segment that the base covers; compact takes a journal of one file.
+A journal may have a base, FILE.base, which has the tables behind some line, and segments, FILE.000002 and on: `mi_service` makes them, the base by
+--rebase. check, stat and copy take them all, from the base on, and no segment that the base covers; compact takes a journal of one file, and
+`mi_service --rebase` makes others shorter.
+
+--replay PROGRAM asks `mi_server` the lines of all segments, and each reply is to be one of a change. `mi_service`, which alone reads a base, is started
+on a copy in TMPDIR, and ended once it listens, or says what is wrong. It is told by its --help, which names --journal.
 
 A journal's first line is its header, {"journal":1,"revision":R,"schema":"HASH"}: the format, the first revision and the hash of the
-schema. That of a later segment has its number too, and the SHA-256 of the segment before it. It is no command, so `mi_server < FILE` refuses it and then does the other lines, as one connection. Of each holder that went
-away there is an undo for each session that it held. A journal's text ends at its first zero byte. Behind its last newline a torn line may
-stand, and behind the text room: zeros that the service writes over. Where other bytes stand behind zeros, a start of the service would cut
-them off; that is damage here, but for `copy`. Of a file that is in use the text is read that is there at the beginning.
+schema. That of a later segment has its number too, and the SHA-256 of the segment before it. It is no command, so `mi_server < FILE` refuses it and
+then does the other lines, as one connection. Of each holder that went away there is an undo for each session that it held. A journal's text ends at
+its first zero byte. Behind its last newline a torn line may stand, and behind the text room: zeros that the service writes over. Where other bytes
+stand behind zeros, a start of the service would cut them off; that is damage here, but for `copy`. Of a file that is in use the text is read that is
+there at the beginning.
 
 compact drops whole blocks that were undone, from the start to the undo: an undo restores everything, counters too. It follows squash,
 commit, undo_all and push. A commit inside such a block has ended sessions below it, so it stays; a push stays where the sessions below
@@ -23,7 +28,7 @@ locked, and a file that another program has locked is refused; so are a file who
 stays. Where --to names no file yet, one that has come meanwhile keeps its name, and the status is 4. Symbolic links are followed.
 
 Statuses: 0; 2 where the words are wrong, or name another schema than the journal's; 3 where the journal or its base is damaged, with the number of
-the first such line, from 1; 4 where a file can't be read or written, or is in use. A torn end is said, and is no damage."""
+the first such line, from 1; 4 where a file can't be read or written, or is in use, or a rebase comes meanwhile. A torn end is said, and is no damage."""
 import argparse
 import bisect
 import collections
@@ -33,6 +38,7 @@ import hashlib
 import itertools
 import os
 import re
+import resource
 import signal
 import stat as modes
 import subprocess
@@ -46,6 +52,8 @@ from reference import CHANGES, LONGEST_LINE, MOST_SESSIONS, STEPS, Refusal, form
 
 sys.path.insert(0, f"{os.path.dirname(os.path.dirname(os.path.realpath(__file__)))}/clients/python")
 
+from mi_tools import journals  # noqa: E402
+from mi_tools.journal_copies import is_service, no_service, on_a_copy  # noqa: E402
 from mi_tools.journals import end_before, end_of, lost_behind, text_of  # noqa: E402, F401
 
 FORMAT = 1
@@ -119,10 +127,11 @@ def command(number, text):
 
 
 class Journal:
-    """A segment of a journal that is read once, by `lines`. Its last newline ends at `end`, where `torn` bytes of a torn line stand. Behind those
-    stand zeros: `room` bytes, or `lost` ones, of which the last is none."""
+    """A segment of a journal that is read once, by `lines`, which counts its lines, with the header. Its last newline ends at `end`, where `torn` bytes
+    of a torn line stand. Behind those stand zeros: `room` bytes, or `lost` ones, of which the last is none."""
 
-    def __init__(self, file, what="reading", number=1):
+    def __init__(self, file, what="reading", number=1, wanted=None):
+        """`wanted` answers the header of a newest segment behind others, of which a kill may have left a front alone."""
         handle = file.fileno()
         text = text_of(handle)
         self.file, self.end = file, end_before(handle, text)
@@ -131,14 +140,16 @@ class Journal:
         self.room = self.size - text
         self.progress = Progress(what, self.end)
         self.first = file.readline() if self.end else b""
-        if not self.first:
+        if not self.first and not (wanted and wanted().startswith(os.pread(handle, text, 0))):
             raise Damaged(1, "no whole header")
-        self.revision, self.schema, self.previous = header(self.first[:-1], number)
+        self.revision, self.schema, self.previous = header((self.first or wanted())[:-1], number)
+        self.count = 1 if self.first else 0
 
     def lines(self):
         at, number = len(self.first), 2
         while at < self.end:
             text = self.file.readline()
+            self.count = number
             yield Line(number, at, at + len(text), *command(number, text[:-1]))
             at, number = at + len(text), number + 1
             if number % 256 == 0:
@@ -154,15 +165,24 @@ class Chain:
 
     def __init__(self, path, what="reading"):
         self.path, self.base, self.files = path, base_of(path), contextlib.ExitStack()
+        try:
+            self.open(what)
+        except (Damaged, bases.BadChain, FileNotFoundError):
+            if base_of(path) != self.base:
+                raise OSError("another base came while the journal was read, as by a rebase: read the journal again") from None
+            raise
+
+    def open(self, what):
+        """Opens the segments that are there; from then on it makes no difference whether a rebase takes some away."""
         first = self.base.segment if self.base else 1
-        self.segments = bases.segments_of(path, self.base.segment if self.base else 0)
-        self.covered = [it for it in bases.numbers_of(path) if it < first]
+        self.segments, self.journals = bases.segments_of(self.path, self.base.segment if self.base else 0), []
+        self.covered = [it for it in bases.numbers_of(self.path) if it < first]
         with contextlib.ExitStack() as opened:
             if not self.segments or self.segments[0].number != first:
-                self.segments = [bases.Segment(first, bases.segment_path(path, first))]
-            self.journals = [self.opened(opened, it, what) for it in self.segments]
-            for n, (segment, journal) in enumerate(zip(self.segments, self.journals)):
-                self.check_header(n, segment, journal)
+                self.segments = [bases.Segment(first, bases.segment_path(self.path, first))]
+            for n, segment in enumerate(self.segments):
+                self.journals.append(self.opened(opened, segment, what))
+                self.check_header(n, segment, self.last)
             self.files = opened.pop_all()
 
     def __enter__(self):
@@ -175,11 +195,17 @@ class Chain:
         return segment.path if segment.number > 1 else None
 
     def opened(self, opened, segment, what):
+        wanted = self.next_header if self.journals and segment is self.segments[-1] else None
         try:
-            return Journal(opened.enter_context(open(segment.path, "rb")), what, segment.number)
+            return Journal(opened.enter_context(open(segment.path, "rb")), what, segment.number, wanted)
         except Damaged as damaged:
             damaged.path = self.named(segment)
             raise
+
+    def next_header(self):
+        """The header of the segment behind those that were opened."""
+        number = self.segments[len(self.journals)].number
+        return bases.segment_header(text_sum(self.last), number, self.last.schema, self.last.revision)
 
     def check_header(self, n, segment, journal):
         """Whether a segment's header is that of this journal, behind its base or the segment before it."""
@@ -345,17 +371,21 @@ def may_be_kept(line):
 
 
 def check(path, replay, schema):
+    is_served = replay is not None and is_service(replay)
     with Chain(path, "checking") as chain:
-        if replay and (chain.base or len(chain.segments) > 1):
-            raise ValueError(f"{path}: --replay is of a journal of one file, without a base: a start of mi_service asks the lines of this one")
+        if replay and chain.base and not is_served:
+            raise no_service(path, replay, "--replay")
         count = sum(1 for it in chain.lines() if may_be_kept(it))
-    journal = chain.last
-    if replay:
-        check_schema(path, journal.schema, schema)
-    asked = "" if replay else "; its lines weren't asked (--replay PROGRAM asks them)"
-    print(f"{path}: {chain_note(chain)}{count} lines, schema {journal.schema}, ok as a file{end_note(journal)}{covered_note(chain)}{asked}", flush=True)
-    if replay:
-        replay_check(path, replay, schema, count + 1)
+        journal = chain.last
+        if replay:
+            check_schema(path, journal.schema, schema)
+        asked = "" if replay else "; its lines weren't asked (--replay PROGRAM asks them)"
+        print(f"{path}: {chain_note(chain)}{count} lines, schema {journal.schema}, ok as a file{end_note(journal)}{covered_note(chain)}{asked}", flush=True)
+        if is_served:
+            on_a_copy(replay, path, schema).close()
+            print(f"{path}: replayed: {replay} serves a copy of it")
+        elif replay:
+            replay_check(chain, replay, schema)
 
 
 def chain_note(chain):
@@ -391,31 +421,49 @@ def may_be_change(reply):
     return text.startswith(CHANGED) or text.startswith(b'{"error":"unique"') and text.endswith(b'","lost":true,"ok":false}')
 
 
-def first_lines(path, count, pipe):
-    """So many lines of the file go into a pipe."""
-    with contextlib.suppress(BrokenPipeError), pipe, open(path, "rb") as file:
-        pipe.writelines(itertools.islice(file, count))
+def check_reply(chain, reply, segment, number):
+    """Whether a line of a segment is answered as one of a journal. A header isn't."""
+    if number > 1 and not may_be_change(reply):
+        raise Damaged(number, f"no change: {reply.decode(errors='replace').strip()}", chain.named(segment))
 
 
-def replay_check(path, program, schema, count):
-    """Asks a program so many lines of the journal, its header among them, and finds the first that it refuses. Each has one reply."""
+def send_lines(chain, pipe):
+    """The lines of a journal that was read go into a pipe, with the headers."""
+    progress, done = Progress("replaying", chain.end), 0
+    with contextlib.suppress(BrokenPipeError), pipe:
+        for journal in chain.journals:
+            journal.file.seek(0)
+            for text in itertools.islice(journal.file, journal.count):
+                pipe.write(text)
+                done += len(text)
+                progress.at(done)
+
+
+def places(chain):
+    """Where each of these lines stands: its segment, and its number there."""
+    return ((segment, number) for segment, journal in zip(chain.segments, chain.journals) for number in range(1, journal.count + 1))
+
+
+def replay_check(chain, program, schema):
+    """Asks a program the lines of a journal that was read, whose headers are lines too, and finds the first that it refuses. Each has one reply."""
     words = [program, *(["--schema", schema] if schema else [])]
-    progress, done, number = Progress("replaying", os.path.getsize(path)), 0, 0
-    with open(path, "rb") as file, subprocess.Popen(words, stdin=subprocess.PIPE, stdout=subprocess.PIPE) as ran:
-        sending = threading.Thread(target=first_lines, args=(path, count, ran.stdin), daemon=True)
+    count, number, asked = sum(it.count for it in chain.journals), 0, places(chain)
+    with subprocess.Popen(words, stdin=subprocess.PIPE, stdout=subprocess.PIPE) as ran:
+        sending = threading.Thread(target=send_lines, args=(chain, ran.stdin), daemon=True)
         sending.start()
-        for number, reply in enumerate(ran.stdout, 1):
-            done += len(file.readline())
-            if number > 1 and not may_be_change(reply):
-                ran.kill()
-                raise Damaged(number, f"no change: {reply.decode(errors='replace').strip()}")
-            progress.at(done)
-        sending.join()
+        try:
+            for number, reply in enumerate(ran.stdout, 1):
+                check_reply(chain, reply, *next(asked, (None, 1)))
+        except BaseException:
+            ran.kill()
+            raise
+        finally:
+            sending.join()
         if ran.wait():
             raise OSError(f"{program} has ended with status {ran.returncode}")
     if number != count:
         raise OSError(f"{program} has answered {number} of {count} lines")
-    print(f"{path}: replayed, and each line is one of a journal")
+    print(f"{chain.path}: replayed, and each line is one of a journal")
 
 
 def stat(path):
@@ -482,7 +530,7 @@ def claimed(path):
 
 def compact(path, new):
     """The new file has the old one's mode; it takes the old one's place, or the name that is asked for, once it is whole."""
-    if os.path.exists(bases.base_path(path)) or len(bases.segments_of(path)) > 1:
+    if os.path.exists(bases.base_path(path)) or any(it > 1 for it in bases.numbers_of(path)):
         raise ValueError(f"{path}: it has a base or later segments: mi_service --rebase makes it shorter")
     # (of a link the file that it leads to, whose place is on another disk perhaps)
     new = os.path.realpath(path if new is None else new)
@@ -546,7 +594,8 @@ def words():
     steps = parser.add_subparsers(dest="step", required=True)
     checking = steps.add_parser("check", help="whether each line is whole and a change's")
     checking.add_argument("file")
-    checking.add_argument("--replay", metavar="PROGRAM", help="asks this mi_server the lines, each of which is to be done")
+    checking.add_argument("--replay", metavar="PROGRAM", help="asks this mi_server the lines, each of which is to be done; or starts this mi_service on a "
+                          "copy, as a journal with a base wants it")
     checking.add_argument("--schema", metavar="FILE", help="the schema that it is asked with, whose hash the header is to have")
     steps.add_parser("stat", help="lines by command, sessions, sizes").add_argument("file")
     compacting = steps.add_parser("compact", help="a shorter journal of the same database")
@@ -565,9 +614,16 @@ def nobody_reads_on():
     return 128 + signal.SIGPIPE
 
 
+def allow_files():
+    """Lets this process open as many files as it may: each segment is one."""
+    most = resource.getrlimit(resource.RLIMIT_NOFILE)[1]
+    resource.setrlimit(resource.RLIMIT_NOFILE, (most, most))
+
+
 def main(given):
     parser = words()
     args = parser.parse_args(given)
+    allow_files()
     if args.step == "check" and args.schema and not args.replay:
         parser.error("--schema goes with --replay: without it no schema is looked at")
     try:
@@ -585,6 +641,9 @@ def main(given):
         return 3
     except bases.BadChain as bad:
         print(f"{args.file}: {bad}", file=sys.stderr)
+        return 3
+    except journals.Damaged as damaged:
+        print(damaged, file=sys.stderr)
         return 3
     except BrokenPipeError:
         return nobody_reads_on()

@@ -213,6 +213,13 @@ class Client:
                 self.rest = b""
 
 
+def listener_at(path):
+    listener = socket.socket(socket.AF_UNIX)
+    listener.bind(path)
+    listener.listen(128)
+    return listener
+
+
 class Service:
     def __init__(self, options):
         self.began = time.monotonic()
@@ -224,12 +231,12 @@ class Service:
                 self.text = file.read()
         wanted = f'{{"journal":1,"revision":{schema.first_revision},"schema":"{hash_of(schema)}"}}'.encode()
         self.journal = Journal(options.journal, self.reference, wanted, options.sync, options.rebase)
-        self.listener = socket.create_server(("127.0.0.1", options.listen), backlog=128)
+        self.listener = listener_at(options.unix) if options.unix else socket.create_server(("127.0.0.1", options.listen), backlog=128)
         self.listener.setblocking(False)
         self.selector, self.clients, self.next, self.asked = selectors.DefaultSelector(), {}, 2, 0
         self.comer, self.waited, self.beside, self.heard, self.ends = None, 0, None, 0, []
         self.selector.register(self.listener, selectors.EVENT_READ, None)
-        print(f"listening 127.0.0.1:{self.listener.getsockname()[1]}", flush=True)
+        print(f"listening {options.unix or f'127.0.0.1:{self.listener.getsockname()[1]}'}", flush=True)
 
     def has_place(self):
         return len(self.clients) < MOST or PLANT == "beyond"
@@ -240,7 +247,8 @@ class Service:
             stream, _ = self.listener.accept()
         except BlockingIOError:
             return None
-        stream.setsockopt(socket.IPPROTO_TCP, socket.TCP_NODELAY, 1)
+        if stream.family != socket.AF_UNIX:
+            stream.setsockopt(socket.IPPROTO_TCP, socket.TCP_NODELAY, 1)
         stream.setblocking(False)
         self.next += 1
         return Client(self.next - 1, stream)
@@ -408,6 +416,7 @@ def main():
     parser = argparse.ArgumentParser()
     parser.add_argument("--schema")
     parser.add_argument("--listen", type=int, default=0)
+    parser.add_argument("--unix")
     parser.add_argument("--rebase", action="store_true")
     parser.add_argument("--journal")
     parser.add_argument("--sync", choices=["always", "turn", "never"], default="turn")

@@ -183,10 +183,15 @@ class Chains(unittest.TestCase):
         self.assertEqual(sorted(it for it in os.listdir(self.folder) if it.startswith("copy")), ["copy.000002", "copy.000003", "copy.base"])
         self.assertEqual(self.ran("check", f"{self.folder}/copy")[0], 0)
 
-    def test_compact_and_a_replay_are_of_one_file(self):
+    def test_compact_is_of_one_file(self):
+        """Of others it says what makes them shorter, and makes nothing."""
         self.three()
-        self.assertEqual(self.ran("compact", self.path)[0], 2)
-        self.assertEqual(self.ran("check", self.path, "--replay", "mi_server")[0], 2)
+        said = f"{self.path}: it has a base or later segments: mi_service --rebase makes it shorter\n"
+        for gone in (None, "shop.journal.base", "shop.journal", "shop.journal.000002"):
+            gone and os.remove(f"{self.folder}/{gone}")
+            before = sorted(os.listdir(self.folder))
+            self.assertEqual(self.ran("compact", self.path), (2, "", said))
+            self.assertEqual(sorted(os.listdir(self.folder)), before)
 
 
 if __name__ == "__main__":

@@ -16,7 +16,7 @@ from mi_client import Schema
 from mi_client.schema import Index, Table
 from mi_client.utf8 import text_of
 from mi_tools.journal_names import base_path, numbers_of, segment_path
-from mi_tools.journals import OtherSchema
+from mi_tools.journals import OtherSchema, heading_of
 from mi_tools.meaning import hash_of
 from mi_tools.rowfiles import Faulty, json_line, reading, writing
 from mi_tools.whole_files import replacing
@@ -67,7 +67,7 @@ def base_lines(journal: str, schema: Schema) -> Iterator[bytes]:
         raise Faulty(f"{path} isn't there: mi_service --rebase makes it, of a journal that no service has")
     with open(path, "rb") as file:
         check_digest(file, path)
-        heading = json.loads(file.readline())
+        heading = heading_of(file.readline(), path)
         if heading["schema"] != hash_of(schema):
             raise OtherSchema(f"{path}: it is of another schema: name the one that the service was started with by --schema FILE")
         check_place(journal, heading)

@@ -3,15 +3,12 @@ read, and no file is changed."""
 from __future__ import annotations
 
 import contextlib
-import json
 import os
 import time
 from typing import Iterable, NamedTuple, Optional
 
 from mi_tools.journal_names import base_path, numbers_of, segment_path
-from mi_tools.journals import number_in
-
-LONGEST_HEADER = 1_024
+from mi_tools.journals import LONGEST_HEADER, heading_of, number_in
 
 
 class Base(NamedTuple):
@@ -50,9 +47,9 @@ def covered_in(journal: str, numbers: Iterable[int]) -> int:
     """How many of these segments the base covers, by its first line; 0 where that doesn't tell."""
     try:
         with open(base_path(journal), "rb") as file:
-            first = json.loads(file.readline(LONGEST_HEADER))["segment"]
+            first = heading_of(file.readline(LONGEST_HEADER), journal)["segment"]
         return sum(it < first for it in numbers)
-    except (OSError, ValueError, KeyError, TypeError):
+    except (OSError, ValueError):
         return 0
 
 

@@ -2,18 +2,23 @@
 from __future__ import annotations
 
 import argparse
+import contextlib
 import os
+import shutil
 from typing import Callable, List, Optional, Sequence
 
 from mi_client import Database, Ended, Schema
 from mi_client.database import AnySchema
 from mi_client.listening import Where, path_of
 from mi_tools.fitting import misfit
-from mi_tools.journals import OtherSchema, check_schema, replay
+from mi_tools.journal_copies import NoService, is_service, no_service, on_a_copy
+from mi_tools.journal_names import base_path, numbers_of, segment_path
+from mi_tools.journals import Lines, OtherSchema, check_schema, has_base, replay
 from mi_tools.whole_files import part_of
 
 NO_SOURCE = """a server that starts here is empty, so there is nothing to read: name the one that runs by --connect PORT, a service's journal by \
 --journal FILE, or a program that has rows of its own by --program FILE"""
+SERVICE = "mi_service"
 NO_COLUMNS = "the columns come from the schema: name it by --schema, or connect to a service, which tells it"
 """What a tool says that needs columns, where a server tells no schema."""
 
@@ -29,6 +34,19 @@ class NoProgram(OSError):
 def program_of(options: argparse.Namespace) -> str:
     """The server to start, where none is connected to."""
     return options.program or os.environ.get("MI_SERVER") or "mi_server"
+
+
+def service_beside(program: str, journal: str) -> str:
+    """The service to start, where none is named: MI_SERVICE's, else the one beside a server, else the one on the PATH. Raises NoProgram and NoService."""
+    named, server = os.environ.get("MI_SERVICE"), shutil.which(program)
+    if named and not is_service(named):
+        raise no_service(journal, named, "the variable MI_SERVICE")
+    beside = os.path.join(os.path.dirname(server), SERVICE) if server else ""
+    found = named or shutil.which(beside) or shutil.which(SERVICE)
+    if not found:
+        raise NoProgram(f"{journal}: it has a base, which {SERVICE} alone reads, and there is none beside {program}: name it by --program FILE or "
+                        "the variable MI_SERVICE")
+    return found
 
 
 def seconds(text: str) -> float:
@@ -64,7 +82,8 @@ def add_source(parser: argparse.ArgumentParser, forced: str = "") -> None:
     """The same for a tool that reads. Its words are parsed by `source_words`. `forced` is what --force does besides taking a program without
     rows."""
     add_server(parser)
-    parser.add_argument("--journal", metavar="FILE", help="reads a service's journal: the server to start is asked its lines")
+    parser.add_argument("--journal", metavar="FILE", help="reads a service's journal: the server to start is asked its lines. Of one with a base "
+                        "mi_service is started on a copy: --program's, else MI_SERVICE's, else the one beside the server")
     parser.add_argument("--force", action="store_true", help=f"takes a --program without rows{forced}")
 
 
@@ -79,15 +98,24 @@ def source_words(
         parser.error("--connect and --journal are two sources; one is wanted")
     if options.connect is None and options.journal is None and options.program is None and not has_rows(options):
         parser.error(NO_SOURCE)
-    for name, path in (("journal", options.journal), ("schema", options.schema)):
-        if path is not None and any(is_written(path, getattr(options, it, None)) for it in ("file", "svg")):
+    for name, paths in (("journal", files_of(options.journal)), ("schema", [options.schema])):
+        if any(is_written(path, getattr(options, it, None)) for it in ("file", "svg") for path in paths):
             parser.error(f"the {name} is read, and isn't the file to write")
     return options
 
 
-def is_written(path: str, other: Optional[str]) -> bool:
+def files_of(journal: Optional[str]) -> List[str]:
+    """The files of a journal that are seen; none without one."""
+    if journal is None:
+        return []
+    with contextlib.suppress(OSError):
+        return [journal, base_path(journal), *(segment_path(journal, it) for it in numbers_of(journal))]
+    return [journal]
+
+
+def is_written(path: Optional[str], other: Optional[str]) -> bool:
     """Whether a file is written by a tool that writes the other one, as itself or as its part."""
-    if other is None or not os.path.exists(path):
+    if path is None or other is None or not os.path.exists(path):
         return False
     return any(os.path.samefile(path, it) for it in (other, part_of(other)) if it is not None and os.path.exists(it))
 
@@ -109,7 +137,7 @@ def why(error: BaseException, options: argparse.Namespace) -> str:
 
 def status_of(error: BaseException) -> int:
     """The status that a tool ends with behind an error: 2 where its options name what doesn't go together."""
-    return 2 if isinstance(error, (NoRows, OtherSchema)) else 1
+    return 2 if isinstance(error, (NoRows, NoService, OtherSchema)) else 1
 
 
 def fitting_one(db: Database) -> Database:
@@ -134,13 +162,17 @@ def learnt(db: Database) -> Database:
     return db
 
 
+def no_program(program: str) -> NoProgram:
+    return NoProgram(f"there is no program {program}: name the server by --program FILE or the variable MI_SERVER, "
+                     "or one that listens by --connect PORT")
+
+
 def started(program: str, schema: Optional[str]) -> Database:
     """A server of its own. Raises OSError, and Ended, which says where a schema's file is at fault."""
     try:
         return Database.start(program, schema)
     except FileNotFoundError:
-        raise NoProgram(f"there is no program {program}: name the server by --program FILE or the variable MI_SERVER, "
-                        "or one that listens by --connect PORT") from None
+        raise no_program(program) from None
     except Ended as error:
         where = f": {fault_in(schema)}" if schema is not None and "schema: " in str(error) else ""
         raise Ended(f"{error}{where}") from None
@@ -165,17 +197,42 @@ def check_rows(db: Database, program: str) -> None:
                      "--journal FILE, or a program that brings rows of its own; --force takes none")
 
 
+def names_service(options: argparse.Namespace) -> bool:
+    """Whether --program names a service. Raises OSError."""
+    try:
+        return options.program is not None and is_service(options.program)
+    except FileNotFoundError:
+        raise no_program(options.program) from None
+
+
+def with_journal(options: argparse.Namespace, journal: str) -> Database:
+    """A server that has the tables of a journal: one that is asked its lines, or a service on a copy, where it has a base or the program that is named is
+    a service. Raises OSError and Ended; ValueError where the journal isn't one of this schema, or the program can't read it."""
+    is_named = names_service(options)
+    if is_named or has_base(journal):
+        if options.program and not is_named:
+            raise no_service(journal, options.program, "--program")
+        return on_a_copy(options.program or service_beside(program_of(options), journal), journal, options.schema)
+    lines = Lines(journal)
+    db = started(program_of(options), options.schema)
+    try:
+        check_schema(journal, lines.header, db.schema, options.schema)
+        replay(db, lines)
+    except BaseException:
+        db.close()
+        raise
+    return db
+
+
 def opened(options: argparse.Namespace, learns: bool = True) -> Database:
     """The connection. Where no schema is named, a server that is connected to is asked for its own, if the tool `learns` it. Raises OSError and
     Ended; ValueError where the schema is none or not the server's, or the journal isn't one of this schema."""
     if options.connect is not None:
         db = connected(options, options.schema)
         return learnt(db) if learns and options.schema is None else fitting_one(db)
-    db, journal = started(program_of(options), options.schema), getattr(options, "journal", None)
+    journal = getattr(options, "journal", None)
+    db = started(program_of(options), options.schema) if journal is None else with_journal(options, journal)
     try:
-        if journal is not None:
-            check_schema(journal, db, options.schema)
-            replay(db, journal)
         if getattr(options, "wants_rows", False):
             check_rows(db, options.program)
     except BaseException:

@@ -143,16 +143,6 @@ class Sources(unittest.TestCase):
         lost = "zeros, and 5015 bytes up to the last that is none, which a start of the service would cut off"
         self.assertEqual((ran.returncode, ran.stderr, self.read(self.backup)), (1, f"weltiyo dump: {path}:3: {lost}\n", "a backup\n"))
 
-    def test_a_journal_with_a_base_is_the_services(self) -> None:
-        """A server that is asked its lines wouldn't have the tables of the base."""
-        for more in ("base", "000002"):
-            path = self.journal('{"cmd":"start"}')
-            self.write(f"{path}.{more}", "")
-            ran = kit.ran("dump", "--journal", path, self.backup)
-            self.assertEqual((ran.returncode, self.read(self.backup)), (1, "a backup\n"), ran.stderr)
-            self.assertIn("it has a base or later segments, which mi_service reads", ran.stderr)
-            os.remove(f"{path}.{more}")
-
     def test_another_schema_than_the_journals(self) -> None:
         """However well its lines fit. The file stays, and the status is 2 as for other wrong words."""
         path = self.journal('{"cmd":"start"}')
