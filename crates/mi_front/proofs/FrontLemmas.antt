@@ -42,7 +42,7 @@ abbrev pub NotesNext : {F : Type 0} → (List ℕ → F → Type 0) → (F → O
     → Starts → Place → Type 0
 NotesNext {F} is_seen contents path schema place old was new now next = (lines : Lines) × Notes old was lines new now
     × (file : F) × is_seen (segment_name path place.number) file × IfSome (contents file) (λ bytes. IsNext schema place (text_of bytes) next
-    × IsAsked (string_bytes place.header) place.skip (text_of bytes) (Journal 0) old new)
+    × HasLines (string_bytes place.header) place.skip (text_of bytes) (Journal 0) lines)
 
 pub next_noted : {F E : Type 0} (is_seen : List ℕ → F → Type 0) (contents : F → Option (List ℕ)) (path : List ℕ) (schema : JournalSchema) (place : Place)
     (file : F) (r : Result Place E) (lines : Lines) (old new : HeldDatabase) (was now : Starts) → is_seen (segment_name path place.number) file
@@ -56,8 +56,7 @@ next_noted is_seen contents path schema place file (Ok next) lines old new was n
   file,
   seen,
   both (contents file) (λ bytes. IsNext schema place (text_of bytes) next) (λ bytes. (p : Place) → p.number ≡ place.number → IsNext schema p (text_of bytes) next)
-      (λ bytes. IsAsked (string_bytes place.header) place.skip (text_of bytes) (Journal 0) old new) (λ bytes f. f place refl) is
-      (asked_by (contents file) (string_bytes place.header) place.skip (Journal 0) lines old new notes.leaves has),
+      (λ bytes. HasLines (string_bytes place.header) place.skip (text_of bytes) (Journal 0) lines) (λ bytes f. f place refl) is has,
 )
 next_noted is_seen contents path schema place file (Err e) lines old new was now seen notes has is = tt
 

@@ -3,4 +3,5 @@ mod UndoneLemmas
 mod GivenLemmas
 mod NotedLemmas
 mod TextLemmas
+mod ClosedLemmas
 mod FrontLemmas

@@ -1,5 +1,5 @@
 -- The lines of a text: they are what is asked of it, and those behind a place are the others.
--- Cited by `laws::lines_are_asked`, `texts::note_file`, `texts::note_text` and `FrontLemmas`.
+-- Cited by `laws::lines_are_asked`, `texts::note_file`, `texts::note_text`, `ClosedLemmas` and `FrontLemmas`.
 use Rattle.std.proofs.Common.{◌≡◌, ℕ, zero, suc, ◌≤◌, ◌+◌, List, [], ◌∷◌, ◌++◌, length, take, drop, Bool, true, false, cond, nat_eq, Option, Some, None, option_map}
 use Rattle.std.proofs.Common.{refl, sym, ap, ◌∙◌, subst, arith, append_assoc, append-nil}
 use Rattle.std.specs.Prelude.{IfSome}

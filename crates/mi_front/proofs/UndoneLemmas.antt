@@ -1,5 +1,5 @@
 -- Where all sessions that are open at the end are undone, what is left is the base at the checkpoint.
--- Cited by `front::undo_open` and `FrontLemmas`.
+-- Cited by `front::undo_open`, `ClosedLemmas` and `FrontLemmas`.
 use Rattle.std.proofs.Common.{◌≡◌, ℕ, zero, suc, ◌+◌, ◌-◌, ◌<◌, ◌≤◌, ◌⊎◌, Bool, true, false, cond, not, ◌&&◌, nat_lt, nat_eq, List, [], ◌∷◌, ◌++◌, length, take, drop, get_or}
 use Rattle.std.proofs.Common.{Option, Result, Ok, Err, refl, sym, ap, ap₂, ◌∙◌, subst, inl, inr, arith, codes}
 use Rattle.std.proofs.lemmas.List.{take_all}

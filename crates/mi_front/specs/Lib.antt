@@ -1,3 +1,4 @@
 -- To be read in this order.
 pub mod Noted
 pub mod Front
+pub mod Closed

@@ -1,19 +1,22 @@
-//! A journal that is asked to its end, and what its open sessions changed is undone: the hub is left where a base may stand. It changes no file but by
-//! claiming the newest segment.
+//! A journal that is asked to its end, or to the end of its closed segments, and what its open sessions changed is undone: the hub is left where a base
+//! may stand. It changes no file.
 ghost use Rattle.std.specs.Prelude.{◌≡◌, ◌+◌, ◌∷◌, [], Some, true, option_map, OnOk, IfOk};
+ghost use Rattle.std.specs.String.{string_bytes};
 ghost use Rattle.mi_model.specs.Database.{depth};
 ghost use Rattle.mi_hub.specs.Connections.{rest_at};
 ghost use Rattle.mi_replay.specs.Replayed.{replayer, replayed, unheld};
 ghost use Rattle.mi_clients.specs.Clients.{fresh};
+ghost use Rattle.mi_recovery.specs.Names.{segment_name};
 ghost use Rattle.mi_front.specs.Front.{IsFrontPlace, IsFront, undo_all_line};
+ghost use Rattle.mi_front.specs.Closed.{IsClosedFront};
 
-use crate::row::{NotedJournal, note_row};
+use crate::row::{NotedJournal, note_closed, note_row};
 use mi_checkpoint::OpenStarts;
 use mi_durable::replay_line;
 use mi_hub::Hub;
 use mi_recovery::{
-    Asked, JournalFailure, JournalFault, JournalFile, JournalFiles, JournalSchema, Place, Position,
-    attach_replayer, claim_newest,
+    Asked, JournalFailure, JournalFault, JournalFile, JournalFiles, JournalSchema, Newest, Place,
+    Position, attach_replayer,
 };
 use mi_sessions::Sessions;
 use std::alloc::Global;
@@ -79,8 +82,8 @@ fn undo_open<D: Sessions + Drop>(alloc: Global, hub: &mut Hub<D>) -> Result<(), 
 /// Asks a hub that stands where a base does, or at the start, all lines of a path's journal behind that, as connection 1. Then what the sessions
 /// changed that are open at the end is undone. So a base of the hub stands in front of the oldest of them.
 ///
-/// The newest segment is claimed first, and the first one is made where none is there. No other file changes. The faults are those of `ask_journal`,
-/// and `Sessions` where a session is open before a line is asked. What the hub is behind a fault isn't said.
+/// This process has the newest segment. No file changes. The faults are those of `ask_journal` but for `Locked`, and `Sessions` where a session is open
+/// before a line is asked. What the hub is behind a fault isn't said.
 pub fn ask_front<P: JournalFiles, D: Sessions + Drop>(
     alloc: Global,
     files: &P,
@@ -88,15 +91,18 @@ pub fn ask_front<P: JournalFiles, D: Sessions + Drop>(
     path: &str,
     schema: &JournalSchema,
     position: Option<&Position>,
+    newest: Newest<P::File>,
 ) -> Result<Front<P::File>, JournalFault>
-    requires { hub.old.attached ≡ [] }
+    requires attached { hub.old.attached ≡ [] }
+    requires locked { P.File.is_locked newest.file ≡ true }
+    requires newest { P.is_newest files.now path.now newest.number }
+    requires path { string_bytes newest.path ≡ segment_name path.now newest.number }
     ensures front { IfOk result (λ front. IsFront (λ file. P.File.is_locked file ≡ true) (P.is_seen files.now) (P.is_newest files.now path.now)
         P.File.contents path.now schema.now (option_map (λ p. p.now) position.entry) hub.old.held front hub.new.held) }
     ensures depth { OnOk result (depth hub.new.held.database ≡ 0) }
     ensures attached { OnOk result (hub.new.attached ≡ fresh replayer ∷ []) }
 {
     check_bare(hub)?;
-    let newest = claim_newest(alloc, files, path)?;
     attach_replayer(hub)?;
     let mut starts = OpenStarts::new(alloc, hub.database().revision());
     let noted = note_row(
@@ -118,4 +124,44 @@ pub fn ask_front<P: JournalFiles, D: Sessions + Drop>(
         place,
         left: count.saturating_sub(lines),
     })
+}
+
+/// Asks a hub that stands where a base does, or at the start, the lines behind that of all segments in front of this number, as connection 1. Then what
+/// the sessions changed that are open there is undone. So a base of the hub stands in front of the oldest of them, in whichever segment that began. The
+/// answer is its place; where no session is open it is where the segment of this number begins.
+///
+/// These segments are closed if the number is the newest one's. They never change then, so another process may have the newest, and go on. No file is
+/// claimed, and none changes. The faults are those of `ask_front`; `Segment` also where the base stands behind that number. What the hub is behind a fault
+/// isn't said.
+pub fn ask_closed<P: JournalFiles, D: Sessions + Drop>(
+    alloc: Global,
+    files: &P,
+    hub: &mut Hub<D>,
+    path: &str,
+    schema: &JournalSchema,
+    position: Option<&Position>,
+    newest: u64,
+) -> Result<Place, JournalFault>
+    requires { hub.old.attached ≡ [] }
+    ensures front { IfOk result (λ place. IsClosedFront (P.is_seen files.now) P.File.contents path.now schema.now (option_map (λ p. p.now) position.entry) newest
+        hub.old.held place hub.new.held) }
+    ensures depth { OnOk result (depth hub.new.held.database ≡ 0) }
+    ensures attached { OnOk result (hub.new.attached ≡ fresh replayer ∷ []) }
+{
+    check_bare(hub)?;
+    attach_replayer(hub)?;
+    let mut starts = OpenStarts::new(alloc, hub.database().revision());
+    let row = note_closed(
+        alloc,
+        files,
+        hub,
+        &mut starts,
+        path,
+        schema,
+        position,
+        newest,
+    )?;
+    let place = row.place_behind(starts.settled_lines(), starts.lines())?;
+    undo_open(alloc, hub)?;
+    Ok(place)
 }

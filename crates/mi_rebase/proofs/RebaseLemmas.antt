@@ -1,5 +1,5 @@
 -- What a closed segment has, and that what was asked of it was found.
--- Cited by `closing::closed`, `rebasing::made`, `rebasing::rebased` and `rebasing::stand_of`.
+-- Cited by `beside::rebased_beside`, `closing::closed`, `rebasing::made`, `rebasing::rebased_alone` and `rebasing::stand_of`.
 use Rattle.std.proofs.Common.{◌≡◌, ◌≤◌, ℕ, zero, suc, List, [], ◌∷◌, Option, Some, None, Result, Ok, Err, refl, ap, ◌∙◌, subst, length, length-append, arith}
 use Rattle.std.specs.Prelude.{IfSome, OnOk}
 use Rattle.std.specs.Io.KnownBytes.{Keeps}

@@ -5,6 +5,7 @@ ghost use Rattle.mi_base.specs.declared.heading.Heading.{Heading};
 ghost use Rattle.mi_recovery.specs.Segments.{IsStart};
 ghost use Rattle.mi_rebase.specs.Rebase.{IsHeadingAt, IsWritten, IsMade, IsBegun};
 
+use crate::claiming::claim_new_base;
 use crate::images::Imaged;
 use crate::writing::{put_in_place, write_at};
 use mi_recovery::{
@@ -48,10 +49,11 @@ fn put_base<P: JournalFiles, D: Imaged>(
     database: &D,
 ) -> Result<(), JournalFault>
     ensures { OnOk result ((heading : Heading) × IsHeadingAt schema.now (D.state database.now).revision place.now heading
-        × IsWritten (P.is_seen files.now) P.File.contents P.File.stays path.now heading (D.state database.now)) }
+        × IsWritten (λ file. P.File.is_locked file ≡ true) (P.is_seen files.now) P.File.contents P.File.stays path.now heading (D.state database.now)) }
 {
-    write_at(alloc, files, path, schema, place, database)?;
-    put_in_place(alloc, files, path)
+    let new = claim_new_base(alloc, files, path)?;
+    let new = write_at(alloc, files, path, schema, place, database, new)?;
+    put_in_place(alloc, files, path, new)
 }
 
 /// Makes the segment that stands at a place, with its header and no line, which stay.

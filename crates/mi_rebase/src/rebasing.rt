@@ -1,91 +1,31 @@
 //! A base, made anew: a journal is asked to its end, its tables are written as they stood in front of what is open there, and what the base has is
-//! taken away. The order of these steps is to let a start give the same tables wherever they end; no clause says so. It looks at no line.
-ghost use Rattle.std.specs.Prelude.{◌≡◌, ◌+◌, [], length, true, option_map, OnOk, IfOk, IfSome};
+//! taken away. Where another process has the newest segment, it is made of the others. The order of these steps is to let a start give the same tables
+//! wherever they end; no clause says so. It looks at no line.
+ghost use Rattle.std.specs.Prelude.{◌≡◌, ◌+◌, ◌<◌, ◌⊎◌, [], length, true, option_map, OnOk, IfOk, IfSome};
 ghost use Rattle.std.specs.String.{string_bytes};
 ghost use Rattle.mi_recovery.specs.JournalFile.{text_of};
+ghost use Rattle.mi_recovery.specs.Names.{new_base_name, segment_name};
 ghost use Rattle.mi_recovery.specs.Recovery.{IsFound, kept_bytes};
 ghost use Rattle.mi_recovery.specs.Segments.{IsNext};
 ghost use Rattle.mi_base.specs.declared.heading.Heading.{Heading};
-ghost use Rattle.mi_rebase.specs.Rebase.{IsHeadingAt, IsWithin, base_place, IsRebased, IsWritten};
+ghost use Rattle.mi_rebase.specs.Rebase.{IsHeadingAt, IsWithin, base_place, IsRebased, IsRebasedBeside, IsWritten, HasSegment};
 
+use crate::beside::rebased_beside;
+use crate::claiming::NewBase;
 use crate::closing::closed;
 use crate::images::Imaged;
+use crate::removing::remove_up_to;
 use crate::settling::check_there;
-use crate::writing::{discard_new, keep_names, put_in_place, write_at};
+use crate::writing::{keep_names, put_in_place, write_at};
 use mi_front::{Front, ask_front};
 use mi_hub::Hub;
 use mi_log::DeviceLog;
 use mi_recovery::{
-    JournalDevice, JournalFailure, JournalFault, JournalFile, JournalFiles, JournalSchema, Place,
-    Position, next_segment, place_behind, segment_path,
+    JournalDevice, JournalFailure, JournalFault, JournalFile, JournalFiles, JournalSchema, Newest,
+    Place, Position, claim_newest, next_segment, place_behind,
 };
 use mi_sessions::Sessions;
 use std::alloc::Global;
-
-/// Whether the segment of this number is there.
-fn is_there<P: JournalFiles>(
-    alloc: Global,
-    files: &P,
-    path: &str,
-    number: u64,
-) -> Result<bool, JournalFault> {
-    let Ok(name) = segment_path(alloc, path, number) else {
-        return Err(JournalFault::from(JournalFailure::Memory));
-    };
-    match files.open_there(name.as_str()) {
-        Ok(file) => Ok(file.is_some()),
-        Err(error) => Err(JournalFault::of(JournalFailure::File, error)),
-    }
-}
-
-/// Takes the segment of this number away.
-fn remove<P: JournalFiles>(
-    alloc: Global,
-    files: &P,
-    path: &str,
-    number: u64,
-) -> Result<(), JournalFault> {
-    let Ok(name) = segment_path(alloc, path, number) else {
-        return Err(JournalFault::from(JournalFailure::Memory));
-    };
-    match files.remove(name.as_str()) {
-        Ok(()) => Ok(()),
-        Err(error) => Err(JournalFault::of(JournalFailure::Write, error)),
-    }
-}
-
-/// The number of the first of those segments that stand without a gap up to this one.
-fn first_there<P: JournalFiles>(
-    alloc: Global,
-    files: &P,
-    path: &str,
-    last: u64,
-) -> Result<u64, JournalFault> {
-    for back in 1..last {
-        if !is_there(alloc, files, path, last - back)? {
-            return Ok(last - back + 1);
-        }
-    }
-    Ok(1)
-}
-
-/// Takes away the segments up to this one that are there without a gap, the oldest first: so those that are left stand without a gap, and a later rebase
-/// finds them. No clause says which files go.
-fn remove_up_to<P: JournalFiles>(
-    alloc: Global,
-    files: &P,
-    path: &str,
-    last: u64,
-) -> Result<(), JournalFault> {
-    if last == 0 || !is_there(alloc, files, path, last)? {
-        return Ok(());
-    }
-    let first = first_there(alloc, files, path, last)?;
-    for number in first..last {
-        remove(alloc, files, path, number)?;
-    }
-    remove(alloc, files, path, last)
-}
 
 /// Where a base is to stand.
 #[derive(Drop)]
@@ -147,14 +87,16 @@ fn replaced<P: JournalFiles>(
     files: &P,
     path: &str,
     stand: &Stand<P::File>,
+    new: NewBase<P::File>,
 ) -> Result<(), JournalFault> {
-    if stand.within.is_some() {
-        put_in_place(alloc, files, path)?;
-    }
-    let _begun = next_segment(alloc, files, path, &stand.next)?;
-    if stand.within.is_none() {
-        put_in_place(alloc, files, path)?;
-    }
+    let _begun = if stand.within.is_some() {
+        put_in_place(alloc, files, path, new)?;
+        next_segment(alloc, files, path, &stand.next)?
+    } else {
+        let begun = next_segment(alloc, files, path, &stand.next)?;
+        put_in_place(alloc, files, path, new)?;
+        begun
+    };
     remove_up_to(alloc, files, path, stand.place().number.saturating_sub(1))?;
     keep_names(files, path)
 }
@@ -167,23 +109,56 @@ fn made<P: JournalFiles, D: Imaged>(
     schema: &JournalSchema,
     stand: &Stand<P::File>,
     database: &D,
+    new: NewBase<P::File>,
 ) -> Result<(), JournalFault>
+    requires locked { P.File.is_locked new.file ≡ true }
+    requires seen { P.is_seen files.now (new_base_name path.now) new.file }
     ensures { OnOk result ((heading : Heading) × IsHeadingAt schema.now (D.state database.now).revision (base_place stand.now.within stand.now.next) heading
-        × IsWritten (P.is_seen files.now) P.File.contents P.File.stays path.now heading (D.state database.now)) }
+        × IsWritten (λ file. P.File.is_locked file ≡ true) (P.is_seen files.now) P.File.contents P.File.stays path.now heading (D.state database.now)) }
 {
-    write_at(alloc, files, path, schema, stand.place(), database)?;
-    replaced(alloc, files, path, stand)
+    let new = write_at(alloc, files, path, schema, stand.place(), database, new)?;
+    replaced(alloc, files, path, stand, new)
 }
 
-/// Makes the base of a path's journal anew, and begins its next segment. A hub that stands at the position of the base before, or at the start, is asked
-/// all lines behind. What the sessions changed that are open at the end is undone in it, and the base has what is left. It stands in front of the oldest
-/// of them, or behind all lines where none is open. The segments in front of it are taken away. Where this fails no file of a base that isn't whole is left,
-/// unless that can't be taken away.
+/// Makes the base of a path's journal anew, whose newest segment this process has, and begins its next segment.
+fn rebased_alone<P: JournalFiles, D: Imaged + Drop>(
+    alloc: Global,
+    files: &P,
+    hub: Hub<D>,
+    path: &str,
+    schema: &JournalSchema,
+    position: Option<&Position>,
+    newest: Newest<P::File>,
+    new: NewBase<P::File>,
+) -> Result<(), JournalFault>
+    requires attached { hub.attached ≡ [] }
+    requires there { HasSegment (P.is_newest files.now path.now) }
+    requires locked { P.File.is_locked newest.file ≡ true }
+    requires newest { P.is_newest files.now path.now newest.number }
+    requires path { string_bytes newest.path ≡ segment_name path.now newest.number }
+    requires claimed { P.File.is_locked new.file ≡ true }
+    requires seen { P.is_seen files.now (new_base_name path.now) new.file }
+    ensures { OnOk result (IsRebased (λ file. P.File.is_locked file ≡ true) (P.is_seen files.now) (P.is_newest files.now path.now) P.File.contents
+        P.File.stays path.now schema.now (option_map (λ p. p.now) position.entry) hub.held) }
+{
+    let mut hub = hub;
+    let front = ask_front(alloc, files, &mut hub, path, schema, position, newest)?;
+    let stand = stand_of(alloc, files, schema, front)?;
+    made(alloc, files, path, schema, &stand, hub.database(), new)
+}
+
+/// Makes the base of a path's journal anew. A hub that stands at the position of the base before, or at the start, is asked the lines behind. What the
+/// sessions changed that are open at their end is undone in it, and the base has what is left. It stands in front of the oldest of them, or behind all
+/// these lines where none is open. The segments in front of it are taken away.
 ///
-/// `File` where no journal is there, or `Segment` where a base names a segment of it. `Sessions` where the oldest open session began in a segment in
-/// front of the newest. The other faults are those of `ask_front`, and `Write` where a file isn't written, renamed or made to stay. The clause says
-/// what was asked and what was written. It doesn't say that the base took its place, that the next segment was begun, or what was taken away: no
-/// file's path and no removal has a clause.
+/// If nobody has the newest segment, these are all lines, and the next segment is begun. It is refused by `Sessions` where the oldest open session began in
+/// a segment in front of the newest. If another process has it, these are the lines of the other segments, none of which is claimed. That process isn't
+/// told, and no segment is begun. Where the base would stand where it stands already, it is kept.
+///
+/// This process has the file of the base that isn't whole yet. Where this fails, or the base is kept, that file may be left: `discard_new_base` takes it away.
+/// `File` where no journal is there, or `Segment` where a base names a segment of it. The other faults are those of `ask_front` and `ask_closed`, and
+/// `Write` where a file isn't written, renamed or made to stay. The clause says what was asked and what was written. It doesn't say that the base took its
+/// place, that the next segment was begun, or what was taken away: no file's path and no removal has a clause. Nor does it say who had the newest segment.
 pub fn rebased<P: JournalFiles, D: Imaged + Drop>(
     alloc: Global,
     files: &P,
@@ -191,18 +166,24 @@ pub fn rebased<P: JournalFiles, D: Imaged + Drop>(
     path: &str,
     schema: &JournalSchema,
     position: Option<&Position>,
+    new: NewBase<P::File>,
 ) -> Result<(), JournalFault>
-    requires { hub.attached ≡ [] }
+    requires attached { hub.attached ≡ [] }
+    requires locked { P.File.is_locked new.file ≡ true }
+    requires seen { P.is_seen files.now (new_base_name path.now) new.file }
     ensures { OnOk result (IsRebased (λ file. P.File.is_locked file ≡ true) (P.is_seen files.now) (P.is_newest files.now path.now) P.File.contents
+        P.File.stays path.now schema.now (option_map (λ p. p.now) position.entry) hub.held
+        ⊎ IsRebasedBeside (λ file. P.File.is_locked file ≡ true) (P.is_seen files.now) (P.is_newest files.now path.now) P.File.contents
         P.File.stays path.now schema.now (option_map (λ p. p.now) position.entry) hub.held) }
 {
-    let mut hub = hub;
-    check_there(files, path, position)?;
-    let front = ask_front(alloc, files, &mut hub, path, schema, position)?;
-    let stand = stand_of(alloc, files, schema, front)?;
-    let made = made(alloc, files, path, schema, &stand, hub.database());
-    if made.is_err() {
-        discard_new(alloc, files, path);
+    let number = check_there(files, path, position)?;
+    match claim_newest(alloc, files, path) {
+        Ok(newest) => rebased_alone(alloc, files, hub, path, schema, position, newest, new),
+        Err(fault) => match fault.failure {
+            JournalFailure::Locked => rebased_beside(
+                alloc, files, hub, path, schema, position, number, new,
+            ),
+            _ => Err(fault),
+        },
     }
-    made
 }

@@ -1,5 +1,5 @@
 //! A journal that is asked to its end, where no session is open. It changes no file but by claiming the newest segment.
-ghost use Rattle.std.specs.Prelude.{◌≡◌, ◌∷◌, [], true, option_map, OnOk, IfOk};
+ghost use Rattle.std.specs.Prelude.{◌≡◌, ◌<◌, ◌∷◌, [], true, option_map, OnOk, IfOk};
 ghost use Rattle.mi_model.specs.Database.{depth};
 ghost use Rattle.mi_replay.specs.Replayed.{replayer};
 ghost use Rattle.mi_clients.specs.Clients.{fresh};
@@ -26,17 +26,18 @@ fn lacking(position: Option<&Position>) -> JournalFault {
     }
 }
 
-/// A segment of a journal is there. Where none is, `Segment` where a base names one, else `File`; and `File` where the folder can't be read.
+/// The number of the newest segment of a journal that is there. Where none is, `Segment` where a base names one, else `File`; and `File` where the folder can't be read.
 pub(crate) fn check_there<P: JournalFiles>(
     files: &P,
     path: &str,
     position: Option<&Position>,
-) -> Result<(), JournalFault>
-    ensures { OnOk result (HasSegment (P.is_newest files.now path.now)) }
+) -> Result<u64, JournalFault>
+    ensures newest { IfOk result (λ number. P.is_newest files.now path.now number) }
+    ensures there { IfOk result (λ number. 0 < number) }
 {
     match files.newest(path) {
         Ok(0) => Err(lacking(position)),
-        Ok(_number) => Ok(()),
+        Ok(number) => Ok(number),
         Err(error) => Err(JournalFault::of(JournalFailure::File, error)),
     }
 }

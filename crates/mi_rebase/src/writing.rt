@@ -1,13 +1,15 @@
 //! The base of a database, written: first to a file of its own, which then takes the place of the base before. It begins no segment.
-ghost use Rattle.std.specs.Prelude.{◌≡◌, [], length, Some, map, List, OnOk, IfOk, IfSome};
+ghost use Rattle.std.specs.Prelude.{◌≡◌, [], length, Some, map, true, List, OnOk, IfOk, IfSome};
 ghost use Rattle.std.specs.Io.KnownBytes.{Appends, Keeps};
 ghost use Rattle.mi_container.specs.Restore.{image_table};
 ghost use Rattle.mi_model.specs.Table.{Table};
 ghost use Rattle.mi_base.specs.declared.heading.Heading.{Heading};
 ghost use Rattle.mi_base.specs.Base.{base_text};
+ghost use Rattle.mi_recovery.specs.Names.{new_base_name};
 ghost use Rattle.mi_rebase.specs.Images.{AreImagesOf};
 ghost use Rattle.mi_rebase.specs.Rebase.{IsHeadingAt, IsWritten};
 
+use crate::claiming::NewBase;
 use crate::images::Imaged;
 use mi_base::{Heading, WriteFault, write_base};
 use mi_catalog::Catalog;
@@ -15,7 +17,7 @@ use mi_container::TableImage;
 use mi_log::Device;
 use mi_recovery::{
     FileWriter, JournalFailure, JournalFault, JournalFile, JournalFiles, JournalSchema, Place,
-    base_path, new_base_path,
+    base_path, check_name,
 };
 use sha2::{Digest, Sha256};
 use std::alloc::{AllocError, Global};
@@ -39,15 +41,11 @@ fn heading_at(
     })
 }
 
-/// A file at a path that has nothing: it is made, or emptied.
-fn emptied<P: JournalFiles>(files: &P, path: &str) -> Result<P::File, JournalFault>
-    ensures { IfOk result (λ file. (before : P.File) × P.is_seen files.now path.now before
-        × IfSome (P.File.contents before) (λ _. P.File.contents file ≡ Some [])) }
+/// A file that has nothing: it is emptied.
+fn emptied<F: JournalFile + Drop>(file: F) -> Result<F, JournalFault>
+    ensures { IfOk result (λ after. IfSome (F.contents file) (λ _. F.contents after ≡ Some [])) }
 {
-    let mut file = match files.open(path) {
-        Ok(file) => file,
-        Err(error) => return Err(JournalFault::of(JournalFailure::File, error)),
-    };
+    let mut file = file;
     match file.cut_to(0) {
         Ok(()) => Ok(file),
         Err(error) => Err(JournalFault::of(JournalFailure::File, error)),
@@ -104,7 +102,7 @@ fn write_into<F: JournalFile + Drop, D: Imaged>(
 }
 
 /// Makes what a file has stay. `Write` where that fails.
-fn make_stay<F: JournalFile>(file: &mut F) -> Result<(), JournalFault>
+pub(crate) fn make_stay<F: JournalFile>(file: &mut F) -> Result<(), JournalFault>
     ensures contents { Keeps (F.contents file.old) (F.contents file.new) }
     ensures stays { OnOk result (Keeps (F.contents file.new) (F.stays file.new)) }
 {
@@ -114,25 +112,24 @@ fn make_stay<F: JournalFile>(file: &mut F) -> Result<(), JournalFault>
     }
 }
 
-/// Writes the base of a database to the file of a base that isn't whole yet, and makes it stay.
-fn write_new<P: JournalFiles, D: Imaged>(
+/// Writes the base of a database to a file in the place of what that has, and makes it stay.
+fn write_new<F: JournalFile + Drop, D: Imaged>(
     alloc: Global,
-    files: &P,
-    path: &str,
     database: &D,
     heading: &Heading,
-) -> Result<(), JournalFault>
-    ensures { OnOk result (IsWritten (P.is_seen files.now) P.File.contents P.File.stays path.now heading.now (D.state database.now)) }
+    file: F,
+) -> Result<F, JournalFault>
+    ensures { IfOk result (λ after. (images : List Table) × AreImagesOf (D.state database.now) images
+        × IfSome (F.contents file) (λ _. F.contents after ≡ Some (base_text heading.now (D.state database.now).catalog images))
+        × Keeps (F.contents after) (F.stays after)) }
 {
-    let Ok(name) = new_base_path(alloc, path) else {
-        return Err(JournalFault::from(JournalFailure::Memory));
-    };
-    let file = emptied(files, name.as_str())?;
+    let file = emptied(file)?;
     let mut file = write_into(alloc, database, heading, file)?;
-    make_stay(&mut file)
+    make_stay(&mut file)?;
+    Ok(file)
 }
 
-/// Writes the base of a database that stands at a place to the file of a base that isn't whole yet, and makes it stay.
+/// Writes the base of a database that stands at a place to the file of a base that isn't whole yet, and makes it stay. This process has that file still.
 pub(crate) fn write_at<P: JournalFiles, D: Imaged>(
     alloc: Global,
     files: &P,
@@ -140,22 +137,19 @@ pub(crate) fn write_at<P: JournalFiles, D: Imaged>(
     schema: &JournalSchema,
     place: &Place,
     database: &D,
-) -> Result<(), JournalFault>
+    new: NewBase<P::File>,
+) -> Result<NewBase<P::File>, JournalFault>
+    requires locked { P.File.is_locked new.file ≡ true }
+    requires seen { P.is_seen files.now (new_base_name path.now) new.file }
     ensures { OnOk result ((heading : Heading) × IsHeadingAt schema.now (D.state database.now).revision place.now heading
-        × IsWritten (P.is_seen files.now) P.File.contents P.File.stays path.now heading (D.state database.now)) }
+        × IsWritten (λ file. P.File.is_locked file ≡ true) (P.is_seen files.now) P.File.contents P.File.stays path.now heading (D.state database.now)) }
 {
     let Ok(heading) = heading_at(alloc, schema, database.revision(), place) else {
         return Err(JournalFault::from(JournalFailure::Memory));
     };
-    write_new(alloc, files, path, database, &heading)?;
-    Ok(())
-}
-
-/// Takes away the file of a base that isn't whole yet, where one is there: it would have room that changes need. No clause says that it goes.
-pub(crate) fn discard_new<P: JournalFiles>(alloc: Global, files: &P, path: &str) {
-    if let Ok(name) = new_base_path(alloc, path) {
-        let _ = files.remove(name.as_str());
-    }
+    let NewBase { path: name, file } = new;
+    let file = write_new(alloc, database, &heading, file)?;
+    Ok(NewBase { path: name, file })
 }
 
 /// What was named, renamed or taken away in the folder of a path stays so. `Write` where that fails.
@@ -171,11 +165,13 @@ pub(crate) fn put_in_place<P: JournalFiles>(
     alloc: Global,
     files: &P,
     path: &str,
+    new: NewBase<P::File>,
 ) -> Result<(), JournalFault> {
-    let (Ok(from), Ok(to)) = (new_base_path(alloc, path), base_path(alloc, path)) else {
+    let Ok(to) = base_path(alloc, path) else {
         return Err(JournalFault::from(JournalFailure::Memory));
     };
-    if let Err(error) = files.rename(from.as_str(), to.as_str()) {
+    check_name(files, new.path.as_str(), &new.file)?;
+    if let Err(error) = files.rename(new.path.as_str(), to.as_str()) {
         return Err(JournalFault::of(JournalFailure::Write, error));
     }
     keep_names(files, to.as_str())

@@ -1,5 +1,5 @@
 -- Tables under another schema: why tables are refused, and that a journal was moved.
--- Cited by `moving::move_journal`, `moving::moved` and `moving::restored_under`.
+-- Cited by `moving::move_journal`, `moving::moved`, `moving::restored_under` and `moving::settled_once`.
 use Rattle.std.proofs.Common.{◌≡◌, ◌∙◌, ℕ, Bool, true, List, map, Option, Some, Result, Ok, Err, ap, inl, inr, subst}
 use Rattle.std.specs.Prelude.{◌⊎◌, OnOk}
 use Rattle.std.specs.Option.{option_map}
@@ -23,7 +23,7 @@ use Rattle.mi_rebase.specs.Rebase.{IsBegun}
 use Rattle.mi_serving.specs.declared.failure.Failure.TheVariants.{Memory}
 use Rattle.mi_serving.specs.declared.failure.Fault.{Fault}
 use Rattle.mi_serving.specs.declared.words.JournalWords.{JournalWords}
-use Rattle.mi_serving.specs.Moved.{failure_of_table, TellsIndex, IsRestoreRefusal, IsUnder, HasMoved}
+use Rattle.mi_serving.specs.Moved.{failure_of_table, TellsIndex, IsRestoreRefusal, IsSettled, IsUnder, HasMoved}
 use Rattle.mi_serving.specs.Served.{IsSchemaOf, StandsAt}
 
 -- the fault of a table says why the tables are refused
@@ -42,32 +42,40 @@ table_refused to catalog images revision n e s f same is why (inr says) told = i
 })
 
 module _ {F : Type 0} (is_locked : F → Type 0) (is_seen : List ℕ → F → Type 0) (is_newest : List ℕ → ℕ → Type 0) (contents stays : F → Option (List ℕ)) where
-  -- what was asked, put under the new catalog and begun with was moved
-  pub has_moved : (from to : CatalogShape) (words : JournalWords) (path file : List ℕ) (r : Result (Unit {0}) Fault) (schema : JournalSchema)
-      (position place : Option Position) (old : HubState) (asked : Asked F) (end : HeldDatabase) (d new : Database) → place ≡ position
-      → file ≡ string_bytes words.file → d ≡ end.database → IsSchemaOf from schema
+  -- what was asked was asked behind where its base stands
+  pub settled_at : (from same : CatalogShape) (words : JournalWords) (file : List ℕ) (schema : JournalSchema) (position place : Option Position)
+      (old : HubState) (asked : Asked F) (end : HeldDatabase) → from ≡ same → place ≡ position → file ≡ string_bytes words.file
       → StandsAt is_seen contents from (string_bytes schema.hash) (Some (string_bytes words.file)) position old
-      → IsAskedBehind is_locked is_seen (is_newest file) contents file schema place old.held asked end → depth end.database ≡ 0 → IsUnder d to new
-      → OnOk r ((s : JournalSchema) × IsSchemaOf new.catalog s × IsBegun is_locked is_seen (is_newest path) contents stays path s new)
-      → OnOk r (HasMoved is_locked is_seen is_newest contents stays from to words path)
-  has_moved from to words path file (Ok done) schema position place old asked end d new a b e of stands behind settled under begun = record {
-    schema = schema;
+      → IsAskedBehind is_locked is_seen (is_newest file) contents file schema place old.held asked end → depth end.database ≡ 0
+      → IsSettled is_locked is_seen is_newest contents same words schema asked end
+  settled_at from same words file schema position place old asked end c a b stands behind none = record {
     position = position;
     old = old;
+    stands = subst (λ (k : CatalogShape). StandsAt is_seen contents k (string_bytes schema.hash) (Some (string_bytes words.file)) position old) c stands;
+    behind = subst (λ f. IsAskedBehind is_locked is_seen (is_newest f) contents f schema position old.held asked end) b
+        (subst (λ p. IsAskedBehind is_locked is_seen (is_newest file) contents file schema p old.held asked end) a behind);
+    none = none;
+  }
+
+  -- what was asked, put under the new catalog and begun with was moved
+  pub has_moved : (from to : CatalogShape) (words : JournalWords) (path : List ℕ) (r : Result (Unit {0}) Fault) (schema : JournalSchema)
+      (asked : Asked F) (end : HeldDatabase) (d new : Database) → d ≡ end.database → IsSchemaOf from schema
+      → IsSettled is_locked is_seen is_newest contents from words schema asked end → IsUnder d to new
+      → OnOk r ((s : JournalSchema) × IsSchemaOf new.catalog s × IsBegun is_locked is_seen (is_newest path) contents stays path s new)
+      → OnOk r (HasMoved is_locked is_seen is_newest contents stays from to words path)
+  has_moved from to words path (Ok done) schema asked end d new e of settled under begun = record {
+    schema = schema;
     asked = asked;
     end = end;
     new = new;
     new_schema = begun.0;
     of_catalog = of;
-    stands = stands;
-    behind = subst (λ f. IsAskedBehind is_locked is_seen (is_newest f) contents f schema position old.held asked end) b
-        (subst (λ p. IsAskedBehind is_locked is_seen (is_newest file) contents file schema p old.held asked end) a behind);
     settled = settled;
     under = subst (λ (k : Database). IsUnder k to new) e under;
     of_new = subst (λ (k : CatalogShape). IsSchemaOf k begun.0) (ap (λ (k : Database). k.catalog) under.is) begun.1;
     begun = begun.2;
   }
-  has_moved from to words path file (Err fault) schema position place old asked end d new a b e of stands behind settled under begun = tt
+  has_moved from to words path (Err fault) schema asked end d new e of settled under begun = tt
 
   -- a journal of the named files' catalogs was moved
   pub moved_of_files : {G : Type 0} (remaining : G → Option (List ℕ)) (named same : Bool) (from to : CatalogShape) (words : JournalWords)

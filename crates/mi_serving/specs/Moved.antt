@@ -4,6 +4,7 @@
 --     Tells, TellsType, TellsIndex      what a fault is told to be about
 --     IsRestoreRefusal, IsRefusal      why tables aren't put under another catalog
 --     moved_database, IsUnder      the tables under another catalog
+--     IsSettled      the old journal was asked to its end
 --     HasMoved      a new journal began with them
 use Rattle.std.specs.Prelude.{◌≡◌, ◌⊎◌, ◌<◌, ℕ, List, [], ◌∷◌, ◌++◌, length, slice_get, Option, Some, None, option_map}
 use Rattle.std.specs.List.{AllByRecursion}
@@ -87,21 +88,27 @@ pub record IsUnder (d : Database) (to : CatalogShape) (new : Database) : Type 0 
   pub types : AllByRecursion (λ s. other_column d.catalog s ≡ None) to.tables
   pub is : new ≡ moved_database d to
 
--- The journal of a catalog that the words name was asked to its end, from what its base has, or from empty tables, on. No session was open there. A
--- journal of another catalog began at a path, with the tables of the old one under that.
+-- The journal of a catalog that the words name was asked to its end, from what its base has, or from empty tables, on. No session is open there.
+pub record IsSettled {F : Type 0} (is_locked : F → Type 0) (is_seen : List ℕ → F → Type 0) (is_newest : List ℕ → ℕ → Type 0)
+    (contents : F → Option (List ℕ)) (from : CatalogShape) (words : JournalWords) (schema : JournalSchema) (asked : Asked F) (end : HeldDatabase)
+    : Type 0 where
+  pub position : Option Position
+  pub old : HubState
+  pub stands : StandsAt is_seen contents from (string_bytes schema.hash) (Some (string_bytes words.file)) position old
+  pub behind : IsAskedBehind is_locked is_seen (is_newest (string_bytes words.file)) contents (string_bytes words.file) schema position old.held asked end
+  pub none : depth end.database ≡ 0
+
+-- The journal of a catalog that the words name was asked to its end. A journal of another catalog began at a path, with the tables of the old one under
+-- that.
 pub record HasMoved {F : Type 0} (is_locked : F → Type 0) (is_seen : List ℕ → F → Type 0) (is_newest : List ℕ → ℕ → Type 0)
     (contents stays : F → Option (List ℕ)) (from to : CatalogShape) (words : JournalWords) (path : List ℕ) : Type 0 where
   pub schema : JournalSchema
-  pub position : Option Position
-  pub old : HubState
   pub asked : Asked F
   pub end : HeldDatabase
   pub new : Database
   pub new_schema : JournalSchema
   pub of_catalog : IsSchemaOf from schema
-  pub stands : StandsAt is_seen contents from (string_bytes schema.hash) (Some (string_bytes words.file)) position old
-  pub behind : IsAskedBehind is_locked is_seen (is_newest (string_bytes words.file)) contents (string_bytes words.file) schema position old.held asked end
-  pub settled : depth end.database ≡ 0
+  pub settled : IsSettled is_locked is_seen is_newest contents from words schema asked end
   pub under : IsUnder end.database to new
   pub of_new : IsSchemaOf to new_schema
   pub begun : IsBegun is_locked is_seen (is_newest path) contents stays path new_schema new

@@ -8,13 +8,14 @@ use Rattle.mi_container.specs.Restore.{image_table}
 use Rattle.mi_database.specs.Restored.{restored_database}
 use Rattle.mi_base.specs.declared.heading.Heading.{Heading}
 use Rattle.mi_base.specs.Base.{base_text}
+use Rattle.mi_commands.specs.Holder.{HeldDatabase}
 use Rattle.mi_hub.specs.Run.{HubState}
 use Rattle.mi_recovery.specs.declared.place.JournalSchema.{JournalSchema}
 use Rattle.mi_recovery.specs.declared.place.Position.{Position}
 use Rattle.mi_recovery.specs.Fingerprint.{schema_hash}
 use Rattle.mi_recovery.specs.Names.{base_name}
 use Rattle.mi_recovery.specs.Segments.{IsOpenedBehind}
-use Rattle.mi_rebase.specs.Rebase.{IsRebased}
+use Rattle.mi_rebase.specs.Rebase.{IsRebased, IsRebasedBeside}
 use Rattle.mi_serving.specs.declared.failure.Failure.{Failure}
 use Rattle.mi_serving.specs.declared.failure.Failure.TheVariants.{Poll, Turns}
 use Rattle.mi_serving.specs.declared.words.JournalWords.{JournalWords}
@@ -66,13 +67,17 @@ Begins is_locked is_seen is_newest contents schema position start None hub told 
 Begins is_locked is_seen is_newest contents schema position start (Some words) hub told segment = IsOpenedBehind is_locked is_seen
     (is_newest (string_bytes words.file)) contents (string_bytes words.file) schema position (keeping_by words.sync) start hub told segment
 
--- So it began, and was served until this failure. Where the poll or the turns ended it, what its steps left is told; the journal went on in segments of
--- as many bytes as the words say.
-abbrev pub Serves : {F : Type 0} → (F → Type 0) → (List ℕ → F → Type 0) → (List ℕ → ℕ → Type 0) → (F → Option (List ℕ)) → JournalSchema
-    → Option Position → HubState → Option JournalWords → Failure → Type 0
-Serves is_locked is_seen is_newest contents schema position old words failure =
-    (start : HubState) × (end : HubState) × (before : Option (List ℕ)) × (after : Option (List ℕ)) × (segment : Option ℕ)
-    × Begins is_locked is_seen is_newest contents schema position old words start before segment
+-- It began so behind a position at which a base stands, or with empty tables.
+abbrev pub HasBegun : {F : Type 0} → (F → Type 0) → (List ℕ → F → Type 0) → (List ℕ → ℕ → Type 0) → (F → Option (List ℕ)) → CatalogShape → JournalSchema
+    → Option JournalWords → HubState → Option (List ℕ) → Option ℕ → Type 0
+HasBegun is_locked is_seen is_newest contents catalog schema words hub told segment = (position : Option Position) × (old : HubState)
+    × StandsAt is_seen contents catalog (string_bytes schema.hash) (path_of words) position old
+    × Begins is_locked is_seen is_newest contents schema position old words hub told segment
+
+-- From start, of whose journal that is told, it was served until this failure. Where the poll or the turns ended it, what its steps left is told; the
+-- journal went on in segments of as many bytes as the words say.
+abbrev pub GoesOn : {F : Type 0} → (F → Type 0) → (F → Option (List ℕ)) → JournalSchema → Option JournalWords → HubState → Option (List ℕ) → Failure → Type 0
+GoesOn is_locked contents schema words start before failure = (end : HubState) × (after : Option (List ℕ))
     × ((failure ≡ Turns) ⊎ (failure ≡ Poll)
     → GoesOver is_locked contents schema (keeping_of words) (segment_bytes_of words) start end before after) × (ends_serving failure ≡ true)
 
@@ -80,11 +85,19 @@ Serves is_locked is_seen is_newest contents schema position old words failure =
 pub record HasServed {F : Type 0} (is_locked : F → Type 0) (is_seen : List ℕ → F → Type 0) (is_newest : List ℕ → ℕ → Type 0)
     (contents : F → Option (List ℕ)) (catalog : CatalogShape) (words : Option JournalWords) (failure : Failure) : Type 0 where
   pub schema : JournalSchema
-  pub position : Option Position
-  pub old : HubState
+  pub start : HubState
+  pub told : Option (List ℕ)
+  pub segment : Option ℕ
   pub of_catalog : IsSchemaOf catalog schema
-  pub stands : StandsAt is_seen contents catalog (string_bytes schema.hash) (path_of words) position old
-  pub serves : Serves is_locked is_seen is_newest contents schema position old words failure
+  pub begun : HasBegun is_locked is_seen is_newest contents catalog schema words start told segment
+  pub serves : GoesOn is_locked contents schema words start told failure
+
+-- From old, which stands at a position of a path's journal, its base is made anew: of all segments, or of those in front of the newest.
+abbrev pub IsMadeAnew : {F : Type 0} → (F → Type 0) → (List ℕ → F → Type 0) → (List ℕ → ℕ → Type 0) → (F → Option (List ℕ)) → (F → Option (List ℕ)) → List ℕ
+    → JournalSchema → Option Position → HeldDatabase → Type 0
+IsMadeAnew is_locked is_seen is_newest contents stays path schema position old =
+    IsRebased is_locked is_seen (is_newest path) contents stays path schema position old
+    ⊎ IsRebasedBeside is_locked is_seen (is_newest path) contents stays path schema position old
 
 -- The journal of a catalog that the words name was rebased, from what its base has, or from empty tables, on.
 pub record HasRebased {F : Type 0} (is_locked : F → Type 0) (is_seen : List ℕ → F → Type 0) (is_newest : List ℕ → ℕ → Type 0)
@@ -94,4 +107,4 @@ pub record HasRebased {F : Type 0} (is_locked : F → Type 0) (is_seen : List �
   pub old : HubState
   pub of_catalog : IsSchemaOf catalog schema
   pub stands : StandsAt is_seen contents catalog (string_bytes schema.hash) (Some (string_bytes words.file)) position old
-  pub rebased : IsRebased is_locked is_seen (is_newest (string_bytes words.file)) contents stays (string_bytes words.file) schema position old.held
+  pub rebased : IsMadeAnew is_locked is_seen is_newest contents stays (string_bytes words.file) schema position old.held

@@ -3,6 +3,7 @@
 #![tactic(auto)]
 
 mod acceptor;
+mod beginning;
 mod failure;
 mod link;
 mod move_words;

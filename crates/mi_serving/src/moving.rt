@@ -12,9 +12,10 @@ ghost use Rattle.mi_recovery.specs.declared.place.JournalSchema.{JournalSchema a
 ghost use Rattle.mi_rebase.specs.Rebase.{IsBegun};
 ghost use Rattle.mi_reshape.specs.Catalogs.{tables_under as put_under, other_column};
 ghost use Rattle.mi_reshape.specs.Reshaped.{column_at};
-ghost use Rattle.mi_serving.specs.Moved.{part_name, failure_of_table, Tells, TellsType, TellsIndex, IsRestoreRefusal, IsRefusal, IsUnder, HasMoved};
+ghost use Rattle.mi_serving.specs.Moved.{part_name, failure_of_table, Tells, TellsType, TellsIndex, IsRestoreRefusal, IsRefusal, IsSettled, IsUnder, HasMoved};
 ghost use Rattle.mi_serving.specs.Served.{IsSchemaOf};
 
+use crate::beginning::{MOST_TRIES, copied, is_overtaken};
 use crate::failure::{Failure, Fault};
 use crate::move_words::MoveWords;
 use crate::source::{Source, catalog};
@@ -23,9 +24,10 @@ use crate::words::{JournalWords, Options};
 use mi_catalog::{Catalog, Schema};
 use mi_container::{RestoreFault, TableImage};
 use mi_database::{DatabaseFault, Linked};
+use mi_hub::Hub;
 use mi_program::drawn;
 use mi_rebase::{Imaged, begun_with, settled};
-use mi_recovery::{JournalFile, JournalFiles};
+use mi_recovery::{Asked, JournalFile, JournalFiles, JournalSchema};
 use mi_reshape::{CatalogFault, DroppedPart, dropped, reshaped_all};
 use mi_sessions::Sessions;
 use std::alloc::{AllocError, AllocGlobal, Global};
@@ -226,6 +228,50 @@ fn begin<P: JournalFiles, D: Imaged>(
     }
 }
 
+/// The tables that the journal which the words name has at its end, where no session is open, and its newest segment, which this process has. It is read
+/// once.
+fn settled_once<R: AllocGlobal + RandomSource, P: JournalFiles>(
+    rt: &R,
+    files: &P,
+    journal: &JournalWords,
+    from: &Catalog,
+    schema: &JournalSchema,
+) -> Result<(Hub<Tables>, Asked<P::File>), Fault>
+    ensures { IfOk result (λ r. IsSettled (λ file. P.File.is_locked file ≡ true) (P.is_seen files.now) (P.is_newest files.now) P.File.contents
+        from.now journal.now schema.now r.1 r.0.held) }
+{
+    let catalog = copied(rt.alloc(), from)?;
+    let (hub, position) = standing(rt, files, Some(journal), catalog, schema)?;
+    let mut hub = hub;
+    let path = journal.file.as_str();
+    let asked = settled(rt.alloc(), files, &mut hub, path, schema, position.as_ref())?;
+    Ok((hub, asked))
+}
+
+/// The same. Where a segment is taken away before it was asked, and a base has it, all is read again, up to 16 times.
+fn settled_tables<R: AllocGlobal + RandomSource, P: JournalFiles>(
+    rt: &R,
+    files: &P,
+    journal: &JournalWords,
+    from: &Catalog,
+    schema: &JournalSchema,
+) -> Result<(Hub<Tables>, Asked<P::File>), Fault>
+    ensures { IfOk result (λ r. IsSettled (λ file. P.File.is_locked file ≡ true) (P.is_seen files.now) (P.is_newest files.now) P.File.contents
+        from.now journal.now schema.now r.1 r.0.held) }
+{
+    for _try in 1..MOST_TRIES {
+        match settled_once(rt, files, journal, from, schema) {
+            Ok(found) => return Ok(found),
+            Err(fault) => {
+                if !is_overtaken(rt.alloc(), files, Some(journal), from, schema, &fault) {
+                    return Err(fault);
+                }
+            }
+        }
+    }
+    settled_once(rt, files, journal, from, schema)
+}
+
 /// Puts the tables of a journal under another catalog: a journal at that path begins with them. The old journal is asked to its end, and this process
 /// alone has it meanwhile. None of its files changes; where none is there, an empty one is made, and the new journal has empty tables. What is dropped
 /// is said before that begins.
@@ -256,10 +302,7 @@ pub(crate) fn moved<R: AllocGlobal + RandomSource, P: JournalFiles, W: Write>(
     let Ok(schema) = journal_schema(alloc, &from) else {
         return Err(Fault::from(Failure::Memory));
     };
-    let (hub, position) = standing(rt, files, Some(journal), from, &schema)?;
-    let mut hub = hub;
-    let old = journal.file.as_str();
-    let _asked = settled(alloc, files, &mut hub, old, &schema, position.as_ref())?;
+    let (hub, _asked) = settled_tables(rt, files, journal, &from, &schema)?;
     let tables = tables_under(rt, hub.database(), to)?;
     tell_dropped(alloc, hub.database().catalog(), to, output)?;
     begin(alloc, files, path, &tables)

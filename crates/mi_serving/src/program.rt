@@ -1,19 +1,23 @@
 //! What the program does, in its order: the words are judged, the schema is read, the port and the path are listened on, the base is read, the journal
 //! is asked again, and then connections are served. Or a journal is rebased, or put under another schema.
-ghost use Rattle.std.specs.Prelude.{◌≡◌, [], None, Ok, true, false, is_some, option_map, IfOk, IfSome, OnOk, MatchOption};
+ghost use Rattle.std.specs.Prelude.{◌≡◌, [], None, Some, Ok, Option, true, is_some, option_map, IfOk, IfSome, OnOk};
 ghost use Rattle.std.specs.Io.KnownBytes.{Keeps};
 ghost use Rattle.mi_log.specs.DeviceLog.{device_of, segment_of};
 ghost use Rattle.mi_durable.specs.Durable.{hub_of, log_of};
-ghost use Rattle.mi_recovery.specs.Device.{is_staying, is_synced, told_of};
+ghost use Rattle.mi_recovery.specs.declared.place.Position.{Position as At};
+ghost use Rattle.mi_recovery.specs.Device.{told_of};
+ghost use Rattle.mi_recovery.specs.Names.{new_base_name};
+ghost use Rattle.mi_hub.specs.Run.{HubState};
 ghost use Rattle.mi_serving.specs.Words as spec;
 ghost use Rattle.mi_serving.specs.Words.{asks_each};
 ghost use Rattle.mi_serving.specs.Moved.{HasMoved};
-ghost use Rattle.mi_serving.specs.Served.{Begins, Serves, HasServed, HasRebased};
+ghost use Rattle.mi_serving.specs.Served.{GoesOn, StandsAt, IsMadeAnew, HasServed, HasRebased};
 ghost use Rattle.std.specs.String.{string_bytes};
 ghost use Rattle.mi_catalog.specs.Shape.{CatalogShape};
 ghost use Rattle.mi_program.specs.Source.{IsCatalog};
 
 use crate::acceptor::Acceptor;
+use crate::beginning::{begun, keeping_by};
 use crate::failure::{Failure, Fault};
 use crate::moving::move_journal;
 use crate::patience::Patience;
@@ -22,12 +26,12 @@ use crate::service::serve;
 use crate::source::{Source, catalog};
 use crate::start::{journal_schema, standing};
 use crate::words::{JournalWords, Options, SyncMode, read_words};
+use mi_catalog::Catalog;
 use mi_clients::SchemaLine;
-use mi_hub::Hub;
-use mi_rebase::rebased;
+use mi_rebase::{NewBase, claim_new_base, discard_new_base, rebased};
 use mi_recovery::{
-    JournalDurable, JournalFiles, JournalSchema, Keeping, Position, Rolling, SystemFiles,
-    log_error, opened_behind, without,
+    JournalDurable, JournalFile, JournalFiles, JournalSchema, Keeping, Rolling, SystemFiles,
+    log_error,
 };
 use mi_sessions::Sessions;
 use std::alloc::Global;
@@ -39,48 +43,6 @@ use std::net::Net;
 use std::random::RandomSource;
 use std::rt::Files;
 use std::time::Clock;
-
-/// What is done of a sync that is asked for.
-fn keeping_by(sync: SyncMode) -> Keeping
-    ensures { result ≡ spec.keeping_by sync }
-{
-    match sync {
-        SyncMode::Always | SyncMode::Turn => Keeping::Synced,
-        SyncMode::Never => Keeping::Unsynced,
-    }
-}
-
-/// A hub that goes on with the journal that the words name, where they name one. It stands behind that position, or at the journal's start.
-fn durable_of<P: JournalFiles, D: Sessions + Drop>(
-    alloc: Global,
-    files: &P,
-    hub: Hub<D>,
-    schema: &JournalSchema,
-    position: Option<&Position>,
-    journal: Option<&JournalWords>,
-) -> Result<JournalDurable<P::File, D>, Fault>
-    requires { hub.attached ≡ [] }
-    ensures begins { IfOk result (λ durable. Begins (λ file. P.File.is_locked file ≡ true) (P.is_seen files.now) (P.is_newest files.now) P.File.contents
-        schema.now (option_map (λ p. p.now) position.entry) hub (option_map (λ words. words.now) journal.entry) (hub_of durable)
-        (told_of P.File.contents (device_of (log_of durable))) (segment_of (log_of durable))) }
-    ensures attached { IfOk result (λ durable. (hub_of durable).attached ≡ []) }
-    ensures settled { IfOk result (λ durable. Keeps (told_of P.File.contents (device_of (log_of durable))) (told_of P.File.stays (device_of (log_of durable)))) }
-    ensures stays { IfOk result (λ durable. MatchOption journal.entry (is_staying (device_of (log_of durable)) ≡ false)
-        (λ words. is_staying (device_of (log_of durable)) ≡ is_synced (spec.keeping_by words.now.sync))) }
-{
-    match journal {
-        Some(words) => Ok(opened_behind(
-            alloc,
-            files,
-            hub,
-            words.file.as_str(),
-            keeping_by(words.sync),
-            schema,
-            position,
-        )?),
-        None => Ok(without(hub)),
-    }
-}
 
 /// Writes where it listens: a line for the port, and one for the path.
 fn write_places<W: Write>(output: &mut W, port: Option<u16>, path: Option<&str>) -> io::Result<()> {
@@ -137,14 +99,12 @@ fn rolling_of<'a>(journal: Option<&'a JournalWords>, schema: &'a JournalSchema) 
     }
 }
 
-/// Serves a hub, with what the journal has, until something fails, which is the answer. It says where it listens once it is ready. An
-/// error comes before the first connection.
+/// Serves a durable hub until something fails, which is the answer. It says where it listens first. An error comes before the first connection.
 fn serve_hub<P: JournalFiles, D: Sessions + Drop, C: Clock, W: Write>(
     alloc: Global,
     files: &P,
-    hub: Hub<D>,
+    durable: JournalDurable<P::File, D>,
     schema: &JournalSchema,
-    position: Option<&Position>,
     journal: Option<&JournalWords>,
     acceptor: &mut Acceptor,
     path: Option<&str>,
@@ -152,13 +112,13 @@ fn serve_hub<P: JournalFiles, D: Sessions + Drop, C: Clock, W: Write>(
     line: &SchemaLine,
     output: &mut W,
 ) -> Result<Fault, Fault>
-    requires { hub.attached ≡ [] }
-    ensures { IfOk result (λ ended. Serves (λ file. P.File.is_locked file ≡ true) (P.is_seen files.now) (P.is_newest files.now) P.File.contents
-        schema.now (option_map (λ p. p.now) position.entry) hub (option_map (λ words. words.now) journal.entry) ended.failure) }
+    requires attached { (hub_of durable).attached ≡ [] }
+    requires settled { Keeps (told_of P.File.contents (device_of (log_of durable))) (told_of P.File.stays (device_of (log_of durable))) }
+    ensures { IfOk result (λ ended. GoesOn (λ file. P.File.is_locked file ≡ true) P.File.contents schema.now (option_map (λ words. words.now) journal.entry)
+        (hub_of durable) (told_of P.File.contents (device_of (log_of durable))) ended.failure) }
 {
-    let port = acceptor.port()?;
-    let mut durable = durable_of(alloc, files, hub, schema, position, journal)?;
-    announce(output, port, path)?;
+    let mut durable = durable;
+    announce(output, acceptor.port()?, path)?;
     let rolling = rolling_of(journal, schema);
     let failure = serve(
         alloc,
@@ -195,14 +155,13 @@ fn perform<R: Files + Net + AllocGlobal + RandomSource + Clock, P: JournalFiles,
         return Err(Fault::from(Failure::Memory));
     };
     let journal = options.journal.as_ref();
-    let (hub, position) = standing(rt, files, journal, catalog, &schema)?;
     let mut patience = Patience::new(rt, options.limits);
+    let durable = begun(rt, files, journal, &catalog, &schema)?;
     serve_hub(
         rt.alloc(),
         files,
-        hub,
+        durable,
         &schema,
-        position.as_ref(),
         journal,
         &mut acceptor,
         options.addresses.unix.as_deref(),
@@ -212,7 +171,29 @@ fn perform<R: Files + Net + AllocGlobal + RandomSource + Clock, P: JournalFiles,
     )
 }
 
-/// Rebases a journal of the schema that the options name.
+/// Rebases the journal that the words name, from what its base has. This process has the file of the base that isn't whole yet.
+fn rebase_claimed<R: AllocGlobal + RandomSource, P: JournalFiles>(
+    rt: &R,
+    files: &P,
+    journal: &JournalWords,
+    catalog: Catalog,
+    schema: &JournalSchema,
+    new: NewBase<P::File>,
+) -> Result<(), Fault>
+    requires locked { P.File.is_locked new.file ≡ true }
+    requires seen { P.is_seen files.now (new_base_name (string_bytes journal.now.file)) new.file }
+    ensures { OnOk result ((position : Option At) × (old : HubState) × StandsAt (P.is_seen files.now) P.File.contents catalog
+        (string_bytes schema.now.hash) (Some (string_bytes journal.now.file)) position old
+        × IsMadeAnew (λ file. P.File.is_locked file ≡ true) (P.is_seen files.now) (P.is_newest files.now) P.File.contents P.File.stays
+        (string_bytes journal.now.file) schema.now position old.held) }
+{
+    let (hub, position) = standing(rt, files, Some(journal), catalog, schema)?;
+    let path = journal.file.as_str();
+    Ok(rebased(rt.alloc(), files, hub, path, schema, position.as_ref(), new)?)
+}
+
+/// Rebases a journal of the schema that the options name. The file of a base that isn't whole yet is claimed before the base is read, so no other rebase
+/// puts another one in its place meanwhile.
 fn rebase<R: Files + AllocGlobal + RandomSource, P: JournalFiles>(
     rt: &R,
     files: &P,
@@ -226,9 +207,11 @@ fn rebase<R: Files + AllocGlobal + RandomSource, P: JournalFiles>(
     let Ok(schema) = journal_schema(rt.alloc(), &catalog) else {
         return Err(Fault::from(Failure::Memory));
     };
-    let (hub, position) = standing(rt, files, Some(journal), catalog, &schema)?;
     let path = journal.file.as_str();
-    Ok(rebased(rt.alloc(), files, hub, path, &schema, position.as_ref())?)
+    let new = claim_new_base(rt.alloc(), files, path)?;
+    let ended = rebase_claimed(rt, files, journal, catalog, &schema, new);
+    discard_new_base(rt.alloc(), files, path);
+    ended
 }
 
 /// Does what the options say. The answer is why it ended, or none where a journal was rebased or put under another schema.

@@ -85,7 +85,7 @@ fn restored_tables<R: AllocGlobal + RandomSource>(
 }
 
 /// The base of the journal that the words name, where they name one and it has one.
-fn read_base<P: JournalFiles>(
+pub(crate) fn read_base<P: JournalFiles>(
     alloc: Global,
     files: &P,
     journal: Option<&JournalWords>,

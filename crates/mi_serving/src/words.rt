@@ -228,7 +228,7 @@ fn command<'a>(alloc: Global) -> Result<Command<'a>, AllocError>
     let with_rebase = with_journal.arg(flag(
         alloc,
         "rebase",
-        "Writes the tables of the journal to its base, FILE.base, begins a new segment, and ends; nobody may serve it meanwhile",
+        "Writes the tables of the journal to its base, FILE.base, removes the segments in front of it, and ends; the journal may be served meanwhile",
     ))?;
     let with_moving = movable(alloc, with_rebase)?;
     let with_limits = limited(alloc, with_moving)?;

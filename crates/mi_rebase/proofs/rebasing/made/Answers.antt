@@ -8,7 +8,7 @@ use Rattle.mi_rebase.proofs.rebasing.made.Goals as goal
 
 pub returns : goal.returns
 returns g c =
-    let written = c.in_ok-write_at.ensures in
+    let written = c.in_ok-new.ensures in
     on_ok _ c.replaced.result (
       written.0,
       subst (λ (q : Place). IsHeadingAt c.args.schema.now (g.D.Sessions.state c.args.database.now).revision q written.0) c.place.ensures written.1,

@@ -8,6 +8,5 @@ pub returns : goal.returns
 returns g c =
     let named : is_some c.as_deref.result ≡ is_some c.args.options.now.schema = search rules in
     rebased_from g.R.File.Read.remaining (λ file. g.P.File.JournalFile.is_locked file ≡ true) (g.P.JournalFiles.is_seen c.args.files.now)
-    (g.P.JournalFiles.is_newest c.args.files.now) g.P.File.Device.contents g.P.File.Device.stays _ _ c.in_ok-catalog.field-0.catalog c.in-Ok.schema
-    c.in_ok-hub.position _ c.in_ok-hub.hub c.args.journal.now c.as_str-path.result.now named c.as_ref.ensures.value c.as_str-path.ensures.value
-    c.in_ok-catalog.ensures.catalog c.in-Ok.ensures c.in_ok-hub.ensures c.in_ok-rebased.ensures
+    (g.P.JournalFiles.is_newest c.args.files.now) g.P.File.Device.contents g.P.File.Device.stays c.rebase_claimed-ended.result _ _
+    c.in_ok-catalog.field-0.catalog c.in-Ok.schema c.args.journal.now named c.in_ok-catalog.ensures.catalog c.in-Ok.ensures c.rebase_claimed-ended.ensures

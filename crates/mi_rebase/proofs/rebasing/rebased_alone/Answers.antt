@@ -1,10 +1,10 @@
 -- What was asked was found; the base is that of what it leaves.
-use Rattle.std.proofs.Common.{subst}
+use Rattle.std.proofs.Common.{◌≡◌, true, subst}
 use Rattle.std.specs.String.{string_bytes}
 use Rattle.mi_model.specs.Database.{Database}
 use Rattle.mi_rebase.specs.Rebase.{IsHeadingAt, IsWritten, base_place}
 use Rattle.mi_rebase.proofs.RebaseLemmas.{asked_after, on_ok_then}
-use Rattle.mi_rebase.proofs.rebasing.rebased.Goals as goal
+use Rattle.mi_rebase.proofs.rebasing.rebased_alone.Goals as goal
 
 pub stand_of-requires-clause-text : goal.stand_of-requires-clause-text
 stand_of-requires-clause-text g c = c.in_ok-front.ensures.front.noted.behind.text
@@ -18,8 +18,8 @@ stand_of-requires-clause-found g c =
 pub returns : goal.returns
 returns g c =
     let stand = c.in_ok-stand.stand in
-    on_ok_then _ _ c.made-made.result c.made-made.ensures (λ written. record {
-      there = c.in_ok-check_there.ensures;
+    on_ok_then _ _ c.made.result c.made.ensures (λ written. record {
+      there = c.requires.there;
       front = c.in_ok-front.front;
       new = c.ask_front.new.hub.held;
       within = stand.within;
@@ -30,6 +30,6 @@ returns g c =
       number = c.in_ok-stand.ensures.number;
       closes = c.in_ok-stand.ensures.closes;
       at = subst (λ (d : Database). IsHeadingAt c.args.schema.now d.revision (base_place stand.within stand.next) written.0) c.database.ensures written.1;
-      is = subst (λ (d : Database). IsWritten (g.P.JournalFiles.is_seen c.args.files.now) g.P.File.Device.contents g.P.File.Device.stays c.args.path.now
-          written.0 d) c.database.ensures written.2;
+      is = subst (λ (d : Database). IsWritten (λ file. g.P.File.JournalFile.is_locked file ≡ true) (g.P.JournalFiles.is_seen c.args.files.now)
+          g.P.File.Device.contents g.P.File.Device.stays c.args.path.now written.0 d) c.database.ensures written.2;
     })

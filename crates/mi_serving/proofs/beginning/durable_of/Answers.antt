@@ -4,7 +4,7 @@ use Rattle.mi_log.specs.DeviceLog.{device_of, segment_of}
 use Rattle.mi_durable.specs.Durable.{hub_of, log_of}
 use Rattle.mi_recovery.specs.Device.{told_of}
 use Rattle.mi_serving.proofs.ServedLemmas.{begins_with}
-use Rattle.mi_serving.proofs.program.durable_of.Goals as goal
+use Rattle.mi_serving.proofs.beginning.durable_of.Goals as goal
 
 pub returns-in_ok-opened_behind-in-Some-clause-begins : goal.returns-in_ok-opened_behind-in-Some-clause-begins
 returns-in_ok-opened_behind-in-Some-clause-begins g c =
