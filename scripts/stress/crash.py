@@ -27,6 +27,9 @@ started again has the tables of `reference.py` that was asked the journal, with 
     segments   rounds with kills of a service that begins a segment every 4,096 bytes: each closed one is whole, and the next has its sum
     segments-killed, -refused, -forgets   a life that goes through several is killed in front of each of its calls, has one refused, or is stopped at each
              change on a disk that forgets (these need a C compiler)
+    beside   the same while rebases go on beside it, some of which are killed: the closed segments go, and no line of the others changes
+    beside-killed, -starts   a rebase beside a service is killed in front of each of its calls; one goes on in front of each call of a start (these need
+             a C compiler)
     bases    a base that is torn at each byte, or breaks a rule; segments that are missing, twice, damaged or another journal's: status 3 and the
              word for that of a start and of a rebase, and all files stay as they are
     tools    `mi_server` (--server) that is asked a journal as its input has the same tables; so has the service behind `journal.py compact`
@@ -44,7 +47,7 @@ import sys
 import tempfile
 import time
 
-from stress import base_damage, based, ledgers, parts, rebase_stops, segment_stops
+from stress import base_damage, based, beside_stops, ledgers, parts, rebase_stops, segment_stops
 import program
 from stress import service
 from stress.callers import TABLES, Load
@@ -473,7 +476,7 @@ OTHER = "journal: schema"
 PARTS = {"rounds": rounds, "power": power, "synced": synced, "torn": torn, "deep": deep, "full": full, "damaged": damaged, "moved": moved,
          "rebase": based.rebase, "rebase-ledger": ledgers.rebase_ledger, "rebase-killed": rebase_stops.rebase_killed, "rebase-forgets": rebase_stops.rebase_forgets,
          "rebase-full": rebase_stops.rebase_full, "segments": segment_stops.segments, "segments-killed": segment_stops.segments_killed,
-         "segments-refused": segment_stops.segments_refused, "segments-forgets": segment_stops.segments_forget, "bases": base_damage.damaged, "tools": tools}
+         "segments-refused": segment_stops.segments_refused, "segments-forgets": segment_stops.segments_forget, "beside": beside_stops.beside, "beside-killed": beside_stops.beside_killed, "beside-starts": beside_stops.beside_starts, "bases": base_damage.damaged, "tools": tools}
 
 
 def main(given=None):

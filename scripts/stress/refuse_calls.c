@@ -9,7 +9,9 @@
    REFUSE_NTH     which of its calls, from 1
    REFUSE_ERROR   the number of the error; with 0 a write takes half of its bytes, at least one
    REFUSE_FROM    with REFUSE_TO: that call isn't refused; in front of it this file is moved there, as a backup does
-   REFUSE_KILL    that call isn't refused; in front of it the program is killed */
+   REFUSE_KILL    that call isn't refused; in front of it the program is killed
+   REFUSE_RUN     that call isn't refused; in front of it this command of the shell runs, without this library, to its end
+   REFUSE_KEEP    a folder: files of a journal that are unlinked are moved there */
 #define _GNU_SOURCE
 #include <dlfcn.h>
 #include <errno.h>
@@ -17,6 +19,7 @@
 #include <link.h>
 #include <poll.h>
 #include <signal.h>
+#include <spawn.h>
 #include <stdio.h>
 #include <stdarg.h>
 #include <stdint.h>
@@ -29,6 +32,7 @@
 #include <sys/stat.h>
 #include <sys/syscall.h>
 #include <sys/uio.h>
+#include <sys/wait.h>
 #include <unistd.h>
 
 extern void *__libc_malloc(size_t);
@@ -39,7 +43,7 @@ extern void *__libc_memalign(size_t, size_t);
 #define MOST 48
 
 static struct counted { char name[24]; uint64_t calls; } own[MOST], *counts = own;
-static const char *refused_name, *moved_from, *moved_to;
+static const char *refused_name, *moved_from, *moved_to, *command, *kept_in;
 static uint64_t refused_at;
 static int refused_error, is_killed;
 static uintptr_t text_start, text_end;
@@ -71,7 +75,17 @@ __attribute__((constructor)) static void begin(void) {
     moved_from = getenv("REFUSE_FROM");
     moved_to = getenv("REFUSE_TO");
     is_killed = getenv("REFUSE_KILL") != NULL;
+    command = getenv("REFUSE_RUN");
+    kept_in = getenv("REFUSE_KEEP");
     refused_name = getenv("REFUSE_CALL");
+}
+
+/* Runs a command of the shell to its end, with an environment that has a path alone. */
+static void runs(const char *command) {
+    char *const words[] = {"/bin/sh", "-c", (char *)command, NULL}, *const env[] = {"PATH=/usr/bin:/bin", NULL};
+    pid_t child;
+    if (posix_spawn(&child, words[0], NULL, NULL, words, env) == 0)
+        waitpid(child, NULL, 0);
 }
 
 /* Counts a call; whether it is the one to be refused. */
@@ -86,6 +100,8 @@ static int refuses(const char *name) {
         return 0;
     if (is_killed)
         syscall(SYS_kill, getpid(), SIGKILL);
+    if (command)
+        return runs(command), 0;
     if (moved_from && moved_to)
         return syscall(SYS_renameat2, AT_FDCWD, moved_from, AT_FDCWD, moved_to, 0), 0;
     return 1;
@@ -134,7 +150,23 @@ CALL(int, fdatasync, (int file), file)
 CALL(int, ftruncate, (int file, off_t size), file, size)
 CALL(int, ftruncate64, (int file, off64_t size), file, size)
 CALL(int, rename, (const char *from, const char *to), from, to)
-CALL(int, unlink, (const char *named), named)
+
+int unlink(const char *named) {
+    static __typeof__(&unlink) next;
+    char to[4096];
+    const char *name = strrchr(named, '/');
+    if (!next)
+        next = NEXT(unlink);
+    if (refuses("unlink")) {
+        errno = refused_error;
+        return -1;
+    }
+    if (!kept_in || strstr(named, ".base") || strstr(named, ".next"))
+        return next(named);
+    snprintf(to, sizeof to, "%s/%s", kept_in, name ? name + 1 : named);
+    return (int)syscall(SYS_renameat2, AT_FDCWD, named, AT_FDCWD, to, 0);
+}
+
 CALL(off_t, lseek, (int file, off_t to, int from), file, to, from)
 CALL(off64_t, lseek64, (int file, off64_t to, int from), file, to, from)
 CALL(int, flock, (int file, int how), file, how)

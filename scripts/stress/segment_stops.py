@@ -32,22 +32,29 @@ LINES = 250
 class Segmented(Based):
     """A journal whose service goes on in further segments. What is known are the lines of all."""
 
+    LEAST = BYTES
+    """How many bytes each segment but the newest has at least."""
+
     def started(self, **how):
         return super().started(extra=("--segment-bytes", str(BYTES)), **how)
 
-    def texts(self):
-        """What each segment has. Each but the last one is whole, and has `BYTES` at least; the next one has its sum."""
+    def read(self):
+        """What each segment has now, while a service may go on."""
         found = []
         for it in bases.segments_of(self.journal):
             with open(it.path, "rb") as file:
-                data = file.read()
-            if found:
-                before, header = found[-1], bases.header_of(data.partition(b"\n")[0])
-                if not before.endswith(b"\n") or len(before) < BYTES:
-                    raise Differs(f"the segment before {it.path} has {len(before)} bytes and ends with {before[-20:]!r}")
-                if header is None or header["previous"] != bases.sum_of(before) or header["segment"] != it.number:
-                    raise Differs(f"{it.path} has not the header that follows, but {data[:200]!r}")
-            found.append(data)
+                found.append(file.read())
+        return found
+
+    def texts(self):
+        """What each segment has. Each but the last one is whole, and has as many bytes as are wanted; the next one has its sum."""
+        found = self.read()
+        for number, (before, data) in enumerate(zip(found, found[1:]), 2):
+            header = bases.header_of(data.partition(b"\n")[0])
+            if not before.endswith(b"\n") or len(before) < self.LEAST:
+                raise Differs(f"the segment before segment {number} has {len(before)} bytes and ends with {before[-20:]!r}")
+            if header is None or header["previous"] != bases.sum_of(before) or header["segment"] != number:
+                raise Differs(f"segment {number} has not the header that follows, but {data[:200]!r}")
         return found
 
     def newest(self):
@@ -117,16 +124,7 @@ class SegmentedLoad(Load):
         self.kept = kept
 
     def length(self):
-        return sum(len(it[:it.rfind(b"\n") + 1]) - (it.find(b"\n") + 1 if n else 0) for n, it in enumerate(read_all(self.kept.journal)))
-
-
-def read_all(journal):
-    """What the segments have now, while a service goes on."""
-    found = []
-    for it in bases.segments_of(journal):
-        with open(it.path, "rb") as file:
-            found.append(file.read())
-    return found
+        return sum(len(it[:it.rfind(b"\n") + 1]) - (it.find(b"\n") + 1 if n else 0) for n, it in enumerate(self.kept.read()))
 
 
 def segments(path, options, folder):

@@ -62,23 +62,24 @@ class UnitFile(unittest.TestCase):
         self.assertEqual(os.listdir(f"{self.folder}/{self.said['StateDirectory']}"), ["journal"])
 
     def test_a_rebase_is_of_its_journal(self):
-        before, behind = values(f"{REBASE}.conf", "ExecStartPre")
-        now = self.words(self.said["ExecStart"])
-        self.assertEqual(behind, f"-/bin/rm -f {before.split()[2]}.base.new")
-        self.assertEqual(before.split()[0], f"-{self.said['ExecStart'].split()[0]}")
-        self.assertIn(" ".join(now[now.index("--journal"):][:2]), " ".join(self.words(before)))
+        said, now = read(f"{REBASE}.service")["Service"]["ExecStart"], self.words(self.said["ExecStart"])
+        self.assertEqual(said.split()[0], self.said["ExecStart"].split()[0])
+        self.assertIn(" ".join(now[now.index("--journal"):][:2]), " ".join(self.words(said)))
         folder = f"{self.folder}/{self.said['StateDirectory']}"
         os.mkdir(folder)
-        self.assertEqual(self.rebased(before), (3, f"journal: file: {folder}/journal: no journal is there\n"))
+        self.assertEqual(self.rebased(said), (3, f"journal: file: {folder}/journal: no journal is there\n"))
         self.assertEqual(os.listdir(folder), [])
         with service.Service(self.program, journal=f"{folder}/journal") as running:
             self.assertTrue(running.port)
+            if self.program != STAND_IN:
+                self.assertEqual(self.rebased(said), (0, ""))
+                self.assertEqual(os.listdir(folder), ["journal"])
         for _ in range(2):
-            self.assertEqual(self.rebased(before), (0, ""))
+            self.assertEqual(self.rebased(said), (0, ""))
         self.assertEqual(sorted(os.listdir(folder)), ["journal.000003", "journal.base"])
 
     def rebased(self, before):
-        """The status of what goes before a start, and what it says."""
+        """The status of a rebase, and what it says."""
         ran = subprocess.run([self.program, *self.words(before)], capture_output=True, text=True, timeout=60)
         return ran.returncode, ran.stderr
 
@@ -110,8 +111,13 @@ class UnitFile(unittest.TestCase):
             stream.close()
             self.assertNotEqual(waits.wait(10), 0)
 
-    def test_the_timer_restarts_the_service(self):
-        self.assertEqual(read(f"{REBASE}.service")["Service"]["ExecStart"].split()[1:], ["try-restart", os.path.basename(UNIT)])
+    def test_the_timer_rebases_the_journal(self):
+        """It has the journal that the service has, and is its user."""
+        said, served = read(f"{REBASE}.service")["Service"], shlex.split(values(UNIT, "ExecStart")[0])
+        self.assertEqual(shlex.split(said["ExecStart"])[1:], ["--journal", served[served.index("--journal") + 1], "--rebase"])
+        self.assertEqual(said["User"], os.path.basename(UNIT).partition(".")[0])
+        for name in ("DynamicUser", "StateDirectory", "StateDirectoryMode", "UMask"):
+            self.assertEqual(said[name], self.said[name], name)
         self.assertIn("OnCalendar", read(f"{REBASE}.timer")["Timer"])
 
     def test_no_limit_of_files_kills_it(self):
@@ -126,16 +132,14 @@ class UnitFile(unittest.TestCase):
         verify = shutil.which("systemd-analyze")
         if not verify:
             self.skipTest("systemd-analyze isn't there")
-        os.mkdir(f"{self.folder}/mi_service.service.d")
-        names = {UNIT: "mi_service.service", f"{REBASE}.conf": "mi_service.service.d/rebase.conf"}
-        names.update((f"{REBASE}.{it}", f"mi_service-rebase.{it}") for it in ("service", "timer"))
+        names = {UNIT: "mi_service.service", **{f"{REBASE}.{it}": f"mi_service-rebase.{it}" for it in ("service", "timer")}}
         names[METRICS] = "weltiyo-metrics.service"
         for path, name in names.items():
             with open(path, encoding="utf-8") as file:
-                text = file.read().replace("/usr/local/bin/mi_service", self.program).replace("/usr/bin/systemctl", shutil.which("true")).replace("/usr/local/bin/weltiyo", shutil.which("true"))
+                text = file.read().replace("/usr/local/bin/mi_service", self.program).replace("/usr/local/bin/weltiyo", shutil.which("true"))
             with open(f"{self.folder}/{name}", "w", encoding="utf-8") as file:
                 file.write(text)
-        units = [f"{self.folder}/{it}" for it in names.values() if not it.endswith(".conf")]
+        units = [f"{self.folder}/{it}" for it in names.values()]
         ran = subprocess.run([verify, "verify", *units], capture_output=True, text=True, timeout=60)
         self.assertEqual((ran.returncode, ran.stderr), (0, ""))
 
