@@ -38,7 +38,8 @@ pub(crate) enum Names {
     Removed,
 }
 
-/// Files, and their names: all, those that were synced, and of these the ones that weren't taken away since. So many calls more may change it.
+/// Files, and their names: all, those that were synced, and of these the ones that weren't taken away since. Another process has locked some. So many
+/// calls more may change it.
 #[derive(Drop)]
 pub(crate) struct Folder {
     alloc: Global,
@@ -46,6 +47,7 @@ pub(crate) struct Folder {
     entries: Vec<Entry>,
     synced: Vec<Entry>,
     removed: Vec<Entry>,
+    locked: Vec<usize>,
     calls: u64,
 }
 
@@ -95,11 +97,13 @@ impl Folder {
             entries: Vec::new(alloc),
             synced: Vec::new(alloc),
             removed: Vec::new(alloc),
+            locked: Vec::new(alloc),
             calls: u64::MAX,
         }
     }
 
-    /// The folder that is found behind a stop: it has all that was written or only what was synced, under these names. So many calls may change it.
+    /// The folder that is found behind a stop: it has all that was written or only what was synced, under these names. Nobody has locked a file. So many
+    /// calls may change it.
     pub(crate) fn found(
         &self,
         keeps_bytes: bool,
@@ -117,6 +121,7 @@ impl Folder {
             entries: copy_entries(self.alloc, entries)?,
             synced: copy_entries(self.alloc, entries)?,
             removed: copy_entries(self.alloc, entries)?,
+            locked: Vec::new(self.alloc),
             calls,
         })
     }
@@ -134,6 +139,28 @@ impl Folder {
     /// Whether a name is there.
     pub(crate) fn has(&self, name: &str) -> bool {
         self.find(name).is_some()
+    }
+
+    /// What the file of a name has doesn't stay: it was written without a sync.
+    pub(crate) fn unsync(&mut self, name: &str) {
+        if let Some(inode) = self.find(name) {
+            if let Some(found) = self.inodes.get_mut(inode) {
+                found.synced.clear();
+            }
+        }
+    }
+
+    /// Another process locks the file of a name.
+    pub(crate) fn lock(&mut self, name: &str) -> Result<(), AllocError> {
+        match self.find(name) {
+            Some(inode) => Ok(self.locked.push(inode)?),
+            None => Ok(()),
+        }
+    }
+
+    /// Whether another process has locked a file.
+    fn is_locked(&self, inode: usize) -> bool {
+        self.locked.as_slice().contains(&inode)
     }
 
     /// Which file a name names.
@@ -341,7 +368,11 @@ fn copy_from(bytes: &[u8], buffer: &mut [u8], at: u64) -> usize
 
 impl<'a> JournalFile for FolderFile<'a> {
     fn try_lock(&mut self) -> Result<(), TryLockError> {
-        Ok(())
+        match self.folder.try_borrow_mut() {
+            Ok(folder) if folder.is_locked(self.inode) => Err(TryLockError::WouldBlock),
+            Ok(_folder) => Ok(()),
+            Err(_error) => Err(TryLockError::Error(Error::from(ErrorKind::Other))),
+        }
     }
 
     fn read_at(&self, buffer: &mut [u8], at: u64) -> io::Result<usize> {

@@ -1,5 +1,6 @@
 //! A journal in a folder: it is started, asked lines and rebased as the service does it.
-ghost use Rattle.std.specs.Prelude.{◌≡◌, [], IfOk, OnOk};
+ghost use Rattle.std.specs.Prelude.{◌≡◌, [], true, codes, IfOk, OnOk};
+ghost use Rattle.mi_recovery.specs.Names.{new_base_name};
 ghost use Rattle.mi_durable.specs.Durable.{hub_of, log_of, IsSettled};
 ghost use Rattle.mi_clients.specs.Clients.{ids, Attends};
 
@@ -11,10 +12,10 @@ use mi_durable::Durable;
 use mi_hub::Hub;
 use mi_log::Log;
 use mi_multi::MultiIndex;
-use mi_rebase::{Base, base_of, rebased};
+use mi_rebase::{Base, NewBase, base_of, claim_new_base, discard_new_base, rebased};
 use mi_recovery::{
-    JournalFailure, JournalFault, JournalFiles, JournalSchema, Keeping, Position, fingerprint,
-    next_place, next_segment, opened_behind, segment_file, text_size,
+    JournalFailure, JournalFault, JournalFile, JournalFiles, JournalSchema, Keeping, Position,
+    fingerprint, next_place, next_segment, opened_behind, segment_file, text_size,
 };
 use mi_sessions::Sessions;
 use std::alloc::{AllocError, Global};
@@ -146,26 +147,50 @@ fn begun<P: JournalFiles>(
     Ok(standing(alloc, catalog, base)?)
 }
 
+/// A rebase, from where the base is read on.
+fn rebase_claimed<P: JournalFiles>(
+    alloc: Global,
+    files: &P,
+    known: &Known,
+    new: NewBase<P::File>,
+) -> Result<(), JournalFault>
+    requires locked { P.File.is_locked new.file ≡ true }
+    requires seen { P.is_seen files.now (new_base_name (codes "j")) new.file }
+{
+    let (hub, position) = begun(alloc, files, known)?;
+    rebased(
+        alloc,
+        files,
+        hub,
+        PATH,
+        &known.schema,
+        position.as_ref(),
+        new,
+    )
+}
+
 /// A rebase, from its start on.
 pub(crate) fn rebase<P: JournalFiles>(
     alloc: Global,
     files: &P,
     known: &Known,
 ) -> Result<(), Refused> {
-    let (hub, position) = begun(alloc, files, known)?;
-    rebased(alloc, files, hub, PATH, &known.schema, position.as_ref())?;
-    Ok(())
+    let new = claim_new_base(alloc, files, PATH)?;
+    let ended = rebase_claimed(alloc, files, known, new);
+    discard_new_base(alloc, files, PATH);
+    Ok(ended?)
 }
 
-/// Begins the second segment behind the first, whatever is open there.
+/// Begins the segment behind this one, whatever is open there.
 pub(crate) fn begin_next<P: JournalFiles>(
     alloc: Global,
     files: &P,
     known: &Known,
+    number: u64,
 ) -> Result<(), Refused> {
-    let file = segment_file(alloc, files, PATH, 1)?;
+    let file = segment_file(alloc, files, PATH, number)?;
     let text = text_size(&file)?;
-    let next = next_place(alloc, &known.schema, 1, &file, text)?;
+    let next = next_place(alloc, &known.schema, number, &file, text)?;
     let _log = next_segment(alloc, files, PATH, &next)?;
     Ok(())
 }

@@ -13,13 +13,18 @@ const ONE: &str = "j";
 
 const TWO: &str = "j.000002";
 
+const THREE: &str = "j.000003";
+
 const BASE: &str = "j.base";
+
+/// The name of a base that isn't whole yet.
+const NEW: &str = "j.base.new";
 
 /// More calls than a rebase makes.
 const MOST_CALLS: u64 = 100;
 
 /// Fewer calls than any rebase makes.
-const FEWEST_CALLS: u64 = 10;
+const FEWEST_CALLS: u64 = 9;
 
 /// In the order of balances 0 stands behind 1 and 2; the list is 4, 0, 3, 1; no record has the id 2.
 const FIRST: &[u8] = b"{\"cmd\":\"insert\",\"row\":{\"owner\":\"ann\",\"balance\":50,\"vip\":false}}
@@ -148,7 +153,7 @@ fn check_replies(
     Ok(())
 }
 
-/// What a journal has open at its end.
+/// What a journal has open at its end, and whether another process has its newest segment.
 #[derive(Clone, Copy)]
 enum AtEnd {
     /// Nothing.
@@ -157,18 +162,49 @@ enum AtEnd {
     Held,
     /// A session that was let go of.
     Pushed,
+    /// Nothing; another process has the third segment.
+    Served,
+    /// A session that was let go of and began in the second segment; another process has the third.
+    ServedPushed,
 }
 
-/// Asserts that a folder has a base. Where nothing was open there is one segment, which isn't the first; else that is there in which the base stands.
+impl AtEnd {
+    /// The segment that another process has.
+    fn served(self) -> Option<&'static str> {
+        match self {
+            AtEnd::Served | AtEnd::ServedPushed => Some(THREE),
+            AtEnd::Nothing | AtEnd::Held | AtEnd::Pushed => None,
+        }
+    }
+
+    /// Whether a session was let go of.
+    fn is_pushed(self) -> bool {
+        matches!(self, AtEnd::Pushed | AtEnd::ServedPushed)
+    }
+
+    /// Whether a rebase may be refused, since what is open began in front of the newest segment.
+    fn may_be_refused(self) -> bool {
+        matches!(self, AtEnd::Held | AtEnd::Pushed)
+    }
+}
+
+/// Asserts that a folder has a base, and of the segments those alone that it needs. The first one isn't among them where nothing is open, or another
+/// process has the newest.
 fn check_rebased(rt: &impl Abort, folder: &Folder, at_end: AtEnd) {
     check(rt, folder.has(BASE), "a base is there");
-    match at_end {
-        AtEnd::Nothing => {
-            check(rt, !folder.has(ONE), "the first segment is gone");
-            check(rt, folder.len() == 2, "there is one segment");
-        }
-        AtEnd::Held | AtEnd::Pushed => check(rt, folder.len() == 3, "there are two segments"),
+    if !at_end.may_be_refused() {
+        check(rt, !folder.has(ONE), "the first segment is gone");
     }
+    let segments = if matches!(at_end, AtEnd::Nothing | AtEnd::Served) {
+        1
+    } else {
+        2
+    };
+    check(
+        rt,
+        folder.len() == segments + 1,
+        "there are no other segments",
+    );
 }
 
 /// Asserts that a folder's journal is rebased; or that it is refused, since what is open began in a segment in front of the newest.
@@ -179,10 +215,12 @@ fn check_rebase(
     folder: &RefCell<Folder>,
     at_end: AtEnd,
 ) {
-    match (rebase(alloc, &FolderFiles { folder }, known), at_end) {
-        (Ok(()), _) => {}
-        (Err(_refused), AtEnd::Nothing) => check(rt, false, "a rebase isn't refused"),
-        (Err(refused), _) => check(rt, refused.is("sessions", 0, 0), "by the session"),
+    match rebase(alloc, &FolderFiles { folder }, known) {
+        Ok(()) => {}
+        Err(refused) => {
+            check(rt, at_end.may_be_refused(), "a rebase isn't refused");
+            check(rt, refused.is("sessions", 0, 0), "by the session");
+        }
     }
 }
 
@@ -194,10 +232,20 @@ fn check_tables(
     folder: &RefCell<Folder>,
     at_end: AtEnd,
 ) -> Result<(), Fail> {
-    if matches!(at_end, AtEnd::Pushed) {
+    if at_end.is_pushed() {
         check_replies(rt, alloc, known, folder, UNDO, UNDO_REPLY)?;
     }
     check_replies(rt, alloc, known, folder, LOOK_UPS, FOUND)
+}
+
+/// A folder in which another process has the newest segment, where it is so. What that has written doesn't stay yet.
+fn served(folder: Folder, at_end: AtEnd) -> Result<Folder, AllocError> {
+    let mut folder = folder;
+    if let Some(name) = at_end.served() {
+        folder.lock(name)?;
+        folder.unsync(name);
+    }
+    Ok(folder)
 }
 
 /// A folder that is found behind a stop: a start gives the tables, and so does one behind another rebase, which leaves a base.
@@ -210,11 +258,11 @@ fn check_found(
 ) -> Result<(), Fail> {
     let started = RefCell::new(found.copy()?);
     check_tables(rt, alloc, known, &started, at_end)?;
-    let folder = RefCell::new(found);
+    let folder = RefCell::new(served(found, at_end)?);
     check_rebase(rt, alloc, known, &folder, at_end);
-    let left = folder.into_inner();
+    let left = folder.into_inner().copy()?;
     check(rt, left.has(BASE), "a base is there");
-    if matches!(at_end, AtEnd::Nothing) {
+    if !at_end.may_be_refused() {
         check_rebased(rt, &left, at_end);
     }
     check_tables(rt, alloc, known, &RefCell::new(left), at_end)
@@ -256,9 +304,10 @@ fn stopped(
     alloc: Global,
     known: &Known,
     journal: &Folder,
+    at_end: AtEnd,
     calls: u64,
 ) -> Result<(Folder, bool), AllocError> {
-    let folder = RefCell::new(journal.found(true, Names::All, calls)?);
+    let folder = RefCell::new(served(journal.found(true, Names::All, calls)?, at_end)?);
     let ended = rebase(alloc, &FolderFiles { folder: &folder }, known).is_ok();
     Ok((folder.into_inner(), ended))
 }
@@ -272,7 +321,7 @@ fn check_each_call(
     at_end: AtEnd,
 ) -> Result<(), Fail> {
     for calls in 0..MOST_CALLS {
-        let (left, ended) = stopped(alloc, known, journal, calls)?;
+        let (left, ended) = stopped(alloc, known, journal, at_end, calls)?;
         check_stopped(rt, alloc, known, &left, at_end)?;
         if ended {
             check(rt, calls >= FEWEST_CALLS, "a rebase makes more calls");
@@ -301,7 +350,7 @@ enum Between {
 /// What a rebase leaves that is stopped once the next segment is begun.
 fn with_next(alloc: Global, known: &Known, journal: &Folder) -> Result<Folder, Fail> {
     for calls in 0..MOST_CALLS {
-        let (left, _ended) = stopped(alloc, known, journal, calls)?;
+        let (left, _ended) = stopped(alloc, known, journal, AtEnd::Nothing, calls)?;
         if left.has(TWO) {
             return Ok(left.copy()?);
         }
@@ -319,7 +368,7 @@ fn between_lines(
     match between {
         Between::Never => Ok(journal),
         Between::Begun => with_next(alloc, known, &journal),
-        Between::Whole => Ok(stopped(alloc, known, &journal, u64::MAX)?.0),
+        Between::Whole => Ok(stopped(alloc, known, &journal, AtEnd::Nothing, u64::MAX)?.0),
     }
 }
 
@@ -412,12 +461,58 @@ fn older_open_sessions_are_refused(rt: HostRuntime) -> Result<(), Fail> {
     let journal = open_journal(&rt, rt.alloc(), &known, Between::Never, PUSH, PUSH_REPLY)?;
     let folder = RefCell::new(journal);
     let files = FolderFiles { folder: &folder };
-    begin_next(rt.alloc(), &files, &known)?;
+    begin_next(rt.alloc(), &files, &known, 1)?;
     match rebase(rt.alloc(), &files, &known) {
         Ok(()) => check(&rt, false, "a rebase is refused"),
         Err(refused) => check(&rt, refused.is("sessions", 0, 0), "by the session"),
     }
     check_tables(&rt, rt.alloc(), &known, &folder, AtEnd::Pushed)
+}
+
+/// A journal whose third segment has no line. Another process is to have that.
+fn with_third(alloc: Global, known: &Known, journal: Folder) -> Result<Folder, Fail> {
+    let folder = RefCell::new(journal);
+    begin_next(alloc, &FolderFiles { folder: &folder }, known, 2)?;
+    Ok(folder.into_inner().copy()?)
+}
+
+/// Another process has the newest segment.
+#[test]
+fn a_rebase_beside_may_stop_anywhere(rt: HostRuntime) -> Result<(), Fail> {
+    let known = accounts(rt.alloc())?;
+    let journal = journal(&rt, rt.alloc(), &known, Between::Begun)?;
+    let journal = with_third(rt.alloc(), &known, journal)?;
+    check_each_call(&rt, rt.alloc(), &known, &journal, AtEnd::Served)
+}
+
+/// Another process has the newest segment, and a session is open that began in the one before.
+#[test]
+fn a_rebase_beside_an_open_session_may_stop_anywhere(rt: HostRuntime) -> Result<(), Fail> {
+    let known = accounts(rt.alloc())?;
+    let journal = open_journal(&rt, rt.alloc(), &known, Between::Begun, PUSH, PUSH_REPLY)?;
+    let journal = with_third(rt.alloc(), &known, journal)?;
+    check_each_call(&rt, rt.alloc(), &known, &journal, AtEnd::ServedPushed)
+}
+
+/// What a base has that isn't whole yet.
+const PART: &[u8] = b"a part of a base";
+
+/// Another process rebases the journal: it has the file of a base that isn't whole yet.
+#[test]
+fn one_rebase_goes_on_at_a_time(rt: HostRuntime) -> Result<(), Fail> {
+    let known = accounts(rt.alloc())?;
+    let mut journal = journal(&rt, rt.alloc(), &known, Between::Never)?;
+    journal.put(NEW, PART)?;
+    journal.lock(NEW)?;
+    let folder = RefCell::new(journal);
+    match rebase(rt.alloc(), &FolderFiles { folder: &folder }, &known) {
+        Ok(()) => check(&rt, false, "a rebase is refused"),
+        Err(refused) => check(&rt, refused.is("locked", 0, 0), "since another goes on"),
+    }
+    let left = folder.into_inner();
+    check(&rt, left.text(NEW) == PART, "its file is left");
+    check(&rt, left.len() == 2, "nothing else is made");
+    Ok(())
 }
 
 /// The same tables, of which there are fewer rows at most: a base of the built-in schema can be read as one of this.
@@ -500,7 +595,7 @@ fn check_changed(
 fn of_no_line(alloc: Global, known: &Known) -> Result<Folder, Fail> {
     let folder = RefCell::new(Folder::new(alloc));
     let _replies = asked(alloc, &FolderFiles { folder: &folder }, known, b"")?;
-    Ok(stopped(alloc, known, &folder.into_inner(), u64::MAX)?.0)
+    Ok(stopped(alloc, known, &folder.into_inner(), AtEnd::Nothing, u64::MAX)?.0)
 }
 
 /// Where no journal is, none is rebased, and none is made.
