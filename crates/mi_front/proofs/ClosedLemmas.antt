@@ -1,5 +1,5 @@
 -- The lines of the segments that were noted, one segment behind another, and where the base stands among them.
--- Cited by `front::ask_closed`, `row::note_row` and `row::note_segments`.
+-- Cited by `NotedRow::place_behind`, `front::ask_closed`, `row::note_closed`, `row::note_row` and `row::note_segments`.
 use Rattle.std.proofs.Common.{◌≡◌, ℕ, zero, suc, ◌<◌, ◌≤◌, ◌+◌, ◌-◌, ◌⊎◌, List, [], ◌∷◌, ◌++◌, length, take, drop, Option, Some, None, Result, Ok, Err, inl, inr}
 use Rattle.std.proofs.Common.{refl, sym, ap, ◌∙◌, subst, arith, append_assoc, length-append}
 use Rattle.std.proofs.lemmas.List.{take-append-drop, drop-append-le}
