@@ -11,11 +11,14 @@ use crate::removing::remove_up_to;
 use crate::writing::{keep_names, make_stay, put_in_place, write_at};
 use mi_front::ask_closed;
 use mi_hub::Hub;
+use mi_log::LogLines;
 use mi_recovery::{
-    JournalFault, JournalFile, JournalFiles, JournalSchema, Place, Position, segment_file,
+    FileReader, JournalFailure, JournalFault, JournalFile, JournalFiles, JournalSchema, Place,
+    Position, read_heading, segment_file,
 };
 use mi_sessions::Sessions;
 use std::alloc::Global;
+use std::io::BufReader;
 
 /// Whether a base stands at this place; without one, whether that is the journal's start.
 fn is_standing(position: Option<&Position>, place: &Place) -> bool
@@ -27,14 +30,31 @@ fn is_standing(position: Option<&Position>, place: &Place) -> bool
     }
 }
 
-/// Makes what the segment of this number has stay. A base names its header, which another process may have written without a sync.
+/// Whether the file of a segment has the whole header that a place has.
+fn has_header<F: JournalFile>(
+    alloc: Global,
+    file: &F,
+    place: &Place,
+) -> Result<bool, JournalFailure> {
+    let Ok(reader) = BufReader::new(alloc, FileReader::new(file)) else {
+        return Err(JournalFailure::Memory);
+    };
+    let mut lines = LogLines::new(alloc, reader);
+    read_heading(&mut lines, place.header.as_bytes())
+}
+
+/// Makes what the segment at a place has stay. A base names its header, which another process may have written without a sync. `Locked` where it has none
+/// yet: a start is about to complete it.
 fn keep_segment<P: JournalFiles>(
     alloc: Global,
     files: &P,
     path: &str,
-    number: u64,
+    place: &Place,
 ) -> Result<(), JournalFault> {
-    let mut file = segment_file(alloc, files, path, number)?;
+    let mut file = segment_file(alloc, files, path, place.number)?;
+    if !has_header(alloc, &file, place)? {
+        return Err(JournalFault::from(JournalFailure::Locked));
+    }
     make_stay(&mut file)
 }
 
@@ -60,7 +80,7 @@ fn put_at<P: JournalFiles, D: Imaged>(
         return keep_names(files, path);
     }
     let new = write_at(alloc, files, path, schema, place, database, new)?;
-    keep_segment(alloc, files, path, place.number)?;
+    keep_segment(alloc, files, path, place)?;
     put_in_place(alloc, files, path, new)
 }
 

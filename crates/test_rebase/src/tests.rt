@@ -248,6 +248,13 @@ fn served(folder: Folder, at_end: AtEnd) -> Result<Folder, AllocError> {
     Ok(folder)
 }
 
+/// What a start leaves that is asked no line.
+fn begun(alloc: Global, known: &Known, found: Folder) -> Result<Folder, Fail> {
+    let folder = RefCell::new(found);
+    let _replies = asked(alloc, &FolderFiles { folder: &folder }, known, b"")?;
+    Ok(folder.into_inner().copy()?)
+}
+
 /// A folder that is found behind a stop: a start gives the tables, and so does one behind another rebase, which leaves a base.
 fn check_found(
     rt: &impl Abort,
@@ -258,7 +265,12 @@ fn check_found(
 ) -> Result<(), Fail> {
     let started = RefCell::new(found.copy()?);
     check_tables(rt, alloc, known, &started, at_end)?;
-    let folder = RefCell::new(served(found, at_end)?);
+    // (who serves the journal has started, and so completed the header of its newest segment)
+    let begun = match at_end.served() {
+        Some(_name) => begun(alloc, known, found)?,
+        None => found,
+    };
+    let folder = RefCell::new(served(begun, at_end)?);
     check_rebase(rt, alloc, known, &folder, at_end);
     let left = folder.into_inner().copy()?;
     check(rt, left.has(BASE), "a base is there");
