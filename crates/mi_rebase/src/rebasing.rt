@@ -156,7 +156,8 @@ fn rebased_alone<P: JournalFiles, D: Imaged + Drop>(
 /// told, and no segment is begun. Where the base would stand where it stands already, it is kept.
 ///
 /// This process has the file of the base that isn't whole yet. Where this fails, or the base is kept, that file may be left: `discard_new_base` takes it away.
-/// `File` where no journal is there, or `Segment` where a base names a segment of it. The other faults are those of `ask_front` and `ask_closed`, and
+/// `File` where no journal is there, or `Segment` where a base names a segment of it. `Locked` where the base would name the
+/// newest segment, which another process has and whose header isn't whole yet. The other faults are those of `ask_front` and `ask_closed`, and
 /// `Write` where a file isn't written, renamed or made to stay. The clause says what was asked and what was written. It doesn't say that the base took its
 /// place, that the next segment was begun, or what was taken away: no file's path and no removal has a clause. Nor does it say who had the newest segment.
 pub fn rebased<P: JournalFiles, D: Imaged + Drop>(
